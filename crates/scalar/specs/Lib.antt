@@ -1,0 +1,3 @@
+-- The definitions that the contracts of scalar and of the crates above it cite.
+pub mod Float
+pub mod Scalar
