@@ -1,0 +1,69 @@
+-- A call's answer, where its tests pass and where one refuses; and that no two answers say the same. Assumes nothing.
+use mathlib.Core.Path.{_≡_, refl}
+use mathlib.Core.Bool.{Bool, true, false}
+use lib.IntN.{ℤ, pos, negsuc}
+use Rattle.plane.specs.Orientation.{turnNumber}
+use Rattle.plane.specs.declared.Orientation.{Orientation}
+use Rattle.plane.specs.declared.Orientation.the-variants.{CounterClockwise, Clockwise, Collinear}
+use Rattle.refusals.specs.Refusals.{passed}
+use Rattle.refusals.specs.Answers.{Outcome, answers, refuses, outcome, left, truth, turn, number, count}
+use Rattle.refusals.specs.declared.Refusal.{Refusal}
+use Rattle.refusals.specs.declared.answer.Truth.{Truth}
+use Rattle.refusals.specs.declared.answer.Truth.the-variants as truth-is
+use Rattle.refusals.specs.declared.answer.Turn.{Turn}
+use Rattle.refusals.specs.declared.answer.Turn.the-variants as turn-is
+use Rattle.refusals.specs.declared.answer.Number.{Number}
+use Rattle.refusals.specs.declared.answer.Number.the-variants as number-is
+use Rattle.refusals.specs.declared.answer.Count.{Count}
+use Rattle.refusals.specs.declared.answer.Count.the-variants as count-is
+
+module _ {A : Type 0} {n : Refusal} {p : Bool} (w : Refusal) (e : n ≡ w) (h : p ≡ passed n) where
+  pub goes : {v : A} (d : A) → p ≡ true → v ≡ d → answers v ≡ outcome w d
+  goes d t q = rw (← e, ← h, t, q)
+
+  pub stops : (d : A) → p ≡ false → refuses n ≡ outcome w d
+  stops d t = rw (← e, ← h, t)
+
+  -- a lent list, written or kept
+  pub wrote : {out : A} (o held : A) → p ≡ true → out ≡ o → out ≡ left w o held
+  wrote o held t q = rw (← e, ← h, t, q)
+
+  pub kept : (o held : A) → p ≡ false → held ≡ left w o held
+  kept o held t = rw (← e, ← h, t)
+
+-- two answers that say the same are equal
+
+pub truth-only : (a b : Truth) → truth a ≡ truth b → a ≡ b
+truth-only (truth-is.Is x) (truth-is.Is y) h = cc
+truth-only (truth-is.Is x) (truth-is.Refused r) h = cc
+truth-only (truth-is.Refused r) (truth-is.Is y) h = cc
+truth-only (truth-is.Refused r) (truth-is.Refused s) h = cc
+
+orientation-only : (a b : Orientation) → turnNumber a ≡ turnNumber b → a ≡ b
+orientation-only CounterClockwise CounterClockwise h = refl
+orientation-only CounterClockwise Clockwise h = cc
+orientation-only CounterClockwise Collinear h = cc
+orientation-only Clockwise CounterClockwise h = cc
+orientation-only Clockwise Clockwise h = refl
+orientation-only Clockwise Collinear h = cc
+orientation-only Collinear CounterClockwise h = cc
+orientation-only Collinear Clockwise h = cc
+orientation-only Collinear Collinear h = refl
+
+pub turn-only : (a b : Turn) → turn a ≡ turn b → a ≡ b
+turn-only (turn-is.Is x) (turn-is.Is y) h = cc (orientation-only x y (cc))
+turn-only (turn-is.Is x) (turn-is.Refused r) h = cc
+turn-only (turn-is.Refused r) (turn-is.Is y) h = cc
+turn-only (turn-is.Refused r) (turn-is.Refused s) h = cc
+
+pub number-only : (a b : Number) → number a ≡ number b → a ≡ b
+number-only (number-is.Is x) (number-is.Is y) h = cc
+number-only (number-is.Is x) (number-is.Refused r) h = cc
+number-only (number-is.Refused r) (number-is.Is y) h = cc
+number-only (number-is.Refused r) (number-is.Refused s) h = cc
+
+pub count-only : (a b : Count) → count a ≡ count b → a ≡ b
+count-only (count-is.Is x) (count-is.Is y) h = cc
+count-only (count-is.Is x) (count-is.Refused r) h = cc
+count-only (count-is.Refused r) (count-is.Is y) h = cc
+count-only (count-is.Refused r) (count-is.Refused s) h = cc

@@ -1,0 +1,68 @@
+-- What the two comparisons of `is_coordinate` say: the magnitude is at most a million. Assumes nothing.
+use Prim.Native.Nat.{ℕ, zero, suc, _+_, _*_, _^_, _≤_, _<_}
+use mathlib.Core.Path.{_≡_, refl, sym, _∙_}
+use mathlib.Core.Bool.{Bool, true, false, _&&_, _||_, and-true}
+use native.Mathlib.Omega.{arith}
+use native.Mathlib.Nat.{mul-one}
+use native.Mathlib.Decide.{decLe}
+use lib.Pow.{pow-pos}
+use lib.IntN.{ℤ, pos, negsuc}
+use lib.Dec.{leb, ltb, eqb}
+use lib.Ieee.{Float, nan, inf, fin, binary64, le, lt, eq, neg, up, down, ofBits, ofFields, odd}
+use borrow.Author.Tests.{lt-ltb, le-ltb, le-leb, lt-leb, eq-eqb, ne-eqb}
+use mathlib.Core.List.{List}
+use lib.ListN.{length, getD, drop, drop-of-length-le}
+use lib.Seq.{drop-cons}
+use native.Mathlib.Numerals.{add-one}
+use Rattle.refusals.specs.Bounds.{coordinate, coordinates}
+
+-- 1000000.0 as the code has it
+abbrev pub million : Float
+million = ofBits binary64 0x412E_8480_0000_0000
+
+million-is : million ≡ fin false 15625 (pos 6)
+unfolding ofBits
+million-is = refl
+
+-- less or equal, by the two tests, the second either way round
+ltb-or-eqb : (a b : ℕ) → ((ltb a b || eqb a b) ≡ leb a b) × ((ltb a b || eqb b a) ≡ leb a b)
+ltb-or-eqb a b = go (decLe a b) (decLe b a)
+  where
+    go : Dec (a ≤ b) → Dec (b ≤ a) → ((ltb a b || eqb a b) ≡ leb a b) × ((ltb a b || eqb b a) ≡ leb a b)
+    go (no h) k = (
+      simp (le-ltb a b (omega arith), ne-eqb a b (λ e. omega arith), lt-leb a b (omega arith)),
+      simp (le-ltb a b (omega arith), ne-eqb b a (λ e. omega arith), lt-leb a b (omega arith)),
+    )
+    go (yes h) (no k) = (simp (lt-ltb a b (omega arith), le-leb a b h), simp (lt-ltb a b (omega arith), le-leb a b h))
+    go (yes h) (yes k) =
+        (simp (le-ltb a b k, eq-eqb a b (omega arith), le-leb a b h), simp (le-ltb a b k, eq-eqb b a (omega arith), le-leb a b h))
+
+down-pos : (e : ℤ) → 0 < down e
+down-pos (pos k) = omega arith
+down-pos (negsuc k) = pow-pos (suc k)
+
+pub coordinate-le : (x : Float) → (le x million && le (neg million) x) ≡ coordinate x
+unfolding coordinate le lt eq neg
+coordinate-le nan = refl
+coordinate-le (inf true) = rw million-is
+coordinate-le (inf false) = rw million-is
+coordinate-le (fin false m e) =
+    rw million-is
+    (simp (mul-one, ltb-or-eqb (m * up e) (1000000 * down e) .0, lt-ltb 0 (1000000 * down e + m * up e) (omega (arith, down-pos e)), and-true))
+coordinate-le (fin true m e) =
+    rw million-is
+    (simp (mul-one, ltb-or-eqb (m * up e) (1000000 * down e) .1, lt-ltb 0 (m * up e + 1000000 * down e) (omega (arith, down-pos e)), and-true))
+
+-- the loop of `are_coordinates`: what is left of the list decides
+module _ (r : List Float) (i : ℕ) where
+  pub coordinates-on : i < length r → coordinate (getD r i nan) ≡ true → coordinates (drop i r) ≡ coordinates (drop (i + 1) r)
+  unfolding coordinates
+  coordinates-on h t = rw (drop-cons r i nan, t, add-one)
+
+  pub coordinates-off : i < length r → coordinate (getD r i nan) ≡ false → coordinates (drop i r) ≡ false
+  unfolding coordinates
+  coordinates-off h t = rw (drop-cons r i nan, t)
+
+  pub coordinates-end : length r ≤ i → coordinates (drop i r) ≡ true
+  unfolding coordinates
+  coordinates-end h = rw (drop-of-length-le r h)

@@ -1,0 +1,47 @@
+-- What a ring that is not refused is known to be. Assumes nothing.
+use Prim.Native.Nat.{ℕ, _%_, _≤_}
+use mathlib.Core.Path.{_≡_, refl}
+use mathlib.Core.Bool.{Bool, true, false, _&&_, cond}
+use mathlib.Core.List.{List}
+use native.Mathlib.Omega.{arith}
+use lib.ListN.{length}
+use lib.Dec.{leb, eqb}
+use lib.Ieee.{Float}
+use borrow.Author.Tests.{eqb-true, leb-true}
+use Rattle.refusals.specs.Refusals.{passed, unless, first}
+use Rattle.refusals.specs.Bounds.{ringLength, coordinates}
+use Rattle.refusals.specs.Screens.{wrongLength, ofRing, ofTwoRings}
+use Rattle.refusals.specs.declared.Refusal.{Refusal}
+
+-- an even length, of at most 512
+pub record Sized (r : List Float) : Type 0 where
+  pub even : length r % 2 ≡ 0
+  pub most : length r ≤ 512
+
+both : (a b : Bool) → a && b ≡ true → (a ≡ true) × (b ≡ true)
+both true b h = (refl, h)
+both false b h = (h, cc)
+
+pub sized : (r : List Float) → ringLength r ≡ true → Sized r
+sized r h =
+    let p : (eqb (length r % 2) 0 ≡ true) × (leb (length r) 512 ≡ true) = both _ _ h in
+    record { even = eqb-true _ _ (p .0); most = leb-true _ _ (p .1) }
+
+-- a first test that refuses holds where the whole row passes, and so does the row after it
+pub held : (ok : Bool) (num : ℕ) (rest : Refusal) → eqb num 0 ≡ false → passed (first (unless ok num) rest) ≡ true → (ok ≡ true) × (passed rest ≡ true)
+held true num rest z h = (refl, h)
+held false num rest z h = (cc (simp z at h), cc (simp z at h))
+
+pub held-last : (ok : Bool) (num : ℕ) → eqb num 0 ≡ false → passed (unless ok num) ≡ true → ok ≡ true
+held-last true num z h = refl
+held-last false num z h = cc (simp z at h)
+
+pub ring-sized : (r : List Float) → passed (ofRing r) ≡ true → Sized r
+unfolding ofRing
+ring-sized r h = sized r (held (ringLength r) 1 _ refl h .0)
+
+pub two-sized : (a b : List Float) → passed (ofTwoRings a b) ≡ true → Sized a × Sized b
+unfolding ofTwoRings
+two-sized a b h =
+    let p = held (ringLength a) 1 _ refl h in
+    (sized a (p .0), sized b (held (ringLength b) 1 _ refl (p .1) .0))

@@ -1,0 +1,30 @@
+-- Document 01's bounds of what is lent. Definitions only.
+use Prim.Native.Nat.{ℕ, _*_, _%_}
+use mathlib.Core.Bool.{Bool, true, false, _&&_}
+use mathlib.Core.List.{List, [], _∷_}
+use lib.ListN.{length}
+use lib.Dec.{leb, eqb}
+use lib.Ieee.{Float, nan, inf, fin, up, down, lt, le}
+use Rattle.scalar.specs.Float.{f0, f1}
+use Rattle.plane.specs.declared.Point.{Point}
+
+-- finite, of magnitude at most 1,000,000
+unfoldable pub coordinate : Float → Bool
+coordinate nan = false
+coordinate (inf s) = false
+coordinate (fin s m e) = leb (m * up e) (1000000 * down e)
+
+unfoldable pub coordinates : List Float → Bool
+coordinates [] = true
+coordinates (x ∷ xs) = coordinate x && coordinates xs
+
+abbrev pub pointOk : Point → Bool
+pointOk p = coordinate (p .x) && coordinate (p .y)
+
+-- an even number of coordinates, of at most 256 vertices
+abbrev pub ringLength : List Float → Bool
+ringLength r = eqb (length r % 2) 0 && leb (length r) 512
+
+-- above 0, at most 1
+abbrev pub toleranceOk : Float → Bool
+toleranceOk x = lt f0 x && le x f1

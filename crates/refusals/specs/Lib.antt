@@ -1,0 +1,5 @@
+-- The definitions that the contracts of refusals, and of every public call, cite.
+pub mod Refusals
+pub mod Bounds
+pub mod Screens
+pub mod Answers

@@ -1,0 +1,105 @@
+// The tests of what calls are lent, as refusals: 1 for a list's length, 2 for a number, 3 for a setting, 5 for a room. A call
+// takes the first that refuses, in document 01's order.
+use crate::Refusal;
+use crate::test::are_coordinates;
+use crate::test::is_point;
+use crate::test::is_ring_length;
+use crate::test::is_tolerance;
+use plane::Point;
+ghost use mathlib.Core.Path.{_≡_};
+ghost use Rattle.refusals.specs.Refusals.{unless, first};
+ghost use Rattle.refusals.specs.Screens.{wrongLength, wrongNumber, wrongPoint, wrongTolerance, wrongRoom, ofPoints3, ofPoints4, ofNear, ofRing, ofTwoRings};
+
+// The refusal with a number where a test does not hold.
+pub fn unless(ok: bool, number: u32) -> Refusal
+    ensures { λ r. ⌜ r ≡ unless ok number ⌝ }
+{
+    if ok {
+        Refusal::none()
+    } else {
+        Refusal::new(number)
+    }
+}
+
+// The first of two.
+pub fn first(a: Refusal, b: Refusal) -> Refusal
+    ensures { λ r. ⌜ r ≡ first a b ⌝ }
+{
+    if a.passed() { b } else { a }
+}
+
+// The length of a ring.
+fn ring_length(ring: &[f64]) -> Refusal
+    ensures { λ r. ⌜ r ≡ wrongLength (now (ring .entry)) ⌝ }
+{
+    unless(is_ring_length(ring), 1)
+}
+
+// The coordinates of a list.
+pub fn numbers(list: &[f64]) -> Refusal
+    ensures { λ r. ⌜ r ≡ wrongNumber (now (list .entry)) ⌝ }
+{
+    unless(are_coordinates(list), 2)
+}
+
+// A single point.
+pub fn point(p: Point) -> Refusal
+    ensures { λ r. ⌜ r ≡ wrongPoint p ⌝ }
+{
+    unless(is_point(p), 2)
+}
+
+// A tolerance.
+pub fn tolerance(tol: f64) -> Refusal
+    ensures { λ r. ⌜ r ≡ wrongTolerance tol ⌝ }
+{
+    unless(is_tolerance(tol), 3)
+}
+
+// A room of size numbers for an answer of so many points.
+pub fn room(points: usize, size: usize) -> Refusal
+    ensures { λ r. ⌜ r ≡ wrongRoom points size ⌝ }
+{
+    unless(points <= size / 2, 5)
+}
+
+// Three single points.
+pub fn points3(a: Point, b: Point, c: Point) -> Refusal
+    ensures { λ r. ⌜ r ≡ ofPoints3 a b c ⌝ }
+{
+    first(point(a), first(point(b), point(c)))
+}
+
+// Four single points.
+pub fn points4(a: Point, b: Point, c: Point, d: Point) -> Refusal
+    ensures { λ r. ⌜ r ≡ ofPoints4 a b c d ⌝ }
+{
+    first(point(a), points3(b, c, d))
+}
+
+// A point, a segment and a tolerance.
+pub fn near(p: Point, a: Point, b: Point, tol: f64) -> Refusal
+    ensures { λ r. ⌜ r ≡ ofNear p a b tol ⌝ }
+{
+    first(points3(p, a, b), tolerance(tol))
+}
+
+// A ring of 0 to 256 vertices. The numbers of one with a wrong length are not read.
+pub fn ring(ring: &[f64]) -> Refusal
+    ensures { λ r. ⌜ r ≡ ofRing (now (ring .entry)) ⌝ }
+{
+    let no = ring_length(ring);
+    if no.passed() { numbers(ring) } else { no }
+}
+
+// Two rings: the lengths of both come before the numbers of either.
+pub fn two_rings(a: &[f64], b: &[f64]) -> Refusal
+    ensures { λ r. ⌜ r ≡ ofTwoRings (now (a .entry)) (now (b .entry)) ⌝ }
+{
+    let no = first(ring_length(a), ring_length(b));
+    if no.passed() {
+        first(numbers(a), numbers(b))
+    } else {
+        no
+    }
+}
