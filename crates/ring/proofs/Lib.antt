@@ -1,0 +1,3 @@
+-- The modules that belong to no one function.
+pub mod Emit
+pub mod Each
