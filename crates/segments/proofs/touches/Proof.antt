@@ -1,0 +1,34 @@
+-- `segments::touches` meets its contract: case by case. Assumes nothing.
+use borrow.Author.Needs.{needs}
+use Rattle.segments.specs.Segments.{touchesOf}
+use Rattle.segments.proofs.touches.Statement.{statement}
+use Rattle.segments.proofs.touches.Tie as tie
+
+enum-told : tie.Need-enum-told
+enum-told c = search needs
+
+enum-told-2 : tie.Need-enum-told-2
+enum-told-2 c = search needs
+
+enum-told-3 : tie.Need-enum-told-3
+enum-told-3 c = search needs
+
+on-segment-requires : tie.Need-on-segment-requires
+on-segment-requires c κs = search needs
+
+returns : tie.Need-returns
+unfolding touchesOf
+returns c = cc
+
+returns-2 : tie.Need-returns-2
+unfolding touchesOf
+returns-2 c = cc
+
+returns-3 : tie.Need-returns-3
+unfolding touchesOf
+returns-3 c = cc
+
+pub touches-spec : {M : Type 1} → statement M
+touches-spec =
+    tie.close
+    (tie.spec enum-told enum-told-2 enum-told-3 on-segment-requires returns returns-2 returns-3)
