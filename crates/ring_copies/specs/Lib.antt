@@ -1,0 +1,3 @@
+-- The definitions that the contracts of ring_copies cite.
+pub mod Copies
+pub mod Calls
