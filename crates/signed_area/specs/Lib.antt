@@ -1,0 +1,3 @@
+-- The definitions that the contracts of signed_area cite.
+pub mod Area
+pub mod Calls
