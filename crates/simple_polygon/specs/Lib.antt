@@ -1,0 +1,3 @@
+-- The definitions that the contracts of simple_polygon cite.
+pub mod Simple
+pub mod Calls
