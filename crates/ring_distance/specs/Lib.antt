@@ -1,0 +1,3 @@
+-- The definitions that the contracts of ring_distance cite.
+pub mod Distance
+pub mod Calls
