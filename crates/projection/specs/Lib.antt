@@ -1,0 +1,2 @@
+-- The definitions that the contracts of projection cite.
+pub mod Calls

@@ -1,0 +1,45 @@
+// The public calls: project_point_to_segment, point_to_segment_distance, point_on_segment.
+use plane::Point;
+use plane::segment;
+use refusals::answer::Number;
+use refusals::answer::Truth;
+use refusals::screen;
+ghost use mathlib.Core.Path.{_≡_};
+ghost use Rattle.refusals.specs.Answers.{number, truth};
+ghost use Rattle.projection.specs.Calls.{projectCall, distanceCall, nearCall};
+
+// The parameter of the foot of point on the segment p1 p2: 0 at p1, 1 at p2.
+pub fn project_point_to_segment(point: Point, p1: Point, p2: Point) -> Number
+    ensures { λ r. ⌜ number r ≡ projectCall point p1 p2 ⌝ }
+{
+    let no = screen::points3(point, p1, p2);
+    if no.passed() {
+        Number::Is(segment::project_point_to_segment(point, p1, p2))
+    } else {
+        Number::Refused(no)
+    }
+}
+
+// The distance of point from the segment p1 p2.
+pub fn point_to_segment_distance(point: Point, p1: Point, p2: Point) -> Number
+    ensures { λ r. ⌜ number r ≡ distanceCall point p1 p2 ⌝ }
+{
+    let no = screen::points3(point, p1, p2);
+    if no.passed() {
+        Number::Is(segment::point_to_segment_distance(point, p1, p2))
+    } else {
+        Number::Refused(no)
+    }
+}
+
+// Whether point is nearer to the segment p1 p2 than tol.
+pub fn point_on_segment(point: Point, p1: Point, p2: Point, tol: f64) -> Truth
+    ensures { λ r. ⌜ truth r ≡ nearCall point p1 p2 tol ⌝ }
+{
+    let no = screen::near(point, p1, p2, tol);
+    if no.passed() {
+        Truth::Is(segment::point_on_segment(point, p1, p2, tol))
+    } else {
+        Truth::Refused(no)
+    }
+}
