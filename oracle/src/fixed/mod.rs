@@ -1,0 +1,12 @@
+//! The text over the helpers that document 01 fixes: the oracle proper.
+
+pub mod helpers;
+#[rustfmt::skip]
+#[path = "../text/nfp_sliding.rs"]
+pub mod nfp_sliding;
+#[rustfmt::skip]
+#[path = "../text/polygon_ops.rs"]
+pub mod polygon_ops;
+#[rustfmt::skip]
+#[path = "../text/robust.rs"]
+pub mod robust;

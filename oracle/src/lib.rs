@@ -1,0 +1,17 @@
+//! The oracle: the given Rust text (u-nesting, MIT, see NOTICE), run beside the
+//! proved code. docs/DIFFERENCES.md lists every change to the text.
+//!
+//! The files under `text/` are compiled three times. `fixed` gives them the
+//! helpers that document 01 fixes, `repository` those of the repository's own
+//! text and of Rust's library, `swapped` the fixed ones with the two zeros in the
+//! other order. `calls` gives document 01's answers over `fixed`.
+
+pub mod answers;
+pub mod calls;
+pub mod fixed;
+pub mod refusals;
+pub mod replay;
+pub mod repository;
+pub mod seeded;
+pub mod shapes;
+pub mod swapped;

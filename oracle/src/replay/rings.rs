@@ -1,0 +1,130 @@
+//! The list `rings`. A record is six words of header: the call, the lengths of
+//! list a, list b and the room, the refusal number and the value answered; then
+//! list a, list b, the room at entry and the room at exit.
+//!
+//! The calls are 0 orientation (a, b, c), 1 on_segment (a, b, p),
+//! 2 segments_intersect, 3 point_segment_distance (p, a, b), 4 mirror_polygon,
+//! 5 open_ring, 6 is_simple_polygon, 7 ring_distance, 8 signed_area2,
+//! 9 signed_area_robust, 10 project_point_to_segment (p, a, b),
+//! 11 point_to_segment_distance (p, a, b), 12 point_on_segment (p, a, b and the
+//! tolerance). A value is a float's bits, 0 or 1, a turn as 64-bit two's
+//! complement, or a number of vertices; 0 where refused.
+
+mod corners;
+mod lists;
+
+use super::answer_bits;
+use crate::calls;
+use crate::refusals::{Answer, LARGEST};
+use crate::seeded::Seeded;
+use std::collections::HashSet;
+
+pub const ORIENTATION: u64 = 0;
+pub const ON_SEGMENT: u64 = 1;
+pub const SEGMENTS_INTERSECT: u64 = 2;
+pub const POINT_SEGMENT_DISTANCE: u64 = 3;
+pub const MIRROR_POLYGON: u64 = 4;
+pub const OPEN_RING: u64 = 5;
+pub const IS_SIMPLE_POLYGON: u64 = 6;
+pub const RING_DISTANCE: u64 = 7;
+pub const SIGNED_AREA2: u64 = 8;
+pub const SIGNED_AREA_ROBUST: u64 = 9;
+pub const PROJECT_POINT_TO_SEGMENT: u64 = 10;
+pub const POINT_TO_SEGMENT_DISTANCE: u64 = 11;
+pub const POINT_ON_SEGMENT: u64 = 12;
+
+/// A call with what is lent to it.
+struct Case {
+    call: u64,
+    a: Vec<f64>,
+    b: Vec<f64>,
+    room: Vec<f64>,
+}
+
+impl Case {
+    /// A call that takes one list.
+    fn of(call: u64, a: &[f64]) -> Self {
+        Self { call, a: a.to_vec(), b: Vec::new(), room: Vec::new() }
+    }
+}
+
+/// Numbers to put in a place: on the bounds, past them, and odd ones within.
+const EDGES: [f64; 14] = [
+    LARGEST,
+    -LARGEST,
+    LARGEST.next_up(),
+    (-LARGEST).next_down(),
+    f64::NAN,
+    f64::INFINITY,
+    f64::NEG_INFINITY,
+    f64::MAX,
+    -0.0,
+    5e-324,
+    -5e-324,
+    f64::MIN_POSITIVE,
+    LARGEST.next_down(),
+    1e-160,
+];
+
+/// The list with this number in this place.
+fn with(list: &[f64], place: usize, number: f64) -> Vec<f64> {
+    let mut changed = list.to_vec();
+    changed[place] = number;
+    changed
+}
+
+/// What the call answers, as the value of a record; writes the room.
+fn answer(call: u64, a: &[f64], b: &[f64], room: &mut [f64]) -> Answer<u64> {
+    let p = |i: usize| (a[2 * i], a[2 * i + 1]);
+    match call {
+        ORIENTATION => calls::orientation(p(0), p(1), p(2)).map(|turn| i64::from(turn) as u64),
+        ON_SEGMENT => calls::on_segment(p(0), p(1), p(2)).map(u64::from),
+        SEGMENTS_INTERSECT => calls::segments_intersect(p(0), p(1), p(2), p(3)).map(u64::from),
+        POINT_SEGMENT_DISTANCE => calls::point_segment_distance(p(0), p(1), p(2)).map(answer_bits),
+        MIRROR_POLYGON => calls::mirror_polygon(a, room).map(|vertices| vertices as u64),
+        OPEN_RING => calls::open_ring(a, room).map(|vertices| vertices as u64),
+        IS_SIMPLE_POLYGON => calls::is_simple_polygon(a).map(u64::from),
+        RING_DISTANCE => calls::ring_distance(a, b).map(answer_bits),
+        SIGNED_AREA2 => calls::signed_area2(a).map(answer_bits),
+        SIGNED_AREA_ROBUST => calls::signed_area_robust(a).map(answer_bits),
+        PROJECT_POINT_TO_SEGMENT => {
+            calls::project_point_to_segment(p(0), p(1), p(2)).map(answer_bits)
+        }
+        POINT_TO_SEGMENT_DISTANCE => {
+            calls::point_to_segment_distance(p(0), p(1), p(2)).map(answer_bits)
+        }
+        POINT_ON_SEGMENT => calls::point_on_segment(p(0), p(1), p(2), a[6]).map(u64::from),
+        _ => unreachable!("there are thirteen calls"),
+    }
+}
+
+/// The record of a case.
+fn record(case: &Case) -> Vec<u64> {
+    let mut room = case.room.clone();
+    let (number, value) = match answer(case.call, &case.a, &case.b, &mut room) {
+        Ok(value) => (0, value),
+        Err(number) => (u64::from(number), 0),
+    };
+    let lengths = [&case.a, &case.b, &case.room].map(|list| list.len() as u64);
+    let mut words = vec![case.call, lengths[0], lengths[1], lengths[2], number, value];
+    for list in [&case.a, &case.b, &case.room, &room] {
+        words.extend(list.iter().map(|x| x.to_bits()));
+    }
+    words
+}
+
+/// The list, record by record, none twice.
+pub fn records() -> Vec<Vec<u64>> {
+    let seeded = &mut Seeded::new(0x0f17_0011);
+    let mut cases = corners::cases(seeded);
+    cases.extend(lists::cases(seeded));
+    let mut met = HashSet::new();
+    let mut all: Vec<_> = cases.iter().map(record).collect();
+    all.retain(|record| met.insert(record.clone()));
+    all
+}
+
+/// The list, word by word.
+pub fn words() -> Vec<u64> {
+    records().concat()
+}

@@ -1,0 +1,90 @@
+//! Rings to try the calls on, as lists of x, y alternating.
+
+use crate::seeded::Seeded;
+
+/// The square of document 01's measured pieces with this side, at the origin.
+pub fn square(side: f64) -> Vec<f64> {
+    vec![0.0, 0.0, side, 0.0, side, side, 0.0, side]
+}
+
+/// A convex ring of n vertices on a parabola, whole coordinates.
+pub fn parabola(n: usize) -> Vec<f64> {
+    let corner = |i: usize| {
+        let x = i as f64 - (n / 2) as f64;
+        [x, x * x]
+    };
+    (0..n).flat_map(corner).collect()
+}
+
+/// A comb with this many teeth: four vertices a tooth, and two.
+pub fn comb(teeth: usize) -> Vec<f64> {
+    let mut ring = vec![0.0, 0.0, 2.0 * teeth as f64, 0.0];
+    for tooth in (0..teeth).rev() {
+        let x = 2.0 * tooth as f64;
+        ring.extend([x + 1.75, 1.0, x + 1.5, 3.0, x + 0.5, 3.0, x + 0.25, 1.0]);
+    }
+    ring
+}
+
+/// A ring of n vertices that jumps about on a grid and so crosses itself.
+pub fn knot(n: usize) -> Vec<f64> {
+    let corner = |i: usize| [((i * 7) % 11) as f64, ((i * 5) % 13) as f64];
+    (0..n).flat_map(corner).collect()
+}
+
+/// Named whole-coordinate shapes, simple and not.
+pub fn whole_shapes() -> Vec<Vec<f64>> {
+    vec![
+        square(4.0),
+        square(2.0),
+        vec![0.0, 0.0, 4.0, 0.0, 0.0, 3.0],
+        vec![0.0, 0.0, 0.0, 3.0, 4.0, 0.0],
+        vec![0.0, 0.0, 2.0, 2.0, 2.0, 0.0, 0.0, 2.0],
+        vec![0.0, 0.0, 1.0, 0.0, 0.0, 0.0, 0.0, 1.0],
+        vec![0.0, 0.0, 1.0, 0.0, 2.0, 0.0],
+        vec![0.0, 0.0, 4.0, 0.0, 2.0, 0.0, 2.0, 3.0],
+        vec![0.0, 0.0, 4.0, 0.0, 4.0, 2.0, 2.0, 2.0, 2.0, 4.0, 0.0, 4.0],
+        vec![0.0, 0.0, 6.0, 0.0, 6.0, 4.0, 4.0, 4.0, 4.0, 2.0, 2.0, 2.0, 2.0, 4.0, 0.0, 4.0],
+        vec![0.0, 0.0, 4.0, 0.0, 4.0, 4.0, 2.0, 1.0, 0.0, 4.0],
+        vec![0.0, -5.0, 3.0, 4.0, -5.0, -2.0, 5.0, -2.0, -3.0, 4.0],
+        vec![0.0, 0.0, 4.0, 4.0, 4.0, 0.0, 2.0, 2.0, 0.0, 4.0],
+        vec![0.0, 0.0, 4.0, 0.0, 4.0, 4.0, 2.0, 0.0, 0.0, 4.0],
+        vec![0.0, 0.0, 2.0, 0.0, 4.0, 0.0, 4.0, 4.0, 2.0, 4.0, 0.0, 4.0],
+        vec![5.0, 5.0, 5.0, 5.0, 5.0, 5.0],
+        vec![0.0, 0.0, 3.0, 0.0, 3.0, 0.0, 3.0, 3.0, 0.0, 3.0],
+        vec![-1.0, -1.0, -3.0, -2.0, -2.0, -5.0],
+        comb(1),
+        comb(3),
+        parabola(7),
+        knot(9),
+    ]
+}
+
+/// The ring with each coordinate multiplied and then moved.
+pub fn placed(ring: &[f64], scale: f64, x: f64, y: f64) -> Vec<f64> {
+    let moved = |p: &[f64]| [p[0] * scale + x, p[1] * scale + y];
+    ring.chunks_exact(2).flat_map(moved).collect()
+}
+
+/// The ring with its vertices in the other order.
+pub fn reversed(ring: &[f64]) -> Vec<f64> {
+    ring.chunks_exact(2).rev().flat_map(|p| [p[0], p[1]]).collect()
+}
+
+/// The ring with its first vertex repeated at the end.
+pub fn closed(ring: &[f64]) -> Vec<f64> {
+    [ring, &ring[..2]].concat()
+}
+
+/// A seeded ring of n vertices, whole, fractional, large or tiny.
+pub fn seeded_ring(seeded: &mut Seeded, n: usize) -> Vec<f64> {
+    let kind = seeded.below(6);
+    let number = |seeded: &mut Seeded| match kind {
+        0 | 1 => seeded.whole(3),
+        2 => seeded.whole(1_000_000),
+        3 => seeded.spread(1_000_000.0),
+        4 => seeded.spread(10.0),
+        _ => seeded.spread(1e-5),
+    };
+    (0..2 * n).map(|_| number(seeded)).collect()
+}
