@@ -1,0 +1,17 @@
+-- `replay::number` meets its contract: a pattern above that of an infinity is a NaN. Assumes nothing.
+use borrow.Author.Needs.{needs}
+use Rattle.replay.proofs.Nan.{a-nan, no-nan}
+use Rattle.replay.proofs.number.Statement.{statement}
+use Rattle.replay.proofs.number.Tie as tie
+
+float-from-bits-result : tie.Need-float-from-bits-result
+float-from-bits-result c = no-nan _ (c .if1 .left)
+
+returns : tie.Need-returns
+returns c = a-nan _ (c .if1 .taken)
+
+returns-2 : tie.Need-returns-2
+returns-2 c = search needs
+
+pub number-spec : {M : Type 1} → statement M
+number-spec = tie.close (tie.spec float-from-bits-result returns returns-2)

@@ -1,0 +1,108 @@
+// What the replay programs share: words of a list of the oracle's answers, floats by their bit patterns, and the report.
+use libc::STDIN_FILENO;
+use libc::STDOUT_FILENO;
+ghost use mathlib.Core.Path.{_≡_};
+ghost use Prim.Native.Nat.{_+_, _≤_, _<_};
+ghost use lib.ListN.{length};
+ghost use lib.Ieee.{binary64, ofBits};
+
+// A number of two, of four and of eight bytes, the lower half first.
+fn two(low: u8, high: u8) -> u16 {
+    (high as u16) * 256 + (low as u16)
+}
+
+fn four(low: u16, high: u16) -> u32 {
+    (high as u32) * 65536 + (low as u32)
+}
+
+fn eight(low: u32, high: u32) -> u64 {
+    (high as u64) * 4294967296 + (low as u64)
+}
+
+// The little-endian word at a byte of a list, 0 where the list ends before its end.
+pub fn word(bytes: &[u8], at: usize) -> u64 {
+    if bytes.len() < 8 {
+        return 0;
+    }
+    if bytes.len() - 8 < at {
+        return 0;
+    }
+    let low = four(
+        two(bytes[at], bytes[at + 1]),
+        two(bytes[at + 2], bytes[at + 3]),
+    );
+    let high = four(
+        two(bytes[at + 4], bytes[at + 5]),
+        two(bytes[at + 6], bytes[at + 7]),
+    );
+    eight(low, high)
+}
+
+// The float with a bit pattern.
+pub fn number(bits: u64) -> f64
+    ensures { λ r. ⌜ r ≡ ofBits binary64 bits ⌝ }
+{
+    if 0x7ff0_0000_0000_0000 < bits % 0x8000_0000_0000_0000 {
+        0.0 / 0.0
+    } else {
+        f64::from_bits(bits)
+    }
+}
+
+// The bit pattern of a float, that of one quiet NaN for every NaN.
+pub fn bits(x: f64) -> u64 {
+    if x == x {
+        f64::to_bits(x)
+    } else {
+        0x7ff8_0000_0000_0000
+    }
+}
+
+// Reads the next n bytes of standard input to the front of the room, as far as there are so many.
+pub fn read(room: &mut [u8], n: usize)
+    requires { ⌜ n ≤ length (now room) ⌝ }
+{
+    io::read_full(STDIN_FILENO, &mut room[..n]);
+}
+
+// The floats of the words from a byte on, at the front of the room.
+pub fn load(bytes: &[u8], n: usize, room: &mut [f64])
+    requires { ⌜ n ≤ length (now room) ⌝ }
+{
+    let mut i = 0;
+    while i < n {
+        room[i] = number(word(bytes, 8 * i));
+        i += 1;
+    }
+}
+
+// What reading a record came to.
+pub enum Verdict {
+    End,
+    Agrees,
+    Differs,
+}
+
+// How many of the records agreed after one more. The first that differs is named.
+pub fn tally(seen: u64, agreed: u64, agrees: bool) -> u64
+    requires { ⌜ (agreed ≤ seen) × (seen < 1000000) ⌝ }
+    ensures { λ r. ⌜ r ≤ seen + 1 ⌝ }
+{
+    if agrees {
+        return agreed + 1;
+    }
+    if seen == agreed {
+        io::write_all(STDOUT_FILENO, b"first that differs: record ");
+        io::print_decimal(STDOUT_FILENO, seen);
+        io::write_all(STDOUT_FILENO, b"\n");
+    }
+    agreed
+}
+
+// The last line: how many records were read and how many agreed.
+pub fn report(seen: u64, agreed: u64) {
+    io::print_decimal(STDOUT_FILENO, agreed);
+    io::write_all(STDOUT_FILENO, b" of ");
+    io::print_decimal(STDOUT_FILENO, seen);
+    io::write_all(STDOUT_FILENO, b" agree\n");
+}

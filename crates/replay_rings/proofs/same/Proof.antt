@@ -1,0 +1,67 @@
+-- `replay_rings::same` meets its contract. The invariant says only that i is at most n. Assumes nothing.
+use native.Mathlib.Omega.{arith}
+use borrow.Author.Needs.{needs}
+use Prim.Native.Nat.{_-_, _≤_}
+use Rattle.replay_rings.proofs.same.Statement.{statement}
+use Rattle.replay_rings.proofs.same.Tie as tie
+
+abbrev Inv-loop : tie.InvT-loop
+Inv-loop a b n i₀ i = i ≤ n
+
+abbrev μ-loop : tie.MeasureT-loop
+μ-loop a b n i₀ i = n - i
+
+loop-holds : tie.Need-loop-holds Inv-loop μ-loop
+loop-holds c = omega arith
+
+mul-bits : tie.Need-mul-bits Inv-loop μ-loop
+mul-bits c = omega arith
+
+element-copy-out-bits : tie.Need-element-copy-out-bits Inv-loop μ-loop
+element-copy-out-bits c = omega arith
+
+bits-requires : tie.Need-bits-requires Inv-loop μ-loop
+bits-requires c κs = search needs
+
+mul-bits-2 : tie.Need-mul-bits-2 Inv-loop μ-loop
+mul-bits-2 c = omega arith
+
+element-copy-out-bits-2 : tie.Need-element-copy-out-bits-2 Inv-loop μ-loop
+element-copy-out-bits-2 c = omega arith
+
+bits-requires-2 : tie.Need-bits-requires-2 Inv-loop μ-loop
+bits-requires-2 c κs = search needs
+
+returns : tie.Need-returns Inv-loop μ-loop
+returns c = tt
+
+add-i : tie.Need-add-i Inv-loop μ-loop
+add-i c = omega arith
+
+loop-less : tie.Need-loop-less Inv-loop μ-loop
+loop-less c = omega arith
+
+loop-again : tie.Need-loop-again Inv-loop μ-loop
+loop-again c = omega arith
+
+returns-2 : tie.Need-returns-2 Inv-loop μ-loop
+returns-2 c = tt
+
+pub same-spec : {M : Type 1} → statement M
+same-spec =
+    tie.close
+    (tie.spec
+    Inv-loop
+    μ-loop
+    loop-holds
+    mul-bits
+    element-copy-out-bits
+    bits-requires
+    mul-bits-2
+    element-copy-out-bits-2
+    bits-requires-2
+    returns
+    add-i
+    loop-less
+    loop-again
+    returns-2)

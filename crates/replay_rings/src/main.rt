@@ -1,0 +1,173 @@
+// Replays the oracle's answers for the ring calls: records of a call's number, what it is lent, and what it answers and leaves, from standard input.
+mod told;
+
+use libc::STDIN_FILENO;
+use plane::Point;
+use replay::Verdict;
+use replay::bits;
+use replay::load;
+use replay::read;
+use replay::report;
+use replay::tally;
+use replay::word;
+use told::Told;
+ghost use mathlib.Core.Path.{_≡_};
+ghost use Prim.Native.Nat.{_≤_};
+ghost use lib.ListN.{length};
+
+// What a call on single points answers.
+fn on_points(call: u64, n: &[f64; 600]) -> Told {
+    let a = Point { x: n[0], y: n[1] };
+    let b = Point { x: n[2], y: n[3] };
+    let c = Point { x: n[4], y: n[5] };
+    let d = Point { x: n[6], y: n[7] };
+    match call {
+        0 => told::turn(segments::calls::orientation(a, b, c)),
+        1 => told::truth(segments::calls::on_segment(a, b, c)),
+        2 => told::truth(segments::calls::segments_intersect(a, b, c, d)),
+        3 => told::number(ring_distance::calls::point_segment_distance(a, b, c)),
+        10 => told::number(projection::calls::project_point_to_segment(a, b, c)),
+        11 => told::number(projection::calls::point_to_segment_distance(a, b, c)),
+        _ => told::truth(projection::calls::point_on_segment(a, b, c, n[6])),
+    }
+}
+
+// What a call on rings answers.
+fn on_rings(call: u64, a: &[f64], b: &[f64], room: &mut [f64]) -> Told {
+    match call {
+        4 => told::count(ring_copies::calls::mirror_polygon(a, room)),
+        5 => told::count(ring_copies::calls::open_ring(a, room)),
+        6 => told::truth(simple_polygon::calls::is_simple_polygon(a)),
+        7 => told::number(ring_distance::calls::ring_distance(a, b)),
+        8 => told::number(signed_area::calls::signed_area2(a)),
+        _ => told::number(signed_area::calls::signed_area_robust(a)),
+    }
+}
+
+// The same on the first numbers of each list.
+fn on_parts(
+    call: u64,
+    a: &[f64],
+    an: usize,
+    b: &[f64],
+    bn: usize,
+    room: &mut [f64],
+    rn: usize,
+) -> Told
+    requires { ⌜ (an ≤ length (now a)) × (bn ≤ length (now b)) × (rn ≤ length (now room)) ⌝ }
+{
+    on_rings(call, &a[..an], &b[..bn], &mut room[..rn])
+}
+
+// Whether a call is one on rings.
+fn takes_rings(call: u64) -> bool {
+    match call {
+        4..=9 => true,
+        _ => false,
+    }
+}
+
+// Whether the first n floats of two lists are the same, bit for bit.
+fn same(a: &[f64; 600], b: &[f64; 600], n: usize) -> bool
+    requires { ⌜ n ≤ 600 ⌝ }
+{
+    let mut i = 0;
+    while i < n {
+        if bits(a[i]) != bits(b[i]) {
+            return false;
+        }
+        i += 1;
+    }
+    true
+}
+
+// n words of the list, as floats.
+fn floats(n: usize) -> [f64; 600]
+    requires { ⌜ n ≤ 600 ⌝ }
+    ensures { λ r. ⌜ 600 ≡ length r ⌝ }
+{
+    let mut bytes = [0u8; 4800];
+    let mut list = [0.0; 600];
+    read(&mut bytes, 8 * n);
+    load(&bytes, n, &mut list);
+    list
+}
+
+// Whether what was told and what the room holds are what the record says.
+fn agrees(told: Told, header: &[u8; 48], room: &[f64; 600], left: &[f64; 600], n: usize) -> bool
+    requires { ⌜ n ≤ 600 ⌝ }
+{
+    if told.number != word(header, 32) {
+        return false;
+    }
+    if told.value != word(header, 40) {
+        return false;
+    }
+    same(room, left, n)
+}
+
+// One record past its header: the lists are read, the call is made and compared.
+fn record(header: &[u8; 48], an: usize, bn: usize, rn: usize) -> bool
+    requires { ⌜ (an ≤ 600) × (bn ≤ 600) × (rn ≤ 600) ⌝ }
+{
+    let call = word(header, 0);
+    let a = floats(an);
+    let b = floats(bn);
+    let mut room = floats(rn);
+    let left = floats(rn);
+    if takes_rings(call) {
+        let told = on_parts(call, &a, an, &b, bn, &mut room, rn);
+        agrees(told, header, &room, &left, rn)
+    } else {
+        agrees(on_points(call, &a), header, &room, &left, rn)
+    }
+}
+
+// A length of the header, at most 600.
+fn list_length(header: &[u8; 48], at: usize) -> usize
+    ensures { λ r. ⌜ r ≤ 600 ⌝ }
+{
+    let n = word(header, at);
+    if n <= 600 { n as usize } else { 600 }
+}
+
+// One record: read, worked out and compared.
+fn step() -> Verdict {
+    let mut header = [0u8; 48];
+    let got = io::read_full(STDIN_FILENO, &mut header);
+    if got < 48 {
+        return Verdict::End;
+    }
+    let an = list_length(&header, 8);
+    let bn = list_length(&header, 16);
+    let rn = list_length(&header, 24);
+    if record(&header, an, bn, rn) {
+        Verdict::Agrees
+    } else {
+        Verdict::Differs
+    }
+}
+
+fn main() {
+    let mut seen: u64 = 0;
+    let mut agreed: u64 = 0;
+    let mut left: u64 = 1000000;
+    while 0 < left {
+        match step() {
+            Verdict::End => {
+                left = 0;
+            }
+            Verdict::Agrees => {
+                agreed = tally(seen, agreed, true);
+                seen += 1;
+                left -= 1;
+            }
+            Verdict::Differs => {
+                agreed = tally(seen, agreed, false);
+                seen += 1;
+                left -= 1;
+            }
+        }
+    }
+    report(seen, agreed);
+}

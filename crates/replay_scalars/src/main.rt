@@ -1,0 +1,77 @@
+// Replays the oracle's answers for the scalars: records of five words, the operation, three operands and the answer, from standard input.
+use libc::STDIN_FILENO;
+use replay::Verdict;
+use replay::bits;
+use replay::number;
+use replay::report;
+use replay::tally;
+use replay::word;
+
+// What the library answers: 0 abs, 1 smaller, 2 larger, 3 clamp, 4 sqrt, 5 limit.
+fn answer(op: u64, x: f64, y: f64, z: f64) -> f64 {
+    match op {
+        0 => scalar::abs(x),
+        1 => scalar::smaller(x, y),
+        2 => scalar::larger(x, y),
+        3 => scalar::clamp(x, y, z),
+        4 => square_root::sqrt(x),
+        _ => limit_or_nan(x),
+    }
+}
+
+// The limit of a tolerance, NaN for what is none.
+fn limit_or_nan(tol: f64) -> f64 {
+    if tol > 0.0 {
+        if tol <= 1.0 {
+            return square_root::limit(tol);
+        }
+    }
+    0.0 / 0.0
+}
+
+// Whether a record's answer is the library's.
+fn agrees(record: &[u8; 40]) -> bool {
+    let op = word(record, 0);
+    let x = number(word(record, 8));
+    let y = number(word(record, 16));
+    let z = number(word(record, 24));
+    bits(answer(op, x, y, z)) == bits(number(word(record, 32)))
+}
+
+// One record: read, worked out and compared.
+fn step() -> Verdict {
+    let mut record = [0u8; 40];
+    let got = io::read_full(STDIN_FILENO, &mut record);
+    if got < 40 {
+        return Verdict::End;
+    }
+    if agrees(&record) {
+        Verdict::Agrees
+    } else {
+        Verdict::Differs
+    }
+}
+
+fn main() {
+    let mut seen: u64 = 0;
+    let mut agreed: u64 = 0;
+    let mut left: u64 = 1000000;
+    while 0 < left {
+        match step() {
+            Verdict::End => {
+                left = 0;
+            }
+            Verdict::Agrees => {
+                agreed = tally(seen, agreed, true);
+                seen += 1;
+                left -= 1;
+            }
+            Verdict::Differs => {
+                agreed = tally(seen, agreed, false);
+                seen += 1;
+                left -= 1;
+            }
+        }
+    }
+    report(seen, agreed);
+}
