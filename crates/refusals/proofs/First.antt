@@ -19,10 +19,6 @@ first-assoc a b c = go (passed a) refl
     go true h = simp h
     go false h = simp h
 
--- the same past two tests, and at one of them
-module _ (a b c : Refusal) {na nb n : Refusal} {p : Bool} (ea : na ≡ a) (eb : nb ≡ b) (en : n ≡ first na nb) (h : p ≡ passed n) where
-  pub both-on : p ≡ true → first a (first b c) ≡ c
-  both-on t = rw (← ea, ← eb) (sym (first-assoc na nb c) ∙ on (first na nb) c en h t)
-
-  pub both-off : p ≡ false → first a (first b c) ≡ n
-  both-off t = rw (← ea, ← eb) (sym (first-assoc na nb c) ∙ off (first na nb) c en h t ∙ sym en)
+-- two tests, and then the rest of the row
+pub two-then : (rest : Refusal) {n la lb f a b : Refusal} → la ≡ a → lb ≡ b → f ≡ first la lb → n ≡ first f rest → n ≡ first a (first b rest)
+two-then rest {n} {la} {lb} ea eb ef e = rw (e, ef, ← ea, ← eb) (first-assoc la lb rest)

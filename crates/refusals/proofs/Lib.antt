@@ -1,5 +1,7 @@
 -- The modules that belong to no one function.
-pub mod Coordinates
+pub mod Coordinate
+pub mod Finite
+pub mod Every
 pub mod First
 pub mod Room
 pub mod Calls

@@ -14,9 +14,24 @@ coordinate nan = false
 coordinate (inf s) = false
 coordinate (fin s m e) = leb (m * up e) (1000000 * down e)
 
-unfoldable pub coordinates : List Float → Bool
-coordinates [] = true
-coordinates (x ∷ xs) = coordinate x && coordinates xs
+unfoldable pub finite : Float → Bool
+finite nan = false
+finite (inf s) = false
+finite (fin s m e) = true
+
+-- a test of each number of a list
+unfoldable pub every : (Float → Bool) → List Float → Bool
+every p [] = true
+every p (x ∷ xs) = p x && every p xs
+
+abbrev pub coordinates : List Float → Bool
+coordinates xs = every coordinate xs
+
+abbrev pub allFinite : List Float → Bool
+allFinite xs = every finite xs
+
+abbrev pub finitePoint : Point → Bool
+finitePoint p = finite (p .x) && finite (p .y)
 
 abbrev pub pointOk : Point → Bool
 pointOk p = coordinate (p .x) && coordinate (p .y)
@@ -24,6 +39,14 @@ pointOk p = coordinate (p .x) && coordinate (p .y)
 -- an even number of coordinates, of at most 256 vertices
 abbrev pub ringLength : List Float → Bool
 ringLength r = eqb (length r % 2) 0 && leb (length r) 512
+
+-- an even number of coordinates, of 3 to 256 vertices
+abbrev pub polygonLength : List Float → Bool
+polygonLength r = leb 6 (length r) && ringLength r
+
+-- an even number of numbers, of at most 10,001 points
+abbrev pub listLength : List Float → Bool
+listLength r = eqb (length r % 2) 0 && leb (length r) 20002
 
 -- above 0, at most 1
 abbrev pub toleranceOk : Float → Bool

@@ -6,16 +6,29 @@ use lib.Dec.{leb}
 use lib.Ieee.{Float}
 use Rattle.plane.specs.declared.Point.{Point}
 use Rattle.refusals.specs.Refusals.{unless, firstOf}
-use Rattle.refusals.specs.Bounds.{coordinates, pointOk, ringLength, toleranceOk}
+use Rattle.refusals.specs.Bounds.{coordinates, allFinite, finitePoint, pointOk, ringLength, polygonLength, listLength, toleranceOk}
 use Rattle.refusals.specs.declared.Refusal.{Refusal}
 
 -- 1: a list's length
 abbrev pub wrongLength : List Float → Refusal
 wrongLength r = unless (ringLength r) 1
 
+abbrev pub wrongPolygon : List Float → Refusal
+wrongPolygon r = unless (polygonLength r) 1
+
+abbrev pub wrongList : List Float → Refusal
+wrongList r = unless (listLength r) 1
+
 -- 2: a list's numbers, a point's numbers
 abbrev pub wrongNumber : List Float → Refusal
 wrongNumber r = unless (coordinates r) 2
+
+-- those of a list, of a move or of a position that need only be finite
+abbrev pub wrongInfinite : List Float → Refusal
+wrongInfinite r = unless (allFinite r) 2
+
+abbrev pub wrongPosition : Point → Refusal
+wrongPosition p = unless (finitePoint p) 2
 
 abbrev pub wrongPoint : Point → Refusal
 wrongPoint p = unless (pointOk p) 2
@@ -43,3 +56,6 @@ ofRing r = firstOf (wrongLength r ∷ wrongNumber r ∷ [])
 
 unfoldable pub ofTwoRings : List Float → List Float → Refusal
 ofTwoRings a b = firstOf (wrongLength a ∷ wrongLength b ∷ wrongNumber a ∷ wrongNumber b ∷ [])
+
+unfoldable pub ofTwoPolygons : List Float → List Float → Refusal
+ofTwoPolygons a b = firstOf (wrongPolygon a ∷ wrongPolygon b ∷ wrongNumber a ∷ wrongNumber b ∷ [])

@@ -2,13 +2,17 @@
 // takes the first that refuses, in document 01's order.
 use crate::Refusal;
 use crate::test::are_coordinates;
+use crate::test::are_finite;
+use crate::test::is_finite_point;
+use crate::test::is_list_length;
 use crate::test::is_point;
+use crate::test::is_polygon_length;
 use crate::test::is_ring_length;
 use crate::test::is_tolerance;
 use plane::Point;
 ghost use mathlib.Core.Path.{_≡_};
 ghost use Rattle.refusals.specs.Refusals.{unless, first};
-ghost use Rattle.refusals.specs.Screens.{wrongLength, wrongNumber, wrongPoint, wrongTolerance, wrongRoom, ofPoints3, ofPoints4, ofNear, ofRing, ofTwoRings};
+ghost use Rattle.refusals.specs.Screens.{wrongLength, wrongPolygon, wrongList, wrongNumber, wrongInfinite, wrongPoint, wrongPosition, wrongTolerance, wrongRoom, ofPoints3, ofPoints4, ofNear, ofRing, ofTwoRings, ofTwoPolygons};
 
 // The refusal with a number where a test does not hold.
 pub fn unless(ok: bool, number: u32) -> Refusal
@@ -35,11 +39,39 @@ fn ring_length(ring: &[f64]) -> Refusal
     unless(is_ring_length(ring), 1)
 }
 
+// The length of a polygon.
+pub fn polygon_length(polygon: &[f64]) -> Refusal
+    ensures { λ r. ⌜ r ≡ wrongPolygon (now (polygon .entry)) ⌝ }
+{
+    unless(is_polygon_length(polygon), 1)
+}
+
+// The length of a list of points.
+pub fn list_length(list: &[f64]) -> Refusal
+    ensures { λ r. ⌜ r ≡ wrongList (now (list .entry)) ⌝ }
+{
+    unless(is_list_length(list), 1)
+}
+
 // The coordinates of a list.
 pub fn numbers(list: &[f64]) -> Refusal
     ensures { λ r. ⌜ r ≡ wrongNumber (now (list .entry)) ⌝ }
 {
     unless(are_coordinates(list), 2)
+}
+
+// The numbers of a list that need only be finite.
+pub fn finite_numbers(list: &[f64]) -> Refusal
+    ensures { λ r. ⌜ r ≡ wrongInfinite (now (list .entry)) ⌝ }
+{
+    unless(are_finite(list), 2)
+}
+
+// A move or a position, which need only be finite.
+pub fn position(p: Point) -> Refusal
+    ensures { λ r. ⌜ r ≡ wrongPosition p ⌝ }
+{
+    unless(is_finite_point(p), 2)
 }
 
 // A single point.
@@ -92,14 +124,27 @@ pub fn ring(ring: &[f64]) -> Refusal
     if no.passed() { numbers(ring) } else { no }
 }
 
+// The numbers of two lists, which are not read where their lengths are refused.
+fn both(lengths: Refusal, a: &[f64], b: &[f64]) -> Refusal
+    ensures { λ r. ⌜ r ≡ first lengths (first (wrongNumber (now (a .entry))) (wrongNumber (now (b .entry)))) ⌝ }
+{
+    if lengths.passed() {
+        first(numbers(a), numbers(b))
+    } else {
+        lengths
+    }
+}
+
 // Two rings: the lengths of both come before the numbers of either.
 pub fn two_rings(a: &[f64], b: &[f64]) -> Refusal
     ensures { λ r. ⌜ r ≡ ofTwoRings (now (a .entry)) (now (b .entry)) ⌝ }
 {
-    let no = first(ring_length(a), ring_length(b));
-    if no.passed() {
-        first(numbers(a), numbers(b))
-    } else {
-        no
-    }
+    both(first(ring_length(a), ring_length(b)), a, b)
+}
+
+// Two polygons of 3 to 256 vertices, in the same order.
+pub fn two_polygons(a: &[f64], b: &[f64]) -> Refusal
+    ensures { λ r. ⌜ r ≡ ofTwoPolygons (now (a .entry)) (now (b .entry)) ⌝ }
+{
+    both(first(polygon_length(a), polygon_length(b)), a, b)
 }

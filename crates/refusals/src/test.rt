@@ -2,7 +2,7 @@
 use plane::Point;
 ghost use mathlib.Core.Path.{_≡_};
 ghost use lib.ListN.{length};
-ghost use Rattle.refusals.specs.Bounds.{coordinate, coordinates, pointOk, ringLength, toleranceOk};
+ghost use Rattle.refusals.specs.Bounds.{coordinate, coordinates, finite, allFinite, pointOk, finitePoint, ringLength, polygonLength, listLength, toleranceOk};
 
 // Whether x is finite and of magnitude at most 1,000,000.
 pub fn is_coordinate(x: f64) -> bool
@@ -30,6 +30,43 @@ pub fn are_coordinates(list: &[f64]) -> bool
     true
 }
 
+// Whether x is finite.
+pub fn is_finite(x: f64) -> bool
+    ensures { λ r. ⌜ r ≡ finite x ⌝ }
+{
+    if x < 1.0 / 0.0 {
+        -1.0 / 0.0 < x
+    } else {
+        false
+    }
+}
+
+// Whether each number of a list is finite.
+pub fn are_finite(list: &[f64]) -> bool
+    ensures { λ r. ⌜ r ≡ allFinite (now (list .entry)) ⌝ }
+{
+    let mut i = 0;
+    while i < list.len() {
+        if is_finite(list[i]) {
+            i += 1;
+        } else {
+            return false;
+        }
+    }
+    true
+}
+
+// Whether both numbers of a point are finite.
+pub fn is_finite_point(p: Point) -> bool
+    ensures { λ r. ⌜ r ≡ finitePoint p ⌝ }
+{
+    if is_finite(p.x) {
+        is_finite(p.y)
+    } else {
+        false
+    }
+}
+
 // Whether both numbers of a point are coordinates.
 pub fn is_point(p: Point) -> bool
     ensures { λ r. ⌜ r ≡ pointOk p ⌝ }
@@ -46,6 +83,24 @@ pub fn is_ring_length(list: &[f64]) -> bool
     ensures { λ r. ⌜ r ≡ ringLength (now (list .entry)) ⌝ }
 {
     list.len() % 2 == 0 && list.len() <= 512
+}
+
+// Whether a list has the length of a polygon of 3 to 256 vertices.
+pub fn is_polygon_length(list: &[f64]) -> bool
+    ensures { λ r. ⌜ r ≡ polygonLength (now (list .entry)) ⌝ }
+{
+    if list.len() < 6 {
+        false
+    } else {
+        is_ring_length(list)
+    }
+}
+
+// Whether a list has the length of 0 to 10,001 points.
+pub fn is_list_length(list: &[f64]) -> bool
+    ensures { λ r. ⌜ r ≡ listLength (now (list .entry)) ⌝ }
+{
+    list.len() % 2 == 0 && list.len() <= 20002
 }
 
 // Whether a tolerance is above 0 and at most 1.

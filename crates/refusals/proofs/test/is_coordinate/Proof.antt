@@ -1,5 +1,5 @@
 -- `refusals::test::is_coordinate` meets its contract: the two comparisons say that the magnitude is at most a million. Assumes nothing.
-use Rattle.refusals.proofs.Coordinates.{coordinate-le}
+use Rattle.refusals.proofs.Coordinate.{coordinate-le}
 use Rattle.refusals.proofs.test.is_coordinate.Statement.{statement}
 use Rattle.refusals.proofs.test.is_coordinate.Tie as tie
 

@@ -10,11 +10,7 @@ use lib.IntN.{ℤ, pos, negsuc}
 use lib.Dec.{leb, ltb, eqb}
 use lib.Ieee.{Float, nan, inf, fin, binary64, le, lt, eq, neg, up, down, ofBits, ofFields, odd}
 use borrow.Author.Tests.{lt-ltb, le-ltb, le-leb, lt-leb, eq-eqb, ne-eqb}
-use mathlib.Core.List.{List}
-use lib.ListN.{length, getD, drop, drop-of-length-le}
-use lib.Seq.{drop-cons}
-use native.Mathlib.Numerals.{add-one}
-use Rattle.refusals.specs.Bounds.{coordinate, coordinates}
+use Rattle.refusals.specs.Bounds.{coordinate}
 
 -- 1000000.0 as the code has it
 abbrev pub million : Float
@@ -52,17 +48,3 @@ coordinate-le (fin false m e) =
 coordinate-le (fin true m e) =
     rw million-is
     (simp (mul-one, ltb-or-eqb (m * up e) (1000000 * down e) .1, lt-ltb 0 (m * up e + 1000000 * down e) (omega (arith, down-pos e)), and-true))
-
--- the loop of `are_coordinates`: what is left of the list decides
-module _ (r : List Float) (i : ℕ) where
-  pub coordinates-on : i < length r → coordinate (getD r i nan) ≡ true → coordinates (drop i r) ≡ coordinates (drop (i + 1) r)
-  unfolding coordinates
-  coordinates-on h t = rw (drop-cons r i nan, t, add-one)
-
-  pub coordinates-off : i < length r → coordinate (getD r i nan) ≡ false → coordinates (drop i r) ≡ false
-  unfolding coordinates
-  coordinates-off h t = rw (drop-cons r i nan, t)
-
-  pub coordinates-end : length r ≤ i → coordinates (drop i r) ≡ true
-  unfolding coordinates
-  coordinates-end h = rw (drop-of-length-le r h)
