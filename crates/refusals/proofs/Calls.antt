@@ -1,5 +1,5 @@
 -- A call's answer, where its tests pass and where one refuses; and that no two answers say the same. Assumes nothing.
-use mathlib.Core.Path.{_≡_, refl}
+use mathlib.Core.Path.{_≡_, refl, sym, _∙_}
 use mathlib.Core.Bool.{Bool, true, false}
 use lib.IntN.{ℤ, pos, negsuc}
 use Rattle.plane.specs.Orientation.{turnNumber}
@@ -31,7 +31,11 @@ module _ {A : Type 0} {n : Refusal} {p : Bool} (w : Refusal) (e : n ≡ w) (h : 
   pub kept : (o held : A) → p ≡ false → held ≡ left w o held
   kept o held t = rw (← e, ← h, t)
 
--- two answers that say the same are equal
+-- Two answers that meet one statement are equal: every promise says `f answer ≡ definition`, with an f that tells every two answers apart.
+pub unique : {A B : Type 0} (f : A → B) → ((a b : A) → f a ≡ f b → a ≡ b) → (o : B) (a b : A) → f a ≡ o → f b ≡ o → a ≡ b
+unique f apart o a b p q = apart a b (p ∙ sym q)
+
+-- the maps of the answers tell every two apart
 
 pub truth-only : (a b : Truth) → truth a ≡ truth b → a ≡ b
 truth-only (truth-is.Is x) (truth-is.Is y) h = cc

@@ -6,3 +6,4 @@ pub mod First
 pub mod Room
 pub mod Calls
 pub mod Sized
+pub mod Worked

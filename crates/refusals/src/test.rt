@@ -34,11 +34,7 @@ pub fn are_coordinates(list: &[f64]) -> bool
 pub fn is_finite(x: f64) -> bool
     ensures { λ r. ⌜ r ≡ finite x ⌝ }
 {
-    if x < 1.0 / 0.0 {
-        -1.0 / 0.0 < x
-    } else {
-        false
-    }
+    if x < 1.0 / 0.0 { -1.0 / 0.0 < x } else { false }
 }
 
 // Whether each number of a list is finite.

@@ -2,3 +2,4 @@
 pub mod Turning
 pub mod Opening
 pub mod Screened
+pub mod Worked

@@ -1,3 +1,4 @@
 -- The modules that belong to no one function.
 pub mod Zero
 pub mod Cases
+pub mod Worked

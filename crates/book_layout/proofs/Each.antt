@@ -1,0 +1,37 @@
+-- What holds of each element of a list holds of each of its parts and of its readings. Assumes nothing.
+use Prim.Native.Nat.{ℕ, zero, suc}
+use mathlib.Core.Path.{sym, subst}
+use mathlib.Core.Bool.{Bool, true, false}
+use mathlib.Core.List.{List, [], _∷_, _++_, reverseAux}
+use lib.ListN.{take, drop}
+use Rattle.reading.specs.Reading.{rot, reading, Reads}
+use Rattle.book_layout.specs.Layout.{Each}
+
+module _ {A : Type 0} (P : A → Type 0) where
+  pub each-append : (l m : List A) → Each P l → Each P m → Each P (l ++ m)
+  each-append [] m h k = k
+  each-append (a ∷ l) m h k = (h .0, each-append l m (h .1) k)
+
+  pub each-take : (i : ℕ) (l : List A) → Each P l → Each P (take i l)
+  each-take zero l h = tt
+  each-take (suc i) [] h = tt
+  each-take (suc i) (a ∷ l) h = (h .0, each-take i l (h .1))
+
+  pub each-drop : (i : ℕ) (l : List A) → Each P l → Each P (drop i l)
+  each-drop zero l h = h
+  each-drop (suc i) [] h = tt
+  each-drop (suc i) (a ∷ l) h = each-drop i l (h .1)
+
+  each-aux : (l m : List A) → Each P l → Each P m → Each P (reverseAux l m)
+  each-aux [] m h k = k
+  each-aux (a ∷ l) m h k = each-aux l (a ∷ m) (h .1) (h .0, k)
+
+  pub each-rot : (i : ℕ) (l : List A) → Each P l → Each P (rot i l)
+  each-rot i l h = each-append (drop i l) (take i l) (each-drop i l h) (each-take i l h)
+
+  each-reading : (l : List A) (s : ℕ) (b : Bool) → Each P l → Each P (reading l s b)
+  each-reading l s false h = each-rot s l h
+  each-reading l s true h = each-aux (rot (suc s) l) [] (each-rot (suc s) l h) tt
+
+  pub each-reads : {l x : List A} → Reads l x → Each P l → Each P x
+  each-reads {l} {x} q h = subst (Each P) (sym (q .is)) (each-reading l (q .start) (q .back) h)

@@ -1,0 +1,14 @@
+-- The modules that belong to no one function.
+pub mod Each
+pub mod Passing
+pub mod Bytes
+pub mod Laid
+pub mod Books
+pub mod Checks
+pub mod Found
+pub mod Exact
+pub mod Counts
+pub mod Lent
+pub mod Theorems
+pub mod Only
+pub mod Worked

@@ -1,0 +1,66 @@
+-- What is asked of the book, over what is lent: lists of f64s with vertex counts, and files. Assumes nothing.
+use Prim.Native.Nat.{ℕ, _≤_}
+use native.Mathlib.Omega.{arith}
+use mathlib.Core.Path.{_≡_, sym, ap, _∙_}
+use mathlib.Core.Logic.{_↔_}
+use mathlib.Core.Bool.{true}
+use mathlib.Core.List.{List}
+use lib.ListN.{length}
+use lib.Ieee.{Float}
+use borrow.Author.Tests.{le-leb}
+use Rattle.refusals.specs.Refusals.{passed, unless}
+use Rattle.book_layout.specs.Layout.{bookOf, Each, SameOutlines, coordsOf, countsOf}
+use Rattle.book_layout.specs.Faults.{_passes, bookCheck}
+use Rattle.book_layout.specs.Writer.{ringsFrom, writeRefusal}
+use Rattle.book_layout.specs.Reader.{numbersOf, holdsAll, readRefusal}
+use Rattle.book_layout.proofs.Passing.{both}
+use Rattle.book_layout.proofs.Books.{same-book}
+use Rattle.book_layout.proofs.Found.{Byte}
+use Rattle.book_layout.proofs.Exact.{written-again, book-passes}
+use Rattle.book_layout.proofs.Lent.{Formed, formed, takes, taken, held-accepted, handed, read-held, read-size, total-bounds}
+
+-- The writer can write the file f: it takes some lists of numbers and counts, with room for just that file, and their book is f.
+pub record Writes (xs : List Float) (ns f : List ℕ) : Type 0 where
+  pub formed : Formed xs
+  pub taken : writeRefusal xs ns (length f) passes
+  pub book : bookOf (ringsFrom ns xs) ≡ f
+
+-- For two lists of rings that the writer takes, the books are the same bytes exactly if the lists are equally long and each ring is, bit for bit, a
+-- reading of the one at its place.
+pub same-bytes : (xs ys : List Float) (ns ms : List ℕ) (s t : ℕ) → Formed xs → Formed ys → writeRefusal xs ns s passes → writeRefusal ys ms t passes
+    → (bookOf (ringsFrom ns xs) ≡ bookOf (ringsFrom ms ys)) ↔ SameOutlines (ringsFrom ns xs) (ringsFrom ms ys)
+same-bytes xs ys ns ms s t f g h k =
+    same-book (ringsFrom ns xs) (ringsFrom ms ys) (held-accepted xs ns f (takes xs ns s h .0)) (held-accepted ys ms g (takes ys ms t k .0))
+
+-- Writing what was read gives that file again.
+pub again : (f : List ℕ) (room counts : ℕ) → Each Byte f → readRefusal f room counts passes → Writes (numbersOf f) (countsOf f) f
+unfolding readRefusal
+again f room counts bytes h =
+    let ok = both (bookCheck f) (unless (holdsAll f room counts) 4) h .0 in
+    record {
+      formed = formed (coordsOf f);
+      taken = taken (numbersOf f) (countsOf f) (length f) (read-held f bytes ok) (omega (arith, read-size f bytes ok));
+      book = ap bookOf (handed f bytes ok) ∙ written-again f bytes ok;
+    }
+
+-- The reader, given room enough, accepts a file exactly if the writer can write it.
+pub accepts : (f : List ℕ) (room counts : ℕ) → Each Byte f → holdsAll f room counts ≡ true
+    → (readRefusal f room counts passes) ↔ ((xs : List Float) × (ns : List ℕ) × Writes xs ns f)
+unfolding readRefusal
+accepts f room counts bytes enough = (
+  λ h. (numbersOf f, countsOf f, again f room counts bytes h),
+  λ w.
+      let rs = ringsFrom (w .1) (w .0) in
+      let ok : bookCheck f passes =
+      ap (λ (g : List ℕ). passed (bookCheck g)) (sym (w .2 .book))
+      ∙ book-passes rs (held-accepted (w .0) (w .1) (w .2 .formed) (takes (w .0) (w .1) (length f) (w .2 .taken) .0)) in
+      rw (ok, enough),
+)
+
+-- Room for 4,096 numbers and 8 counts is enough for every file that passes the checks.
+pub enough : (f : List ℕ) (room counts : ℕ) → Each Byte f → bookCheck f passes → 4096 ≤ room → 8 ≤ counts → holdsAll f room counts ≡ true
+enough f room counts bytes ok h k =
+    let held = read-held f bytes ok in
+    let n : length (numbersOf f) ≤ room = omega (arith, held .whole, held .few, total-bounds (countsOf f) (held .sized)) in
+    let m : length (countsOf f) ≤ counts = omega (arith, held .few) in
+    rw (le-leb (length (numbersOf f)) room n, le-leb (length (countsOf f)) counts m)

@@ -1,0 +1,81 @@
+-- Worked examples, computed. Assumes nothing.
+use Prim.Native.Nat.{ℕ, _-_}
+use mathlib.Core.Path.{_≡_, refl}
+use mathlib.Core.Bool.{false, true}
+use mathlib.Core.List.{List, [], _∷_}
+use lib.ListN.{length, take, set}
+use lib.IntN.{pos}
+use lib.Ieee.{Float, fin, toBits, ofBits}
+use Rattle.refusals.specs.Refusals.{none}
+use Rattle.refusals.specs.Bounds.{coordinate}
+use Rattle.reading.specs.Reading.{Vertex, ord, less, best, bestOf, leastReading}
+use Rattle.reading.specs.Lent.{kept, ringOf}
+use Rattle.book_layout.specs.Layout.{bytesOf, numberOf, coordBytes, body, entries, layout, bookOf, coordinateBits, total, coordsIn, countsIn, countsOf, ringCount, entryOffset}
+use Rattle.book_layout.specs.Faults.{faultAt, entriesCheck, coordsCheck, leastCheck, bookCheck}
+
+abbrev zero : Float
+zero = fin false 0 (pos 0)
+
+abbrev three : Float
+three = fin false 3 (pos 0)
+
+abbrev four : Float
+four = fin false 1 (pos 2)
+
+-- the ring (4,0), (0,3), (0,0)
+abbrev triangle : List (List Vertex)
+triangle = ringOf (four ∷ zero ∷ zero ∷ three ∷ zero ∷ zero ∷ []) ∷ []
+
+-- its book: (0,0), (0,3), (4,0), its entry, and the two last fields
+abbrev book : List ℕ
+book =
+    0 ∷ 0 ∷ 0 ∷ 0 ∷ 0 ∷ 0 ∷ 0 ∷ 0 ∷ 0 ∷ 0 ∷ 0 ∷ 0 ∷ 0 ∷ 0 ∷ 0 ∷ 0
+    ∷ 0 ∷ 0 ∷ 0 ∷ 0 ∷ 0 ∷ 0 ∷ 0 ∷ 0 ∷ 0 ∷ 0 ∷ 0 ∷ 0 ∷ 0 ∷ 0 ∷ 8 ∷ 64
+    ∷ 0 ∷ 0 ∷ 0 ∷ 0 ∷ 0 ∷ 0 ∷ 16 ∷ 64 ∷ 0 ∷ 0 ∷ 0 ∷ 0 ∷ 0 ∷ 0 ∷ 0 ∷ 0
+    ∷ 0 ∷ 0 ∷ 0 ∷ 0 ∷ 3 ∷ 0 ∷ 0 ∷ 0 ∷ 1 ∷ 0 ∷ 0 ∷ 0 ∷ 48 ∷ 0 ∷ 0 ∷ 0 ∷ []
+
+pub triangle-book : bookOf triangle ≡ book
+unfolding bookOf layout body entries coordBytes bytesOf leastReading bestOf best less ord kept toBits
+triangle-book = refl
+
+pub triangle-fine : bookCheck book ≡ none
+unfolding bookCheck entriesCheck coordsCheck leastCheck coordinateBits coordinate ofBits numberOf coordsIn countsIn countsOf ringCount entryOffset total bestOf best less ord
+triangle-fine = refl
+
+-- one fault each: the length, the ring count, the offset of the entries, the ring's offset, its vertices, where the rings end, the coordinate
+-- (2 ^ 20 and more, a NaN), and a ring that is not its least reading
+pub cut-short : bookCheck (take 63 book) ≡ faultAt 0
+unfolding bookCheck entriesCheck coordsCheck leastCheck coordinateBits coordinate ofBits numberOf coordsIn countsIn countsOf ringCount entryOffset total bestOf best less ord
+cut-short = refl
+
+pub no-rings : bookCheck (set book 56 0) ≡ faultAt 56
+unfolding bookCheck entriesCheck coordsCheck leastCheck coordinateBits coordinate ofBits numberOf coordsIn countsIn countsOf ringCount entryOffset total bestOf best less ord
+no-rings = refl
+
+pub entries-elsewhere : bookCheck (set book 60 47) ≡ faultAt 60
+unfolding bookCheck entriesCheck coordsCheck leastCheck coordinateBits coordinate ofBits numberOf coordsIn countsIn countsOf ringCount entryOffset total bestOf best less ord
+entries-elsewhere = refl
+
+pub ring-elsewhere : bookCheck (set book 48 1) ≡ faultAt 48
+unfolding bookCheck entriesCheck coordsCheck leastCheck coordinateBits coordinate ofBits numberOf coordsIn countsIn countsOf ringCount entryOffset total bestOf best less ord
+ring-elsewhere = refl
+
+pub two-vertices : bookCheck (set book 52 2) ≡ faultAt 52
+unfolding bookCheck entriesCheck coordsCheck leastCheck coordinateBits coordinate ofBits numberOf coordsIn countsIn countsOf ringCount entryOffset total bestOf best less ord
+two-vertices = refl
+
+pub four-vertices : bookCheck (set book 52 4) ≡ faultAt 60
+unfolding bookCheck entriesCheck coordsCheck leastCheck coordinateBits coordinate ofBits numberOf coordsIn countsIn countsOf ringCount entryOffset total bestOf best less ord
+four-vertices = refl
+
+pub too-large : bookCheck (set (set book 47 65) 46 48) ≡ faultAt 40
+unfolding bookCheck entriesCheck coordsCheck leastCheck coordinateBits coordinate ofBits numberOf coordsIn countsIn countsOf ringCount entryOffset total bestOf best less ord
+too-large = refl
+
+pub not-a-number : bookCheck (set (set book 39 127) 38 248) ≡ faultAt 32
+unfolding bookCheck entriesCheck coordsCheck leastCheck coordinateBits coordinate ofBits numberOf coordsIn countsIn countsOf ringCount entryOffset total bestOf best less ord
+not-a-number = refl
+
+pub as-given : bookCheck (layout triangle) ≡ faultAt 0
+unfolding layout body entries coordBytes bytesOf kept toBits bookCheck entriesCheck coordsCheck leastCheck coordinateBits coordinate ofBits numberOf coordsIn countsIn countsOf ringCount entryOffset total bestOf best less ord
+as-given = refl

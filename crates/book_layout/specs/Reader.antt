@@ -1,0 +1,34 @@
+-- The reader of a book: when it refuses a file, and what it leaves in the two rooms. Definitions only.
+use Prim.Native.Nat.{ℕ}
+use mathlib.Core.Bool.{Bool, _&&_, cond}
+use mathlib.Core.List.{List, [], _∷_, _++_, map}
+use lib.ListN.{length, drop}
+use lib.Dec.{leb}
+use lib.Ieee.{Float, binary64, ofBits}
+use Rattle.refusals.specs.Refusals.{unless, passed, firstOf}
+use Rattle.refusals.specs.declared.Refusal.{Refusal}
+use Rattle.book_layout.specs.Layout.{coordsOf, countsOf}
+use Rattle.book_layout.specs.Faults.{bookCheck}
+
+-- the numbers of a file, as stored
+abbrev pub numbersOf : List ℕ → List Float
+numbersOf f = map (ofBits binary64) (coordsOf f)
+
+-- rooms of so many numbers and so many counts hold the rings of the file and their counts
+abbrev pub holdsAll : List ℕ → ℕ → ℕ → Bool
+holdsAll f room counts = leb (length (numbersOf f)) room && leb (length (countsOf f)) counts
+
+-- the first of the tests that fails: 7 before 4
+unfoldable pub readRefusal : List ℕ → ℕ → ℕ → Refusal
+readRefusal f room counts = firstOf (bookCheck f ∷ unless (holdsAll f room counts) 4 ∷ [])
+
+-- a list at the front of a room, and then what the room held
+abbrev pub onto : {A : Type 0} → List A → List A → List A
+onto l room = l ++ drop (length l) room
+
+-- the two rooms as the call leaves them
+unfoldable pub readRoom : List ℕ → List Float → ℕ → List Float
+readRoom f room counts = cond (passed (readRefusal f (length room) counts)) (onto (numbersOf f) room) room
+
+unfoldable pub readCounts : List ℕ → ℕ → List ℕ → List ℕ
+readCounts f room counts = cond (passed (readRefusal f room (length counts))) (onto (countsOf f) counts) counts

@@ -1,0 +1,48 @@
+-- The writer of a book: what it is lent, when it refuses, and what it leaves in the room. Definitions only.
+use Prim.Native.Nat.{ℕ, _+_, _*_, _%_, _≤_}
+use mathlib.Core.Path.{_≡_}
+use mathlib.Core.Bool.{Bool, true, _&&_, cond}
+use mathlib.Core.List.{List, [], _∷_, _++_}
+use lib.ListN.{length, take, drop}
+use lib.Dec.{leb, eqb}
+use lib.Ieee.{Float}
+use Rattle.refusals.specs.Refusals.{unless, passed, firstOf}
+use Rattle.refusals.specs.Bounds.{coordinates}
+use Rattle.refusals.specs.declared.Refusal.{Refusal}
+use Rattle.reading.specs.Reading.{Vertex}
+use Rattle.reading.specs.Lent.{ringOf}
+use Rattle.book_layout.specs.Layout.{vertexBytes, entryBytes, tailBytes, within, total, bookOf}
+
+-- the rings of these vertex counts, one after the other
+unfoldable pub ringsFrom : List ℕ → List Float → List (List Vertex)
+ringsFrom [] xs = []
+ringsFrom (n ∷ ns) xs = ringOf (take (2 * n) xs) ∷ ringsFrom ns (drop (2 * n) xs)
+
+-- each ring has 3 to 256 vertices
+unfoldable pub sizedAll : List ℕ → Bool
+sizedAll [] = true
+sizedAll (n ∷ ns) = within 3 256 n && sizedAll ns
+
+-- how many bytes the book has
+abbrev pub bookSize : List ℕ → ℕ
+bookSize ns = vertexBytes * total ns + entryBytes * length ns + tailBytes
+
+-- the lengths of what is lent: an even list, 1 to 8 rings of 3 to 256 vertices, and the list is the sum of the counts
+unfoldable pub lengthsOk : List Float → List ℕ → Bool
+lengthsOk xs ns = eqb (length xs % 2) 0 && (within 1 8 (length ns) && (sizedAll ns && eqb (length xs) (2 * total ns)))
+
+-- the first of the tests that fails, for a room of so many bytes
+unfoldable pub writeRefusal : List Float → List ℕ → ℕ → Refusal
+writeRefusal xs ns size = firstOf (unless (lengthsOk xs ns) 1 ∷ unless (coordinates xs) 2 ∷ unless (leb (bookSize ns) size) 4 ∷ [])
+
+-- the room as the call leaves it: the book, and then what the room held
+unfoldable pub writeRoom : List Float → List ℕ → List ℕ → List ℕ
+writeRoom xs ns room = cond (passed (writeRefusal xs ns (length room))) (bookOf (ringsFrom ns xs) ++ drop (bookSize ns) room) room
+
+-- lists that pass the tests of the writer but for its room
+pub record Held (xs : List Float) (ns : List ℕ) : Type 0 where
+  pub one : 1 ≤ length ns
+  pub few : length ns ≤ 8
+  pub sized : sizedAll ns ≡ true
+  pub whole : length xs ≡ 2 * total ns
+  pub bounded : coordinates xs ≡ true

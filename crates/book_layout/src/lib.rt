@@ -1,0 +1,20 @@
+// The sizes of the outline book, in bytes, and the bounds of what it holds.
+pub const FIELD_BYTES: usize = 4;
+
+pub const COORDINATE_BYTES: usize = 8;
+
+pub const VERTEX_BYTES: usize = 16;
+
+pub const ENTRY_BYTES: usize = 8;
+
+pub const TAIL_BYTES: usize = 8;
+
+pub const VERTICES_LEAST: usize = 3;
+
+pub const VERTICES_MOST: usize = 256;
+
+pub const RINGS_MOST: usize = 8;
+
+pub const BOOK_LEAST: usize = VERTICES_LEAST * VERTEX_BYTES + ENTRY_BYTES + TAIL_BYTES;
+
+pub const BOOK_MOST: usize = RINGS_MOST * (VERTICES_MOST * VERTEX_BYTES + ENTRY_BYTES) + TAIL_BYTES;

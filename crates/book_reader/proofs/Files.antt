@@ -1,0 +1,139 @@
+-- A whole file, part by part: its last fields, its checks in order, and the reader's refusal, answer and rooms. Assumes nothing.
+use Prim.Native.Nat.{ℕ, _+_, _-_, _*_, _/_, _≤_, _<_}
+use native.Mathlib.Omega.{arith}
+use mathlib.Core.Path.{_≡_, refl, sym, ap, _∙_}
+use mathlib.Core.Bool.{Bool, true, false}
+use mathlib.Core.List.{List}
+use lib.ListN.{length, drop}
+use lib.Dec.{leb, eqb}
+use lib.Ieee.{Float}
+use borrow.Author.Tests.{le-leb, lt-leb, leb-true, eqb-true}
+use Rattle.refusals.specs.Refusals.{none, refuse, passed, unless, first}
+use Rattle.refusals.specs.Answers.{Outcome, answers, refuses, outcome, count}
+use Rattle.refusals.specs.declared.Refusal.{Refusal}
+use Rattle.refusals.specs.declared.answer.Count.{Count}
+use Rattle.refusals.proofs.First.{first-assoc}
+use Rattle.book_layout.specs.Layout.{within, total, ringCount, entryOffset, countsIn, countsOf}
+use Rattle.book_layout.specs.Faults.{faultAt, fault, _passes, entriesCheck, coordsCheck, leastCheck, bookCheck}
+use Rattle.book_layout.specs.Reader.{numbersOf, holdsAll, readRefusal, onto, readRoom, readCounts}
+use Rattle.book_layout.proofs.Passing.{both, held, told, and-both, is-within}
+use Rattle.book_layout.proofs.Lent.{length-numbers, length-counts}
+use Rattle.book_layout.proofs.Only.{count-only}
+use Rattle.book_reader.specs.Parts.{tailCheck, listCheck}
+
+-- ---- the last fields
+
+module _ (f : List ℕ) where
+  pub too-short : length f < 64 → faultAt 0 ≡ tailCheck f
+  unfolding tailCheck
+  too-short h = rw (lt-leb 64 (length f) h)
+
+  module _ (low : 64 ≤ length f) where
+    pub too-long : 32840 < length f → faultAt 0 ≡ tailCheck f
+    unfolding tailCheck
+    too-long h = rw (le-leb 64 (length f) low, lt-leb (length f) 32840 h)
+
+    module _ (high : length f ≤ 32840) where
+      pub bad-count : within 1 8 (ringCount f) ≡ false → faultAt (length f - 8) ≡ tailCheck f
+      unfolding tailCheck
+      bad-count h = rw (le-leb 64 (length f) low, le-leb (length f) 32840 high, h)
+
+      module _ (number : within 1 8 (ringCount f) ≡ true) where
+        pub bad-end : eqb (entryOffset f + 8 * ringCount f + 8) (length f) ≡ false → faultAt (length f - 4) ≡ tailCheck f
+        unfolding tailCheck
+        bad-end h = rw (le-leb 64 (length f) low, le-leb (length f) 32840 high, number, h)
+
+        pub good-end : eqb (entryOffset f + 8 * ringCount f + 8) (length f) ≡ true → none ≡ tailCheck f
+        unfolding tailCheck
+        good-end h = rw (le-leb 64 (length f) low, le-leb (length f) 32840 high, number, h)
+
+-- what it tells that they are right
+pub record Tail (f : List ℕ) : Type 0 where
+  pub low : 64 ≤ length f
+  pub high : length f ≤ 32840
+  pub few : ringCount f ≤ 8
+  pub sum : entryOffset f + 8 * ringCount f + 8 ≡ length f
+
+pub tail-passed : (f : List ℕ) → tailCheck f passes → Tail f
+unfolding tailCheck
+tail-passed f h =
+    let e = eqb (entryOffset f + 8 * ringCount f + 8) (length f) in
+    let t1 = fault (within 64 32840 (length f)) 0 in
+    let t2 = fault (within 1 8 (ringCount f)) (length f - 8) in
+    let t3 = fault e (length f - 4) in
+    let p = both t1 (first t2 t3) h in
+    let q = both t2 t3 (p .1) in
+    let w = is-within 64 32840 (length f) (held (within 64 32840 (length f)) 0 (p .0)) in
+    record {
+      low = w .0;
+      high = w .1;
+      few = is-within 1 8 (ringCount f) (held (within 1 8 (ringCount f)) (length f - 8) (q .0)) .1;
+      sum = eqb-true (entryOffset f + 8 * ringCount f + 8) (length f) (held e (length f - 4) (q .1));
+    }
+
+-- ---- the checks in order, in the four parts that `check_book` makes
+
+pub book-is : (f : List ℕ)
+    → bookCheck f
+    ≡ first (tailCheck f) (first (listCheck f (entryOffset f) (ringCount f)) (first (coordsCheck (entryOffset f / 8) 0 f) (leastCheck (countsIn (ringCount f) (drop (entryOffset f) f)) 0 f)))
+unfolding bookCheck tailCheck listCheck countsOf
+book-is f =
+    let k = ringCount f in
+    let e = entryOffset f in
+    let t1 = fault (within 64 32840 (length f)) 0 in
+    let t2 = fault (within 1 8 k) (length f - 8) in
+    let t3 = fault (eqb (e + 8 * k + 8) (length f)) (length f - 4) in
+    let v4 = entriesCheck k e 0 (drop e f) in
+    let t5 = fault (eqb (16 * total (countsIn k (drop e f))) e) (length f - 4) in
+    let v6 = first (coordsCheck (e / 8) 0 f) (leastCheck (countsIn k (drop e f)) 0 f) in
+    sym
+    (first-assoc t1 (first t2 t3) (first (first v4 t5) v6)
+    ∙ ap (first t1) (first-assoc t2 t3 (first (first v4 t5) v6) ∙ ap (λ (v : Refusal). first t2 (first t3 v)) (first-assoc v4 t5 v6)))
+
+-- ---- the refusal
+
+module _ (f : List ℕ) (room counts : ℕ) where
+  pub at-fault : passed (bookCheck f) ≡ false → bookCheck f ≡ readRefusal f room counts
+  unfolding readRefusal
+  at-fault h = rw h
+
+  module _ (ok : bookCheck f passes) where
+    pub small-room : room < entryOffset f / 8 → refuse 4 ≡ readRefusal f room counts
+    unfolding readRefusal
+    small-room h = rw (ok, lt-leb (length (numbersOf f)) room (omega (arith, length-numbers f)))
+
+    pub large-room : entryOffset f / 8 ≤ room → unless (leb (ringCount f) counts) 4 ≡ readRefusal f room counts
+    unfolding readRefusal
+    large-room h = rw (ok, le-leb (length (numbersOf f)) room (omega (arith, length-numbers f)), length-counts f)
+
+  pub reads : readRefusal f room counts passes → (bookCheck f passes) × (length (numbersOf f) ≤ room) × (length (countsOf f) ≤ counts)
+  unfolding readRefusal
+  reads h =
+      let p = both (bookCheck f) (unless (holdsAll f room counts) 4) h in
+      let q = and-both (leb (length (numbersOf f)) room) (leb (length (countsOf f)) counts) (told (holdsAll f room counts) 4 refl (p .1)) in
+      (p .0, leb-true (length (numbersOf f)) room (q .0), leb-true (length (countsOf f)) counts (q .1))
+
+-- ---- the answer and the rooms
+
+-- what `read_book` promises of its answer and of the two rooms that it leaves
+abbrev pub Promised : List ℕ → List Float → List ℕ → Count → List Float → List ℕ → Type 0
+Promised f room counts r x n =
+    (count r ≡ outcome (readRefusal f (length room) (length counts)) (length (countsOf f))) × (x ≡ readRoom f room (length counts)) × (n ≡ readCounts f (length room) counts)
+
+-- Two answers of the reader that meet its promise are equal, and so are the rooms.
+pub read-only : (f : List ℕ) (room : List Float) (counts : List ℕ) (r r' : Count) (x x' : List Float) (n n' : List ℕ)
+    → Promised f room counts r x n → Promised f room counts r' x' n' → (r ≡ r') × (x ≡ x') × (n ≡ n')
+read-only f room counts r r' x x' n n' p q = (count-only r r' (p .0 ∙ sym (q .0)), p .1 ∙ sym (q .1), p .2 ∙ sym (q .2))
+
+module _ (f : List ℕ) (room : List Float) (counts : List ℕ) (no-one : Refusal) (e : no-one ≡ readRefusal f (length room) (length counts)) where
+  pub refused : passed no-one ≡ false
+      → (_≡_ {A = Outcome ℕ} (refuses no-one) (outcome (readRefusal f (length room) (length counts)) (length (countsOf f)))) × (room ≡ readRoom f room (length counts)) × (counts ≡ readCounts f (length room) counts)
+  unfolding readRoom readCounts
+  refused h = ((rw (← e, h)), (rw (← e, h)), (rw (← e, h)))
+
+  pub read : passed no-one ≡ true
+      → (_≡_ {A = Outcome ℕ} (answers (length (countsOf f))) (outcome (readRefusal f (length room) (length counts)) (length (countsOf f))))
+      × (onto (numbersOf f) room ≡ readRoom f room (length counts))
+      × (onto (countsOf f) counts ≡ readCounts f (length room) counts)
+  unfolding readRoom readCounts
+  read h = ((rw (← e, h)), (rw (← e, h)), (rw (← e, h)))

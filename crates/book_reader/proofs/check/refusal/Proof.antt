@@ -1,0 +1,76 @@
+-- `book_reader::check::refusal` meets its contract: the first fault, and then the rooms. Assumes nothing.
+use Prim.Native.Nat.{ℕ, _/_}
+use mathlib.Core.Path.{_≡_, sym, ap, _∙_}
+use native.Mathlib.Omega.{arith}
+use borrow.Author.Needs.{needs}
+use borrow.Author.Tests.{not-true, not-false}
+use lib.Dec.{leb}
+use Rattle.refusals.specs.Refusals.{passed, unless}
+use Rattle.book_layout.specs.Faults.{_passes, bookCheck}
+use Rattle.book_layout.proofs.Exact.{checked}
+use Rattle.book_reader.proofs.Files.{at-fault, small-room, large-room}
+use Rattle.book_reader.proofs.check.refusal.Statement.{statement}
+use Rattle.book_reader.proofs.check.refusal.Tie as tie
+
+check-book-requires : tie.Need-check-book-requires
+check-book-requires c κs = search needs
+
+passed-requires : tie.Need-passed-requires
+passed-requires c κs = search needs
+
+returns : tie.Need-returns
+returns c =
+    let p = c .before in
+    let b = p .before in
+    let a = b .before .before .args in
+    b .check-book .ensures
+    ∙ at-fault (a .f .now) (a .room) (a .counts) (ap passed (sym (b .check-book .ensures)) ∙ sym (p .passed .ensures) ∙ not-true (p .passed .result) (c .if1 .taken))
+
+-- the file has no fault
+fine : (c : tie.Else1) → bookCheck (c .before .before .before .before .args .f .now) passes
+fine c =
+    let p = c .before in
+    ap passed (sym (p .before .check-book .ensures)) ∙ sym (p .passed .ensures) ∙ not-false (p .passed .result) (c .if1 .left)
+
+entry-offset-requires : tie.Need-entry-offset-requires
+entry-offset-requires c κs = omega (arith, checked (c .before .before .before .before .args .f .now) (fine c) .long)
+
+new-requires : tie.Need-new-requires
+new-requires c κs = search needs
+
+returns-2 : tie.Need-returns-2
+returns-2 c =
+    let o = c .before .before in
+    let e = o .before in
+    let a = e .before .before .before .before .args in
+    c .new .ensures ∙ small-room (a .f .now) (a .room) (a .counts) (fine e) (omega (arith, o .entry-offset .ensures .0, c .before .if2 .taken))
+
+ring-count-requires : tie.Need-ring-count-requires
+ring-count-requires c κs = let e = c .before .before in omega (arith, checked (e .before .before .before .before .args .f .now) (fine e) .long)
+
+unless-requires : tie.Need-unless-requires
+unless-requires c κs = search needs
+
+returns-3 : tie.Need-returns-3
+returns-3 c =
+    let k = c .before in
+    let o = k .before .before in
+    let e = o .before in
+    let a = e .before .before .before .before .args in
+    c .unless .ensures
+    ∙ ap (λ (n : ℕ). unless (leb n (a .counts)) 4) (k .ring-count .ensures .0)
+    ∙ large-room (a .f .now) (a .room) (a .counts) (fine e) (omega (arith, o .entry-offset .ensures .0, k .before .if2 .left))
+
+pub refusal-spec : {M : Type 1} → statement M
+refusal-spec =
+    tie.close
+    (tie.spec
+    check-book-requires
+    passed-requires
+    returns
+    entry-offset-requires
+    new-requires
+    returns-2
+    ring-count-requires
+    unless-requires
+    returns-3)

@@ -1,0 +1,2 @@
+-- The definitions that the contracts of book_reader's inner functions cite.
+pub mod Parts

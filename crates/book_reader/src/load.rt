@@ -1,0 +1,56 @@
+// What a file holds, loaded into rooms.
+use crate::number::entry_offset;
+use crate::number::number4;
+use crate::number::number8;
+use crate::number::ring_count;
+use book_layout::COORDINATE_BYTES;
+use book_layout::ENTRY_BYTES;
+use book_layout::FIELD_BYTES;
+ghost use mathlib.Core.Path.{_≡_};
+ghost use mathlib.Core.List.{map};
+ghost use Prim.Native.Nat.{_+_, _*_, _≤_};
+ghost use lib.ListN.{length, drop};
+ghost use lib.Seq.{sets};
+ghost use lib.Ieee.{binary64, ofBits};
+ghost use Rattle.book_layout.specs.Layout.{coordsIn, countsIn, countsOf};
+ghost use Rattle.book_layout.specs.Faults.{_passes, coordsCheck, bookCheck};
+ghost use Rattle.book_layout.specs.Reader.{numbersOf, onto};
+
+// The m numbers from f[at] on, at the room's front.
+pub fn load(f: &[u8], at: usize, m: usize, room: &mut [f64])
+    requires { ⌜ (at + 8 * m ≤ length (now f)) × (m ≤ length (now room)) × (length (now f) ≤ 32840) ⌝ }
+    requires { ⌜ coordsCheck m at (drop at (now f)) passes ⌝ }
+    ensures { λ _. ⌜ now (room .exit) ≡ sets (now (room .entry)) 0 (map (ofBits binary64) (coordsIn m (drop at (now (f .entry))))) ⌝ }
+{
+    let mut j = 0;
+    while j < m {
+        let b = number8(f, at + COORDINATE_BYTES * j);
+        room[j] = f64::from_bits(b);
+        j += 1;
+    }
+}
+
+// The vertex counts of the k entries from f[from] on, at the front of counts.
+fn load_counts(f: &[u8], from: usize, k: usize, counts: &mut [u32])
+    requires { ⌜ (from + 8 * k + 8 ≡ length (now f)) × (k ≤ 8) × (k ≤ length (now counts)) ⌝ }
+    ensures { λ _. ⌜ now (counts .exit) ≡ sets (now (counts .entry)) 0 (countsIn k (drop from (now (f .entry)))) ⌝ }
+{
+    let mut i = 0;
+    while i < k {
+        counts[i] = number4(f, from + ENTRY_BYTES * i + FIELD_BYTES) as u32;
+        i += 1;
+    }
+}
+
+// The rings of a file that passes the checks, and their vertex counts, at the fronts of the two rooms. Answers how many rings there are.
+pub fn load_book(f: &[u8], room: &mut [f64], counts: &mut [u32]) -> usize
+    requires { ⌜ bookCheck (now f) passes ⌝ }
+    requires { ⌜ (length (numbersOf (now f)) ≤ length (now room)) × (length (countsOf (now f)) ≤ length (now counts)) ⌝ }
+    ensures { λ r. ⌜ (r ≡ length (countsOf (now (f .entry)))) × (now (room .exit) ≡ onto (numbersOf (now (f .entry))) (now (room .entry))) × (now (counts .exit) ≡ onto (countsOf (now (f .entry))) (now (counts .entry))) ⌝ }
+{
+    let from = entry_offset(f);
+    let k = ring_count(f);
+    load(f, 0, from / COORDINATE_BYTES, room);
+    load_counts(f, from, k, counts);
+    k
+}

@@ -1,0 +1,89 @@
+-- The bytes that `put_book` stores are the book. Assumes nothing.
+use Prim.Native.Nat.{ℕ, _+_, _*_, _≤_}
+use native.Mathlib.Omega.{arith}
+use mathlib.Core.Path.{_≡_, refl, sym, ap, ap₂, _∙_}
+use mathlib.Core.Bool.{true}
+use mathlib.Core.List.{List, [], _∷_, _++_, map}
+use lib.ListN.{length, take, drop, length-append, length-drop, length-map}
+use lib.Seq.{sets, sets-eq}
+use lib.Ieee.{Float}
+use Rattle.reading.specs.Reading.{Vertex, leastReading}
+use Rattle.reading.specs.Lent.{ringOf}
+use Rattle.reading.proofs.Leasts.{length-least}
+use Rattle.book_layout.specs.Layout.{within, bytesOf, entries, layout, bookOf, total}
+use Rattle.book_layout.specs.Writer.{ringsFrom, sizedAll, bookSize}
+use Rattle.book_layout.proofs.Bytes.{length-bytesOf, length-entries}
+use Rattle.book_layout.proofs.Checks.{body-total}
+use Rattle.book_layout.proofs.Passing.{and-both, is-within}
+use Rattle.book_layout.proofs.Lent.{ring-count}
+use Rattle.book_writer.proofs.Storing.{stored, sets-append}
+
+stored-counts : (ns : List ℕ) (xs : List Float) → sizedAll ns ≡ true → 2 * total ns ≤ length xs → map length (map leastReading (ringsFrom ns xs)) ≡ ns
+unfolding ringsFrom sizedAll total
+stored-counts [] xs s h = refl
+stored-counts (n ∷ ns) xs s h =
+    let p = and-both (within 3 256 n) (sizedAll ns) s in
+    let c : length (ringOf (take (2 * n) xs)) ≡ n = ring-count n xs (omega arith) in
+    ap₂ (λ (a : ℕ) (b : List ℕ). a ∷ b)
+    (length-least (ringOf (take (2 * n) xs)) (omega (arith, is-within 3 256 n (p .0))) ∙ c)
+    (stored-counts ns (drop (2 * n) xs) (p .1) (omega (arith, length-drop (2 * n) xs)))
+
+-- the book that is stored, and the room
+module _ (xs : List Float) (ns room : List ℕ) (sized : sizedAll ns ≡ true) (whole : length xs ≡ 2 * total ns) where
+  abbrev kept : List (List Vertex)
+  kept = map leastReading (ringsFrom ns xs)
+
+  same-counts : map length kept ≡ ns
+  same-counts = stored-counts ns xs sized (omega arith)
+
+  stored-length : length (stored ns xs) ≡ 16 * total ns
+  stored-length = body-total kept ∙ ap (λ (l : List ℕ). 16 * total l) same-counts
+
+  rings-number : length kept ≡ length ns
+  rings-number = sym (length-map kept length) ∙ ap length same-counts
+
+  book-is : bookOf (ringsFrom ns xs) ≡ stored ns xs ++ (entries 0 ns ++ (bytesOf 4 (length ns) ++ bytesOf 4 (16 * total ns)))
+  unfolding bookOf layout
+  book-is = rw (same-counts, rings-number, stored-length)
+
+  book-length : length (bookOf (ringsFrom ns xs)) ≡ bookSize ns
+  book-length =
+      ap length book-is
+      ∙ omega (
+        arith,
+        length-append (stored ns xs) (entries 0 ns ++ (bytesOf 4 (length ns) ++ bytesOf 4 (16 * total ns))),
+        length-append (entries 0 ns) (bytesOf 4 (length ns) ++ bytesOf 4 (16 * total ns)),
+        length-append (bytesOf 4 (length ns)) (bytesOf 4 (16 * total ns)),
+        length-bytesOf 4 (length ns),
+        length-bytesOf 4 (16 * total ns),
+        length-entries 0 ns,
+        stored-length,
+      )
+
+  -- the four runs of stores, one after the other
+  pub four-runs : bookSize ns ≤ length room
+      → sets (sets (sets (sets room 0 (stored ns xs)) (16 * total ns) (entries 0 ns)) (16 * total ns + 8 * length ns) (bytesOf 4 (length ns))) (16 * total ns + 8 * length ns + 4) (bytesOf 4 (16 * total ns))
+      ≡ bookOf (ringsFrom ns xs) ++ drop (bookSize ns) room
+  four-runs h =
+      let f = 16 * total ns in
+      let a = stored ns xs in
+      let b = entries 0 ns in
+      let c = bytesOf 4 (length ns) in
+      let d = bytesOf 4 f in
+      let e1 : 0 + length a ≡ f = omega (arith, stored-length) in
+      let e2 : f + length b ≡ f + 8 * length ns = omega (arith, length-entries 0 ns) in
+      let e3 : f + 8 * length ns + length c ≡ f + 8 * length ns + 4 = omega (arith, length-bytesOf 4 (length ns)) in
+      let r1 = sets room 0 a in
+      let r2 = sets r1 f b in
+      let z : sets room 0 (a ++ (b ++ (c ++ d))) ≡ sets (sets r2 (f + 8 * length ns) c) (f + 8 * length ns + 4) d =
+      sets-append room 0 a (b ++ (c ++ d))
+      ∙ ap (λ (j : ℕ). sets r1 j (b ++ (c ++ d))) e1
+      ∙ sets-append r1 f b (c ++ d)
+      ∙ ap (λ (j : ℕ). sets r2 j (c ++ d)) e2
+      ∙ sets-append r2 (f + 8 * length ns) c d
+      ∙ ap (λ (j : ℕ). sets (sets r2 (f + 8 * length ns) c) j d) e3 in
+      let n : 0 + length (bookOf (ringsFrom ns xs)) ≡ bookSize ns = omega (arith, book-length) in
+      sym z
+      ∙ ap (sets room 0) (sym book-is)
+      ∙ sets-eq (bookOf (ringsFrom ns xs)) room 0 (omega arith)
+      ∙ ap (λ (j : ℕ). bookOf (ringsFrom ns xs) ++ drop j room) n

@@ -1,0 +1,106 @@
+// The bytes of a book, stored in a room.
+use crate::lent::sum_of;
+use book_layout::COORDINATE_BYTES;
+use book_layout::ENTRY_BYTES;
+use book_layout::FIELD_BYTES;
+use book_layout::TAIL_BYTES;
+use book_layout::VERTEX_BYTES;
+use reading::coordinate;
+use reading::least;
+ghost use mathlib.Core.Path.{_≡_};
+ghost use mathlib.Core.List.{map, _++_};
+ghost use Prim.Native.Nat.{_+_, _*_, _<_, _≤_};
+ghost use lib.ListN.{length, drop};
+ghost use lib.Seq.{sets};
+ghost use Rattle.reading.specs.Reading.{flat, choice, leastReading};
+ghost use Rattle.reading.specs.Lent.{ringOf, Lent};
+ghost use Rattle.book_layout.specs.Layout.{bytesOf, coordBytes, body, entries, total, bookOf};
+ghost use Rattle.book_layout.specs.Writer.{ringsFrom, bookSize, Held};
+
+// The k low bytes of n, the lowest first, from room[at] on.
+fn put(room: &mut [u8], at: usize, k: usize, n: u64)
+    requires { ⌜ at + k ≤ length (now room) ⌝ }
+    ensures { λ _. ⌜ now (room .exit) ≡ sets (now (room .entry)) at (bytesOf k n) ⌝ }
+{
+    let mut rest = n;
+    let mut i = 0;
+    while i < k {
+        room[at + i] = (rest % 256) as u8;
+        rest = rest / 256;
+        i += 1;
+    }
+}
+
+// The reading c of a ring, from room[at] on.
+fn put_ring(ring: &[f64], c: usize, room: &mut [u8], at: usize)
+    requires { ⌜ Lent (now ring) ⌝ }
+    requires { ⌜ (c < length (now ring)) × (at + 8 * length (now ring) ≤ length (now room)) ⌝ }
+    ensures { λ _. ⌜ now (room .exit) ≡ sets (now (room .entry)) at (coordBytes (flat (choice (ringOf (now (ring .entry))) c))) ⌝ }
+{
+    let mut j = 0;
+    while j < ring.len() {
+        let b = coordinate(ring, c, j);
+        put(room, at + COORDINATE_BYTES * j, COORDINATE_BYTES, b);
+        j += 1;
+    }
+}
+
+// The least reading of a ring, from room[at] on.
+fn put_least(ring: &[f64], room: &mut [u8], at: usize)
+    requires { ⌜ Lent (now ring) ⌝ }
+    requires { ⌜ (0 < length (now ring)) × (at + 8 * length (now ring) ≤ length (now room)) ⌝ }
+    ensures { λ _. ⌜ now (room .exit) ≡ sets (now (room .entry)) at (coordBytes (flat (leastReading (ringOf (now (ring .entry)))))) ⌝ }
+{
+    let c = least(ring);
+    put_ring(ring, c, room, at);
+}
+
+// The rings, each in its least reading, from the front of the room.
+fn put_rings(xs: &[f64], counts: &[u32], room: &mut [u8])
+    requires { ⌜ Held (now xs) (now counts) ⌝ }
+    requires { ⌜ 8 * length (now xs) ≤ length (now room) ⌝ }
+    ensures { λ _. ⌜ now (room .exit) ≡ sets (now (room .entry)) 0 (body (map leastReading (ringsFrom (now (counts .entry)) (now (xs .entry))))) ⌝ }
+{
+    let mut at = 0;
+    let mut i = 0;
+    while i < counts.len() {
+        let n = counts[i] as usize;
+        let end = at + 2 * n;
+        put_least(&xs[at..end], room, COORDINATE_BYTES * at);
+        at = end;
+        i += 1;
+    }
+}
+
+// The entries, from room[from] on.
+fn put_entries(counts: &[u32], room: &mut [u8], from: usize)
+    requires { ⌜ (length (now counts) ≤ 8) × (from + 8 * length (now counts) ≤ length (now room)) ⌝ }
+    requires { ⌜ 16 * total (now counts) ≤ 32768 ⌝ }
+    ensures { λ _. ⌜ now (room .exit) ≡ sets (now (room .entry)) from (entries 0 (now (counts .entry))) ⌝ }
+{
+    let mut before: usize = 0;
+    let mut i = 0;
+    while i < counts.len() {
+        let n = counts[i] as usize;
+        let at = from + ENTRY_BYTES * i;
+        put(room, at, FIELD_BYTES, before as u64);
+        put(room, at + FIELD_BYTES, FIELD_BYTES, n as u64);
+        before += VERTEX_BYTES * n;
+        i += 1;
+    }
+}
+
+// The whole book, and how many bytes it has. The rest of the room stays.
+pub fn put_book(xs: &[f64], counts: &[u32], room: &mut [u8]) -> usize
+    requires { ⌜ Held (now xs) (now counts) ⌝ }
+    requires { ⌜ bookSize (now counts) ≤ length (now room) ⌝ }
+    ensures { λ r. ⌜ (r ≡ bookSize (now (counts .entry))) × (now (room .exit) ≡ bookOf (ringsFrom (now (counts .entry)) (now (xs .entry))) ++ drop (bookSize (now (counts .entry))) (now (room .entry))) ⌝ }
+{
+    let from = VERTEX_BYTES * sum_of(counts);
+    let tail = from + ENTRY_BYTES * counts.len();
+    put_rings(xs, counts, room);
+    put_entries(counts, room, from);
+    put(room, tail, FIELD_BYTES, counts.len() as u64);
+    put(room, tail + FIELD_BYTES, FIELD_BYTES, from as u64);
+    tail + TAIL_BYTES
+}

@@ -1,0 +1,9 @@
+-- The modules that belong to no one function.
+pub mod Turning
+pub mod Order
+pub mod Leasts
+pub mod Own
+pub mod Places
+pub mod Size
+pub mod KeptBits
+pub mod Worked

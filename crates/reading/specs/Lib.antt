@@ -1,0 +1,3 @@
+-- The definitions that the contracts of reading, and of the book's crates above it, cite.
+pub mod Reading
+pub mod Lent

@@ -1,0 +1,99 @@
+// The readings of a lent ring by number, their order, and the least of them.
+ghost use mathlib.Core.Path.{_≡_};
+ghost use mathlib.Core.Bool.{not};
+ghost use Prim.Native.Nat.{_*_, _<_, _≤_};
+ghost use lib.ListN.{length, getD};
+ghost use lib.Dec.{T};
+ghost use lib.Ieee.{isNan};
+ghost use Rattle.reading.specs.Reading.{ord, flat, choice, earlier, bestOf, isLeast};
+ghost use Rattle.reading.specs.Lent.{kept, ringOf, Lent, vertexOf};
+
+// A coordinate's bits as a book keeps them.
+fn bits(x: f64) -> u64
+    requires { ⌜ T (not (isNan x)) ⌝ }
+    ensures { λ r. ⌜ r ≡ kept x ⌝ }
+{
+    f64::to_bits(x)
+}
+
+// The place of a bit pattern in the order of numbers by size, -0.0 before +0.0.
+fn key(b: u64) -> u64
+    ensures { λ r. ⌜ r ≡ ord b ⌝ }
+{
+    if b < 0x8000_0000_0000_0000 {
+        0x8000_0000_0000_0000 + b
+    } else {
+        0xffff_ffff_ffff_ffff - b
+    }
+}
+
+// Where vertex i of the reading c lies on a ring of n vertices.
+fn vertex(n: usize, c: usize, i: usize) -> usize
+    requires { ⌜ (n ≤ 256) × (c < 2 * n) × (i < n) ⌝ }
+    ensures { λ r. ⌜ (r ≡ vertexOf n c i) × (r < n) ⌝ }
+{
+    if c < n {
+        let v = c + i;
+        if v < n { v } else { v - n }
+    } else {
+        let v = c - i;
+        if v < n { v } else { v - n }
+    }
+}
+
+// The bits of coordinate j of the reading c.
+pub fn coordinate(ring: &[f64], c: usize, j: usize) -> u64
+    requires { ⌜ Lent (now ring) ⌝ }
+    requires { ⌜ (c < length (now ring)) × (j < length (now ring)) ⌝ }
+    ensures { λ r. ⌜ r ≡ getD (flat (choice (ringOf (now (ring .entry))) c)) j 0 ⌝ }
+{
+    let v = vertex(ring.len() / 2, c, j / 2);
+    bits(ring[2 * v + j % 2])
+}
+
+// Whether the reading a is before the reading b: the first difference decides.
+fn before(ring: &[f64], a: usize, b: usize) -> bool
+    requires { ⌜ Lent (now ring) ⌝ }
+    requires { ⌜ (a < length (now ring)) × (b < length (now ring)) ⌝ }
+    ensures { λ r. ⌜ r ≡ earlier (choice (ringOf (now (ring .entry))) a) (choice (ringOf (now (ring .entry))) b) ⌝ }
+{
+    let mut j = 0;
+    while j < ring.len() {
+        let u = key(coordinate(ring, a, j));
+        let v = key(coordinate(ring, b, j));
+        if u < v {
+            return true;
+        }
+        if v < u {
+            return false;
+        }
+        j += 1;
+    }
+    false
+}
+
+// The number of the first of the least readings.
+pub fn least(ring: &[f64]) -> usize
+    requires { ⌜ Lent (now ring) ⌝ }
+    requires { ⌜ 0 < length (now ring) ⌝ }
+    ensures { λ r. ⌜ (r ≡ bestOf (ringOf (now (ring .entry)))) × (r < length (now (ring .entry))) ⌝ }
+{
+    let mut best = 0;
+    let mut c = 1;
+    while c < ring.len() {
+        if before(ring, c, best) {
+            best = c;
+        }
+        c += 1;
+    }
+    best
+}
+
+// Whether a ring is its own least reading.
+pub fn is_least(ring: &[f64]) -> bool
+    requires { ⌜ Lent (now ring) ⌝ }
+    requires { ⌜ 0 < length (now ring) ⌝ }
+    ensures { λ r. ⌜ r ≡ isLeast (ringOf (now (ring .entry))) ⌝ }
+{
+    least(ring) == 0
+}
