@@ -7,6 +7,7 @@ use lib.Dec.{leb, eqb}
 use lib.Ieee.{Float, nan, inf, fin, up, down, lt, le}
 use Rattle.scalar.specs.Float.{f0, f1}
 use Rattle.plane.specs.declared.Point.{Point}
+use Rattle.refusals.specs.declared.Settings.{Settings}
 
 -- finite, of magnitude at most 1,000,000
 unfoldable pub coordinate : Float → Bool
@@ -51,3 +52,16 @@ listLength r = eqb (length r % 2) 0 && leb (length r) 20002
 -- above 0, at most 1
 abbrev pub toleranceOk : Float → Bool
 toleranceOk x = lt f0 x && le x f1
+
+-- a smallest move: finite, not negative
+abbrev pub smallestOk : Float → Bool
+smallestOk x = finite x && le f0 x
+
+-- the tolerance, the smallest move, at most 10,000 passes
+unfoldable pub settingsOk : Settings → Bool
+settingsOk s =
+    toleranceOk (s .«contact_tolerance») && (smallestOk (s .«min_translation») && leb (s .«max_iterations») 10000)
+
+-- whole points, and one at least
+abbrev pub workOk : ℕ → Bool
+workOk size = leb 2 size && eqb (size % 2) 0

@@ -6,8 +6,9 @@ use lib.Dec.{leb}
 use lib.Ieee.{Float}
 use Rattle.plane.specs.declared.Point.{Point}
 use Rattle.refusals.specs.Refusals.{unless, firstOf}
-use Rattle.refusals.specs.Bounds.{coordinates, allFinite, finitePoint, pointOk, ringLength, polygonLength, listLength, toleranceOk}
+use Rattle.refusals.specs.Bounds.{coordinates, allFinite, finitePoint, pointOk, ringLength, polygonLength, listLength, toleranceOk, settingsOk, workOk}
 use Rattle.refusals.specs.declared.Refusal.{Refusal}
+use Rattle.refusals.specs.declared.Settings.{Settings}
 
 -- 1: a list's length
 abbrev pub wrongLength : List Float → Refusal
@@ -33,9 +34,19 @@ wrongPosition p = unless (finitePoint p) 2
 abbrev pub wrongPoint : Point → Refusal
 wrongPoint p = unless (pointOk p) 2
 
--- 3: a tolerance
+-- 3: a tolerance, the settings
 abbrev pub wrongTolerance : Float → Refusal
 wrongTolerance t = unless (toleranceOk t) 3
+
+abbrev pub wrongSettings : Settings → Refusal
+wrongSettings s = unless (settingsOk s) 3
+
+-- 4: a work room that does not hold whole points, one at least; a result room shorter than it
+abbrev pub wrongWork : ℕ → Refusal
+wrongWork size = unless (workOk size) 4
+
+abbrev pub wrongResult : ℕ → ℕ → Refusal
+wrongResult work result = unless (leb work result) 4
 
 -- 5: so many points do not fit a room of so many numbers
 abbrev pub wrongRoom : ℕ → ℕ → Refusal

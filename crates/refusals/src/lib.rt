@@ -37,3 +37,10 @@ impl Refusal {
         self.number == 0
     }
 }
+
+// The settings of a trace: how near is a contact, how short a move is too short, and how many passes at most.
+pub struct Settings {
+    pub contact_tolerance: f64,
+    pub min_translation: f64,
+    pub max_iterations: u64,
+}

@@ -1,6 +1,7 @@
 // The tests of what calls are lent, as refusals: 1 for a list's length, 2 for a number, 3 for a setting, 5 for a room. A call
 // takes the first that refuses, in document 01's order.
 use crate::Refusal;
+use crate::Settings;
 use crate::test::are_coordinates;
 use crate::test::are_finite;
 use crate::test::is_finite_point;
@@ -8,11 +9,13 @@ use crate::test::is_list_length;
 use crate::test::is_point;
 use crate::test::is_polygon_length;
 use crate::test::is_ring_length;
+use crate::test::is_settings;
 use crate::test::is_tolerance;
+use crate::test::is_work_room;
 use plane::Point;
 ghost use mathlib.Core.Path.{_≡_};
 ghost use Rattle.refusals.specs.Refusals.{unless, first};
-ghost use Rattle.refusals.specs.Screens.{wrongLength, wrongPolygon, wrongList, wrongNumber, wrongInfinite, wrongPoint, wrongPosition, wrongTolerance, wrongRoom, ofPoints3, ofPoints4, ofNear, ofRing, ofTwoRings, ofTwoPolygons};
+ghost use Rattle.refusals.specs.Screens.{wrongLength, wrongPolygon, wrongList, wrongNumber, wrongInfinite, wrongPoint, wrongPosition, wrongTolerance, wrongSettings, wrongWork, wrongResult, wrongRoom, ofPoints3, ofPoints4, ofNear, ofRing, ofTwoRings, ofTwoPolygons};
 
 // The refusal with a number where a test does not hold.
 pub fn unless(ok: bool, number: u32) -> Refusal
@@ -86,6 +89,27 @@ pub fn tolerance(tol: f64) -> Refusal
     ensures { λ r. ⌜ r ≡ wrongTolerance tol ⌝ }
 {
     unless(is_tolerance(tol), 3)
+}
+
+// The settings of a trace.
+pub fn settings(s: Settings) -> Refusal
+    ensures { λ r. ⌜ r ≡ wrongSettings s ⌝ }
+{
+    unless(is_settings(s), 3)
+}
+
+// A work room of so many numbers.
+pub fn work_room(size: usize) -> Refusal
+    ensures { λ r. ⌜ r ≡ wrongWork size ⌝ }
+{
+    unless(is_work_room(size), 4)
+}
+
+// A result room beside a work room.
+pub fn result_room(work: usize, result: usize) -> Refusal
+    ensures { λ r. ⌜ r ≡ wrongResult work result ⌝ }
+{
+    unless(work <= result, 4)
 }
 
 // A room of size numbers for an answer of so many points.

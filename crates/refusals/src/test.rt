@@ -1,8 +1,9 @@
 // The tests of lent numbers and lists: bounds of a number, of a list's numbers and of its length.
+use crate::Settings;
 use plane::Point;
 ghost use mathlib.Core.Path.{_≡_};
 ghost use lib.ListN.{length};
-ghost use Rattle.refusals.specs.Bounds.{coordinate, coordinates, finite, allFinite, pointOk, finitePoint, ringLength, polygonLength, listLength, toleranceOk};
+ghost use Rattle.refusals.specs.Bounds.{coordinate, coordinates, finite, allFinite, pointOk, finitePoint, ringLength, polygonLength, listLength, toleranceOk, smallestOk, settingsOk, workOk};
 
 // Whether x is finite and of magnitude at most 1,000,000.
 pub fn is_coordinate(x: f64) -> bool
@@ -104,4 +105,33 @@ pub fn is_tolerance(x: f64) -> bool
     ensures { λ r. ⌜ r ≡ toleranceOk x ⌝ }
 {
     if x > 0.0 { x <= 1.0 } else { false }
+}
+
+// Whether a smallest move is finite and not negative.
+pub fn is_smallest(x: f64) -> bool
+    ensures { λ r. ⌜ r ≡ smallestOk x ⌝ }
+{
+    if is_finite(x) { x >= 0.0 } else { false }
+}
+
+// Whether each setting is within its bounds: the tolerance, the smallest move, at most 10,000 passes.
+pub fn is_settings(s: Settings) -> bool
+    ensures { λ r. ⌜ r ≡ settingsOk s ⌝ }
+{
+    if is_tolerance(s.contact_tolerance) {
+        if is_smallest(s.min_translation) {
+            s.max_iterations <= 10000
+        } else {
+            false
+        }
+    } else {
+        false
+    }
+}
+
+// Whether a work room of so many numbers holds whole points, and one at least.
+pub fn is_work_room(size: usize) -> bool
+    ensures { λ r. ⌜ r ≡ workOk size ⌝ }
+{
+    if size < 2 { false } else { size % 2 == 0 }
 }
