@@ -2,16 +2,16 @@
 use Prim.Native.Nat.{ℕ, zero, suc, _+_, _-_, _*_, _≤_, _<_}
 use native.Mathlib.Omega.{arith}
 use native.Mathlib.Decide.{decLt}
-use native.Mathlib.Nat.{not-suc-le-zero}
 use mathlib.Core.Path.{_≡_, refl, sym, ap, subst, _∙_}
+use mathlib.Core.Logic.{_↔_}
 use mathlib.Core.Bool.{Bool, true, false, not, cond}
-use mathlib.Core.List.{List, [], _∷_, _++_}
+use mathlib.Core.List.{List, [], _∷_}
 use lib.ListN.{length}
 use lib.Dec.{ltb}
 use borrow.Author.Tests.{ltb-true, ltb-false, lt-ltb, le-ltb}
-use Rattle.reading.specs.Reading.{rot, reading, Reads, Vertex, flat, vertices, less, earlier, choice, best, bestOf, leastReading}
-use Rattle.reading.proofs.Turning.{reads-refl, reads-sym, reads-trans, reads-length}
-use Rattle.reading.proofs.Order.{less-irrefl, less-conn, less-trans, most-trans, less-weave, no-bool}
+use Rattle.reading.specs.Reading.{reading, Reads, Vertex, flat, vertices, less, earlier, choice, best, bestOf, leastReading}
+use Rattle.reading.proofs.Turning.{reads-sym, reads-trans, reads-length}
+use Rattle.reading.proofs.Order.{less-irrefl, less-conn, less-trans, no-bool}
 
 -- ---- the readings by number
 
@@ -25,7 +25,7 @@ module _ {A : Type 0} (r : List A) where
       let e : length r + s - length r ≡ s = omega arith in
       rw (le-ltb (length r + s) (length r) h, e)
 
-  pub choice-reads : (c : ℕ) → c < 2 * length r → Reads r (choice r c)
+  choice-reads : (c : ℕ) → c < 2 * length r → Reads r (choice r c)
   choice-reads c h = go (ltb c (length r)) refl
     where
       go : (b : Bool) → ltb c (length r) ≡ b → Reads r (reading r (cond b c (c - length r)) (not b))
@@ -38,7 +38,7 @@ module _ {A : Type 0} (r : List A) where
   number s false h = (s, (omega arith), sym (choice-onward s h))
   number s true h = (length r + s, (omega arith), sym (choice-back s))
 
-  pub reads-choice : {x : List A} → Reads r x → (c : ℕ) × (c < 2 * length r) × (x ≡ choice r c)
+  reads-choice : {x : List A} → Reads r x → (c : ℕ) × (c < 2 * length r) × (x ≡ choice r c)
   reads-choice q =
       let n = number (q .start) (q .back) (q .within) in
       (n .0, n .1, q .is ∙ n .2)
@@ -79,27 +79,16 @@ module _ (r : List Vertex) where
       go false e (yes l) ih = ih (omega arith)
       go false e (no l) ih = ap (λ (k : List ℕ). less k (at (best r c))) (last l) ∙ e
 
-  -- it is the first of them: each one before it is strictly later
-  pub best-first : (c j : ℕ) → j < best r c → earlier (choice r (best r c)) (choice r j) ≡ true
-  unfolding best
-  best-first zero j h = absurd (not-suc-le-zero h)
-  best-first (suc c) j h = go (earlier (choice r (suc c)) (choice r (best r c))) refl h (best-first c j)
-    where
-      go : (b : Bool) → earlier (choice r (suc c)) (choice r (best r c)) ≡ b → j < cond b (suc c) (best r c)
-          → (j < best r c → earlier (choice r (best r c)) (choice r j) ≡ true) → earlier (choice r (cond b (suc c) (best r c))) (choice r j) ≡ true
-      go true e l ih = less-weave (flat (choice r (suc c))) (flat (choice r (best r c))) (flat (choice r j)) e (best-least c j (omega arith))
-      go false e l ih = ih l
-
-  pub bestOf-lt : 0 < length r → bestOf r < 2 * length r
+  bestOf-lt : 0 < length r → bestOf r < 2 * length r
   unfolding bestOf
   bestOf-lt h = omega (arith, best-le (2 * length r - 1))
 
--- the least reading is a reading
+-- The least reading is a reading,
 pub least-reads : (r : List Vertex) → 0 < length r → Reads r (leastReading r)
 unfolding leastReading
 least-reads r h = choice-reads r (bestOf r) (bestOf-lt r h)
 
--- and no reading is before it
+-- and no reading is before it.
 pub least-first : (r x : List Vertex) → Reads r x → earlier x (leastReading r) ≡ false
 unfolding leastReading bestOf
 least-first r x q =
@@ -133,6 +122,10 @@ same-least r x h q =
 pub reads-of-least : (r x : List Vertex) → 0 < length r → 0 < length x → leastReading r ≡ leastReading x → Reads r x
 reads-of-least r x h k e =
     reads-trans (least-reads r h) (subst (λ (l : List Vertex). Reads l x) (sym e) (reads-sym (least-reads x k)))
+
+-- Two rings have the same least reading exactly if one is a reading of the other.
+pub least-exactly : (r x : List Vertex) → 0 < length r → 0 < length x → (leastReading r ≡ leastReading x) ↔ Reads r x
+least-exactly r x h k = (reads-of-least r x h k, same-least r x h)
 
 -- the least reading of the least reading is itself
 pub least-again : (r : List Vertex) → 0 < length r → leastReading (leastReading r) ≡ leastReading r

@@ -6,4 +6,3 @@ pub mod Own
 pub mod Places
 pub mod Size
 pub mod KeptBits
-pub mod Worked

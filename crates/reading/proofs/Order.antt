@@ -1,12 +1,12 @@
 -- The order of lists of coordinates is total. Assumes nothing.
-use Prim.Native.Nat.{ℕ, zero, suc, _+_, _-_, _^_, _≤_, _<_}
+use Prim.Native.Nat.{ℕ, suc, _+_, _-_, _^_, _≤_, _<_}
 use native.Mathlib.Omega.{arith}
-use mathlib.Core.Path.{_≡_, refl, sym, ap, subst, _∙_}
+use mathlib.Core.Path.{_≡_, refl, sym, ap, _∙_}
 use mathlib.Core.Bool.{Bool, true, false, cond}
-use mathlib.Core.List.{List, [], _∷_, _++_}
+use mathlib.Core.List.{List, [], _∷_}
 use lib.Dec.{ltb}
 use borrow.Author.Tests.{ltb-true, ltb-false, lt-ltb, le-ltb}
-use Rattle.reading.specs.Reading.{ord, difference, less}
+use Rattle.reading.specs.Reading.{ord, less}
 use native.Mathlib.Decide.{decLt}
 
 -- ---- the place of a bit pattern
@@ -52,12 +52,12 @@ same-place a b o o' (beyond l e) (beyond l' e') q = omega arith
 pub ord-inj : (a b : ℕ) → ord a ≡ ord b → a ≡ b
 ord-inj a b e = same-place a b (ord a) (ord b) (placed a) (placed b) e
 
-pub data Apart (a b : ℕ) : Type 0 where
+data Apart (a b : ℕ) : Type 0 where
   lower : ord a < ord b → Apart a b
   equal : a ≡ b → Apart a b
   higher : ord b < ord a → Apart a b
 
-pub apart : (a b : ℕ) → Apart a b
+apart : (a b : ℕ) → Apart a b
 apart a b = go (decLt (ord a) (ord b)) (decLt (ord b) (ord a))
   where
     go : Dec (ord a < ord b) → Dec (ord b < ord a) → Apart a b
@@ -122,22 +122,3 @@ less-trans (a ∷ p) (b ∷ q) (c ∷ r) h k = go (apart a b) (apart b c) (less-
     go (lower l) (equal f) ih = less-lower a c p r (omega (arith, ap ord f))
     go (equal e) (lower m) ih = less-lower a c p r (omega (arith, ap ord e))
     go (equal e) (equal f) ih = less-equal a c p r (e ∙ f) ∙ ih (sym (less-equal a b p q e) ∙ h) (sym (less-equal b c q r f) ∙ k)
-
--- not after, and not after: not after
-pub most-trans : (p q r : List ℕ) → less q p ≡ false → less r q ≡ false → less r p ≡ false
-most-trans p q r h k = go (less r p) (less p q) refl refl
-  where
-    go : (s t : Bool) → less r p ≡ s → less p q ≡ t → s ≡ false
-    go false t e f = refl
-    go true true e f = no-bool (sym k ∙ less-trans r p q e f)
-    go true false e f =
-        let z : p ≡ q = less-conn p q f h in
-        no-bool (sym k ∙ subst (λ (l : List ℕ). less r l ≡ true) z e)
-
--- before the one, and the other not before the one: before the other
-pub less-weave : (p q r : List ℕ) → less p q ≡ true → less r q ≡ false → less p r ≡ true
-less-weave p q r h k = go (less p r) refl
-  where
-    go : (t : Bool) → less p r ≡ t → t ≡ true
-    go true e = refl
-    go false e = no-bool (sym (most-trans q r p k e) ∙ h)

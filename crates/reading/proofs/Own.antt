@@ -1,15 +1,13 @@
 -- A ring is its own least reading exactly if the first of its least readings is the reading 0. Assumes nothing.
-use Prim.Native.Nat.{ℕ, zero, suc, _+_, _-_, _*_, _≤_, _<_}
-use native.Mathlib.Omega.{arith}
+use Prim.Native.Nat.{ℕ, zero, suc, _-_, _*_, _<_}
 use mathlib.Core.Path.{_≡_, refl, sym, ap, _∙_}
 use mathlib.Core.Bool.{Bool, true, false, cond}
-use mathlib.Core.Logic.{_⊎_, inl, inr}
-use mathlib.Core.List.{List, [], _∷_, append-nil}
+use mathlib.Core.Logic.{_⊎_, inl, inr, _↔_}
+use mathlib.Core.List.{List, append-nil}
 use lib.ListN.{length}
-use borrow.Author.Tests.{lt-ltb}
-use Rattle.reading.specs.Reading.{Vertex, flat, less, earlier, choice, best, bestOf, leastReading}
+use borrow.Author.Tests.{lt-ltb, eq-eqb, eqb-true}
+use Rattle.reading.specs.Reading.{Vertex, flat, earlier, choice, best, bestOf, leastReading, isLeast}
 use Rattle.reading.proofs.Order.{less-irrefl, less-trans, no-bool}
-use Rattle.reading.proofs.Leasts.{length-least}
 
 choice-zero : (r : List Vertex) → 0 < length r → choice r 0 ≡ r
 choice-zero r h = rw (lt-ltb 0 (length r) h) (append-nil r)
@@ -43,3 +41,7 @@ is-own r h e = go (moved r (2 * length r - 1))
         ∙ ap (λ (l : List Vertex). earlier l r) (sym e)
         ∙ ap (λ (l : List Vertex). earlier (choice r (best r (2 * length r - 1))) l) (sym (choice-zero r h))
         ∙ t)
+
+-- The test for the least reading holds exactly of the rings that are their own least reading.
+pub own-exactly : (r : List Vertex) → 0 < length r → (isLeast r ≡ true) ↔ (leastReading r ≡ r)
+own-exactly r h = (λ t. own r h (eqb-true (bestOf r) 0 t), λ e. eq-eqb (bestOf r) 0 (is-own r h e))

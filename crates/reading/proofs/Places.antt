@@ -1,18 +1,18 @@
 -- Where the coordinates of a reading lie in the ring that is lent. Assumes nothing.
-use Prim.Native.Nat.{ℕ, zero, suc, _+_, _-_, _*_, _/_, _%_, _^_, _≤_, _<_}
+use Prim.Native.Nat.{ℕ, zero, suc, _+_, _-_, _*_, _/_, _%_, _≤_, _<_}
 use native.Mathlib.Omega.{arith}
 use native.Mathlib.Decide.{decLt}
-use native.Mathlib.Nat.{not-suc-le-zero, suc-sub-suc}
+use native.Mathlib.Nat.{not-suc-le-zero}
 use native.Mathlib.Numerals.{add-one}
-use mathlib.Core.Path.{_≡_, refl, sym, ap, subst, _∙_}
+use mathlib.Core.Path.{_≡_, refl, sym, ap, _∙_}
 use mathlib.Core.Bool.{Bool, true, false, not, cond}
 use mathlib.Core.List.{List, [], _∷_, _++_, map, reverse, reverse-cons}
-use lib.ListN.{length, getD, take, drop, length-append, length-drop, length-take, length-reverse, length-map, drop-of-length-le, List·getD-append, List·getD-map}
+use lib.ListN.{length, getD, take, drop, length-drop, length-reverse, length-map, drop-of-length-le, List·getD-append, List·getD-map}
 use lib.Seq.{getD-append-add, getD-at, getD-drop, getD-take, drop-cons}
-use lib.Dec.{T, ltb}
+use lib.Dec.{ltb}
 use lib.Ieee.{Float, nan}
 use borrow.Author.Tests.{ltb-true, ltb-false, lt-ltb, le-ltb}
-use Rattle.reading.specs.Reading.{rot, reading, Vertex, flat, vertices, ord, less, earlier, choice}
+use Rattle.reading.specs.Reading.{rot, reading, Vertex, flat, vertices, ord, less, choice}
 use Rattle.reading.specs.Lent.{kept, ringOf, wrap, vertexOf}
 use Rattle.reading.proofs.Turning.{length-rot, length-reading}
 use Rattle.reading.proofs.Leasts.{length-flat}
@@ -82,7 +82,7 @@ module _ {A : Type 0} (d : A) where
           let z : suc (length r) - suc i ≡ 0 = omega arith in
           getD-at (reverse r) a [] d i (omega (arith, e)) ∙ ap (λ (j : ℕ). getD (a ∷ r) j d) (sym z)
 
-  pub choice-at : (r : List A) (c i : ℕ) → c < 2 * length r → i < length r → getD (choice r c) i d ≡ getD r (vertexOf (length r) c i) d
+  choice-at : (r : List A) (c i : ℕ) → c < 2 * length r → i < length r → getD (choice r c) i d ≡ getD r (vertexOf (length r) c i) d
   choice-at r c i h l = go (ltb c (length r)) refl
     where
       go : (b : Bool) → ltb c (length r) ≡ b → getD (reading r (cond b c (c - length r)) (not b)) i d ≡ getD r (vertexOf (length r) c i) d
@@ -103,7 +103,7 @@ module _ {A : Type 0} (d : A) where
 -- ---- the coordinates
 
 -- in range, the default says nothing
-pub any-default : {A : Type 0} (l : List A) (i : ℕ) (d d' : A) → i < length l → getD l i d ≡ getD l i d'
+any-default : {A : Type 0} (l : List A) (i : ℕ) (d d' : A) → i < length l → getD l i d ≡ getD l i d'
 any-default [] i d d' h = absurd (not-suc-le-zero h)
 any-default (a ∷ l) zero d d' h = refl
 any-default (a ∷ l) (suc i) d d' h = any-default l i d d' (omega arith)

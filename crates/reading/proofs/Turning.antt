@@ -1,5 +1,5 @@
 -- To be a reading of: an equivalence of rings that are not empty. Assumes nothing.
-use Prim.Native.Nat.{ℕ, zero, suc, _+_, _-_, _≤_, _<_}
+use Prim.Native.Nat.{ℕ, zero, suc, _-_, _≤_, _<_}
 use native.Mathlib.Omega.{arith}
 use native.Mathlib.Decide.{decLt}
 use mathlib.Core.Path.{_≡_, refl, sym, ap, subst, _∙_}
@@ -77,17 +77,17 @@ module _ {A : Type 0} where
   reads-turn : {r x : List A} → Reads r x → Reads r (turn x)
   reads-turn {r} q = subst (λ (l : List A). Reads r (turn l)) (sym (q .is)) (turned r (q .start) (q .back) (q .within))
 
-  pub reads-reverse : {r x : List A} → Reads r x → Reads r (reverse x)
+  reads-reverse : {r x : List A} → Reads r x → Reads r (reverse x)
   reads-reverse {r} q = subst (λ (l : List A). Reads r (reverse l)) (sym (q .is)) (reversed r (q .start) (q .back) (q .within))
 
-  pub reads-rot : {r x : List A} (k : ℕ) → k ≤ length x → Reads r x → Reads r (rot k x)
+  reads-rot : {r x : List A} (k : ℕ) → k ≤ length x → Reads r x → Reads r (rot k x)
   reads-rot {r} {x} zero h q = subst (Reads r) (sym (rot-zero x)) q
   reads-rot {r} {x} (suc k) h q = subst (Reads r) (sym (turn-rot k x h)) (reads-turn (reads-rot k (omega arith) q))
 
   pub reads-length : {r x : List A} → Reads r x → length x ≡ length r
   reads-length {r} q = ap length (q .is) ∙ length-reading r (q .start) (q .back)
 
-  -- ---- an equivalence
+  -- ---- To be a reading of is an equivalence of rings that are not empty.
 
   pub reads-refl : (r : List A) → 0 < length r → Reads r r
   reads-refl r n = record { start = 0; back = false; within = n; is = sym (rot-zero r) }

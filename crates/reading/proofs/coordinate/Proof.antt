@@ -1,5 +1,5 @@
 -- `reading::coordinate` meets its contract: the vertex that the coordinate belongs to, and x or y of it. Assumes nothing.
-use Prim.Native.Nat.{_+_, _*_, _%_, _<_}
+use Prim.Native.Nat.{_+_, _*_, _%_}
 use mathlib.Core.Path.{_∙_}
 use native.Mathlib.Omega.{arith}
 use borrow.Author.Needs.{needs}

@@ -1,6 +1,5 @@
 -- `reading::key` meets its contract: the two tests of `ord`. Assumes nothing.
 use mathlib.Core.Path.{sym}
-use native.Mathlib.Omega.{arith}
 use borrow.Author.Needs.{needs}
 use Rattle.reading.proofs.Order.{ord-low, ord-high}
 use Rattle.reading.proofs.key.Statement.{statement}

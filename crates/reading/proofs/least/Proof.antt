@@ -1,8 +1,9 @@
-use Prim.Native.Nat.{ℕ, _+_, _*_, _-_, _/_, _%_, _≤_, _<_}
-use mathlib.Core.Path.{_≡_, refl, sym, ap, _∙_}
+-- `reading::least` meets its contract. The loop's invariant: best is the first of the least of the readings before c. Assumes nothing.
+use Prim.Native.Nat.{_-_, _≤_, _<_}
+use mathlib.Core.Path.{_≡_, sym, _∙_}
 use native.Mathlib.Omega.{arith}
-use lib.ListN.{length, getD}
 use borrow.Author.Needs.{needs}
+use lib.ListN.{length}
 use mathlib.Core.Logic.{⊎-elim}
 use Rattle.reading.specs.Reading.{best as bestTo}
 use Rattle.reading.specs.Lent.{ringOf}
@@ -21,9 +22,7 @@ loop-holds : tie.Need-loop-holds Inv-loop μ-loop
 loop-holds c = ((omega arith), (omega arith), best-start (ringOf (c .before .args .ring .now)), (omega arith))
 
 before-requires : tie.Need-before-requires Inv-loop μ-loop
-before-requires c κs =
-    let l = c .before in
-    (l .before .before .pre .0, (c .loop-test .taken, l .loop .inv .3))
+before-requires c κs = search needs
 
 add-c : tie.Need-add-c Inv-loop μ-loop
 add-c c = omega arith
@@ -38,7 +37,7 @@ loop-again c =
     let i = l .loop .c in
     let b = l .loop .best in
     let e = c .before .before2 .ensures in
-    let taken : i < length xs = c .before .before .loop-test .taken in
+    let taken : i < length xs = omega arith in
     ⊎-elim
     (λ t. ((omega arith), (omega arith), t .1 ∙ best-in (ringOf xs) i b (l .loop .inv .0) (l .loop .inv .2) (sym e ∙ t .0 .taken), (omega (arith, t .1))))
     (λ t. ((omega arith), (omega arith), t .1 ∙ best-out (ringOf xs) i b (l .loop .inv .0) (l .loop .inv .2) (sym e ∙ t .0 .left), (omega (arith, t .1, l .loop .inv .3))))

@@ -1,7 +1,4 @@
-use Prim.Native.Nat.{ℕ, _+_, _*_, _-_, _/_, _%_, _≤_, _<_}
-use mathlib.Core.Path.{_≡_, refl, sym, ap, _∙_}
-use native.Mathlib.Omega.{arith}
-use lib.ListN.{length, getD}
+-- `reading::vertex` meets its contract: onward or back, and round the end. Assumes nothing.
 use borrow.Author.Needs.{needs}
 use Rattle.reading.proofs.Places.{onward-low, onward-high, back-low, back-high}
 use Rattle.reading.proofs.vertex.Statement.{statement}

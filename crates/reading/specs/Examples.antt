@@ -1,7 +1,7 @@
 -- Worked examples, computed. Assumes nothing.
 use mathlib.Core.Path.{_≡_, refl}
 use mathlib.Core.Bool.{true, false}
-use mathlib.Core.List.{List, [], _∷_}
+use mathlib.Core.List.{[], _∷_}
 use lib.IntN.{pos}
 use lib.Ieee.{Float, fin, toBits}
 use Rattle.reading.specs.Reading.{ord, less, earlier, best, bestOf, leastReading, isLeast}
