@@ -1,20 +1,18 @@
 -- Two books are the same bytes exactly if the lists of rings are equally long and each ring is a reading of the one at its place. Assumes nothing.
-use Prim.Native.Nat.{ℕ, zero, suc, _+_, _-_, _*_, _≤_, _<_}
+use Prim.Native.Nat.{ℕ, zero, suc, _<_}
 use native.Mathlib.Omega.{arith}
 use native.Mathlib.Nat.{not-suc-le-zero}
-use mathlib.Core.Path.{_≡_, refl, sym, ap, subst, _∙_}
+use mathlib.Core.Path.{_≡_, refl, sym, ap}
 use mathlib.Core.Logic.{_↔_}
-use mathlib.Core.Bool.{Bool, true, false}
-use mathlib.Core.List.{List, [], _∷_, _++_, map, reverse, reverseAux}
-use lib.ListN.{length, getD, take, drop, length-map}
-use Rattle.reading.specs.Reading.{rot, reading, Reads, Vertex, leastReading}
+use mathlib.Core.List.{List, [], _∷_, map}
+use lib.ListN.{length, getD, length-map}
+use Rattle.reading.specs.Reading.{Reads, Vertex, leastReading}
 use Rattle.book_layout.specs.Layout.{layout, bookOf, Each, Corner, Outline, Accepted, SameOutlines}
-use Rattle.reading.proofs.Turning.{reads-length}
 use Rattle.reading.proofs.Leasts.{least-reads, length-least, same-least, reads-of-least}
 use Rattle.book_layout.proofs.Each.{each-reads}
 use Rattle.book_layout.proofs.Laid.{layout-inj}
 
-pub least-outline : (r : List Vertex) → Outline r → Outline (leastReading r)
+least-outline : (r : List Vertex) → Outline r → Outline (leastReading r)
 least-outline r o =
     let n : 0 < length r = omega (arith, o .least) in
     let e = length-least r n in

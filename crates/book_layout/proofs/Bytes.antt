@@ -1,14 +1,20 @@
 -- Numbers in bytes, and what a layout is read back as. Assumes nothing.
-use Prim.Native.Nat.{ℕ, zero, suc, _+_, _-_, _*_, _/_, _%_, _^_, _≤_, _<_}
+use Prim.Native.Nat.{ℕ, zero, suc, _+_, _*_, _/_, _^_, _≤_, _<_}
 use native.Mathlib.Omega.{arith}
-use native.Mathlib.Nat.{pow-succ', add-zero, mul-suc}
-use mathlib.Core.Path.{_≡_, refl, sym, ap, subst, _∙_}
-use mathlib.Core.List.{List, [], _∷_, _++_, map, append-assoc, append-nil}
-use lib.ListN.{length, take, drop, length-append, length-drop}
-use lib.Seq.{take-at, drop-at, drop-drop}
+use native.Mathlib.Nat.{pow-succ'}
+use mathlib.Core.Path.{_≡_, refl, sym, ap, _∙_}
+use mathlib.Core.List.{List, [], _∷_, _++_, map, append-assoc}
+use lib.ListN.{length, take, drop, length-append}
+use Rattle.ring.specs.Room.{laid}
+use lib.Seq.{sets, sets-eq, take-at, drop-at, drop-drop}
 use Rattle.reading.specs.Reading.{Vertex, flat, vertices}
-use Rattle.book_layout.specs.Layout.{bytesOf, numberOf, coordBytes, body, entries, layout, Each, Coordinate, Corner, Outline, Accepted, coordsIn, countsIn, ringsIn, ringCount, entryOffset, countsOf, ringsOf}
+use Rattle.book_layout.specs.Layout.{bytesOf, numberOf, coordBytes, body, entries, Each, Corner, Outline, coordsIn, countsIn, ringsIn}
 use Rattle.reading.proofs.Leasts.{vertices-flat, length-flat}
+
+-- ---- a list stored at the front of a room that it fits
+
+pub laid-is : {A : Type 0} (l room : List A) → length l ≤ length room → sets room 0 l ≡ laid l room
+laid-is l room h = let e : 0 + length l ≡ length l = omega arith in sets-eq l room 0 (omega arith) ∙ ap (λ (j : ℕ). l ++ drop j room) e
 
 -- ---- a number
 
@@ -20,7 +26,7 @@ length-bytesOf (suc k) n = ap suc (length-bytesOf k (n / 256))
 quotient : (n m : ℕ) → n < 256 * m → n / 256 < m
 quotient n m h = omega arith
 
-pub number-bytes : (k n : ℕ) → n < 256 ^ k → numberOf (bytesOf k n) ≡ n
+number-bytes : (k n : ℕ) → n < 256 ^ k → numberOf (bytesOf k n) ≡ n
 unfolding bytesOf numberOf
 number-bytes zero n h = omega arith
 number-bytes (suc k) n h =
@@ -35,7 +41,7 @@ drop-number k n q = drop-at (bytesOf k n) q k (length-bytesOf k n)
 
 -- ---- the coordinates
 
-pub length-coordBytes : (l : List ℕ) → length (coordBytes l) ≡ 8 * length l
+length-coordBytes : (l : List ℕ) → length (coordBytes l) ≡ 8 * length l
 unfolding coordBytes
 length-coordBytes [] = refl
 length-coordBytes (c ∷ l) =
@@ -49,14 +55,14 @@ length-ring r = omega (arith, length-coordBytes (flat r), length-flat r)
 abbrev Fits : ℕ → Type 0
 Fits c = c < 2 ^ 64
 
-pub coords-back : (l q : List ℕ) → Each Fits l → coordsIn (length l) (coordBytes l ++ q) ≡ l
+coords-back : (l q : List ℕ) → Each Fits l → coordsIn (length l) (coordBytes l ++ q) ≡ l
 unfolding coordsIn coordBytes
 coords-back [] q h = refl
 coords-back (c ∷ l) q h =
     rw (append-assoc (bytesOf 8 c) (coordBytes l) q, take-number 8 c (coordBytes l ++ q) (h .0), drop-number 8 c (coordBytes l ++ q))
     (ap (λ (t : List ℕ). c ∷ t) (coords-back l q (h .1)))
 
-pub fits-flat : (r : List Vertex) → Each Corner r → Each Fits (flat r)
+fits-flat : (r : List Vertex) → Each Corner r → Each Fits (flat r)
 fits-flat [] h = tt
 fits-flat (v ∷ r) h = (h .0 .x .pattern, (h .0 .y .pattern, fits-flat r (h .1)))
 

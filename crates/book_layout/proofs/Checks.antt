@@ -1,18 +1,17 @@
 -- The checks of the reader pass what the writer writes. Assumes nothing.
-use Prim.Native.Nat.{ℕ, zero, suc, _+_, _-_, _*_, _/_, _%_, _^_, _≤_, _<_}
+use Prim.Native.Nat.{ℕ, zero, suc, _+_, _*_, _/_, _^_, _≤_, _<_}
 use native.Mathlib.Omega.{arith}
-use mathlib.Core.Path.{_≡_, refl, sym, ap, ap₂, subst, _∙_}
-use mathlib.Core.Bool.{Bool, true, false, _&&_}
+use mathlib.Core.Path.{_≡_, refl, sym, ap, ap₂, _∙_}
+use mathlib.Core.Bool.{true}
 use mathlib.Core.List.{List, [], _∷_, _++_, map, append-assoc}
 use lib.ListN.{length, take, drop, length-append, length-map}
 use lib.Seq.{drop-at, drop-drop}
-use lib.Dec.{leb, ltb, eqb}
-use borrow.Author.Tests.{le-leb, eq-eqb}
-use Rattle.refusals.specs.Refusals.{none, passed, first}
-use Rattle.refusals.specs.declared.Refusal.{Refusal}
+use lib.Dec.{eqb}
+use borrow.Author.Tests.{eq-eqb}
+use Rattle.refusals.specs.Refusals.{passed, first}
 use Rattle.refusals.proofs.First.{first-assoc}
-use Rattle.reading.specs.Reading.{Vertex, flat, vertices, bestOf, leastReading}
-use Rattle.book_layout.specs.Layout.{within, total, bytesOf, numberOf, coordBytes, body, entries, layout, bookOf, Each, coordinateBits, Coordinate, Corner, Outline, Accepted, coordsIn, countsIn, ringsIn, ringCount, entryOffset, countsOf, ringsOf}
+use Rattle.reading.specs.Reading.{Vertex, flat, leastReading}
+use Rattle.book_layout.specs.Layout.{within, total, bytesOf, numberOf, coordBytes, body, entries, layout, Each, coordinateBits, Coordinate, Corner, Outline, Accepted, ringCount, entryOffset, countsOf}
 use Rattle.book_layout.specs.Faults.{fault, entriesCheck, coordsCheck, leastCheck, bookCheck, _passes}
 use Rattle.book_layout.proofs.Bytes.{take-number, drop-number, length-ring, entry-offset, entry-count, entry-rest, ring-back}
 use Rattle.book_layout.proofs.Passing.{pass, within-true}
@@ -22,7 +21,7 @@ use Rattle.reading.proofs.Own.{is-own}
 
 -- ---- the entries
 
-pub entries-pass : (ns q : List ℕ) (at before : ℕ) → Each (λ (n : ℕ). (3 ≤ n) × (n ≤ 256)) ns → before + 16 * total ns < 256 ^ 4
+entries-pass : (ns q : List ℕ) (at before : ℕ) → Each (λ (n : ℕ). (3 ≤ n) × (n ≤ 256)) ns → before + 16 * total ns < 256 ^ 4
     → entriesCheck (length ns) at before (entries before ns ++ q) passes
 unfolding entriesCheck total
 entries-pass [] q at before h s = refl
@@ -37,7 +36,7 @@ entries-pass (n ∷ ns) q at before h s =
 
 -- ---- the coordinates
 
-pub coords-pass : (l q : List ℕ) (at : ℕ) → Each Coordinate l → coordsCheck (length l) at (coordBytes l ++ q) passes
+coords-pass : (l q : List ℕ) (at : ℕ) → Each Coordinate l → coordsCheck (length l) at (coordBytes l ++ q) passes
 unfolding coordsCheck coordBytes
 coords-pass [] q at h = refl
 coords-pass (c ∷ l) q at h =
@@ -63,7 +62,7 @@ flat-each : (r : List Vertex) → Each Corner r → Each Coordinate (flat r)
 flat-each [] h = tt
 flat-each (v ∷ r) h = (h .0 .x, (h .0 .y, flat-each r (h .1)))
 
-pub body-pass : (rs : List (List Vertex)) (q : List ℕ) (at : ℕ) → Each Outline rs → coordsCheck (2 * total (map length rs)) at (body rs ++ q) passes
+body-pass : (rs : List (List Vertex)) (q : List ℕ) (at : ℕ) → Each Outline rs → coordsCheck (2 * total (map length rs)) at (body rs ++ q) passes
 unfolding total body
 body-pass [] q at h = unfold coordsCheck in refl
 body-pass (r ∷ rs) q at h =
@@ -80,7 +79,7 @@ body-pass (r ∷ rs) q at h =
 
 -- ---- the least readings
 
-pub least-pass : (rs : List (List Vertex)) (q : List ℕ) (at : ℕ) → Each Outline rs → Each (λ (r : List Vertex). leastReading r ≡ r) rs
+least-pass : (rs : List (List Vertex)) (q : List ℕ) (at : ℕ) → Each Outline rs → Each (λ (r : List Vertex). leastReading r ≡ r) rs
     → leastCheck (map length rs) at (body rs ++ q) passes
 unfolding leastCheck body
 least-pass [] q at h k = refl

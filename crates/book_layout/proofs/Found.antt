@@ -1,26 +1,22 @@
 -- A file that passes the checks is the book of the rings in it. Assumes nothing.
-use Prim.Native.Nat.{ℕ, zero, suc, _+_, _-_, _*_, _/_, _%_, _^_, _≤_, _<_}
+use Prim.Native.Nat.{ℕ, zero, suc, _+_, _*_, _/_, _%_, _^_, _≤_, _<_}
 use native.Mathlib.Omega.{arith}
 use native.Mathlib.Nat.{pow-succ'}
 use mathlib.Core.Path.{_≡_, refl, sym, ap, ap₂, subst, _∙_}
-use mathlib.Core.Bool.{Bool, true, false, _&&_}
-use mathlib.Core.List.{List, [], _∷_, _++_, map, append-assoc}
-use lib.ListN.{length, getD, take, drop, length-append, length-map, length-take, length-drop, take-append-drop}
-use lib.Seq.{drop-at, drop-drop, take-add, length-take-le, take-all}
-use lib.Dec.{leb, ltb, eqb}
-use borrow.Author.Tests.{leb-true, eqb-true}
-use Rattle.refusals.specs.Refusals.{passed, first}
+use mathlib.Core.List.{List, [], _∷_, _++_, map}
+use lib.ListN.{length, getD, take, drop, length-drop}
+use lib.Seq.{drop-drop, take-add, length-take-le}
+use lib.Dec.{eqb}
+use borrow.Author.Tests.{eqb-true}
+use Rattle.refusals.specs.Refusals.{first}
 use Rattle.reading.specs.Reading.{Vertex, flat, vertices, bestOf, leastReading}
-use Rattle.book_layout.specs.Layout.{within, total, bytesOf, numberOf, coordBytes, body, entries, layout, bookOf, Each, coordinateBits, Coordinate, Corner, Outline, Accepted, coordsIn, countsIn, ringsIn, ringCount, entryOffset, countsOf, ringsOf}
+use Rattle.book_layout.specs.Layout.{within, total, bytesOf, numberOf, coordBytes, body, entries, Each, coordinateBits, Coordinate, Corner, coordsIn, countsIn, ringsIn}
 use Rattle.book_layout.specs.Faults.{fault, entriesCheck, coordsCheck, leastCheck, _passes}
-use Rattle.book_layout.proofs.Bytes.{length-bytesOf}
 use Rattle.book_layout.proofs.Passing.{both, held, is-within}
-use Rattle.book_layout.proofs.Laid.{layout-is, length-layout}
 use Rattle.book_layout.proofs.Each.{each-take, each-drop}
 use Rattle.reading.proofs.Leasts.{length-flat}
 use Rattle.reading.proofs.Places.{flat-vertices}
 use Rattle.reading.proofs.Own.{own}
-use Rattle.book_layout.proofs.Checks.{coords-split, body-total}
 
 -- ---- a number's bytes are those that it was read from
 
@@ -37,7 +33,7 @@ low-byte b m h = omega arith
 high-bytes : (b m : ℕ) → b < 256 → (b + 256 * m) / 256 ≡ m
 high-bytes b m h = omega arith
 
-pub bytes-number : (l : List ℕ) → Each Byte l → bytesOf (length l) (numberOf l) ≡ l
+bytes-number : (l : List ℕ) → Each Byte l → bytesOf (length l) (numberOf l) ≡ l
 unfolding bytesOf numberOf
 bytes-number [] h = refl
 bytes-number (b ∷ l) h = rw (low-byte b (numberOf l) (h .0), high-bytes b (numberOf l) (h .0)) (ap (λ (t : List ℕ). b ∷ t) (bytes-number l (h .1)))
@@ -50,7 +46,7 @@ bytes-take k f h n =
 more-bytes : (b n p : ℕ) → b < 256 → n < p → b + 256 * n < 256 * p
 more-bytes b n p h k = omega arith
 
-pub number-lt : (l : List ℕ) → Each Byte l → numberOf l < 256 ^ length l
+number-lt : (l : List ℕ) → Each Byte l → numberOf l < 256 ^ length l
 unfolding numberOf
 number-lt [] h = omega arith
 number-lt (b ∷ l) h = rw pow-succ' (more-bytes b (numberOf l) (256 ^ length l) (h .0) (number-lt l (h .1)))
@@ -62,7 +58,7 @@ unfolding coordsIn
 length-coordsIn zero f = refl
 length-coordsIn (suc k) f = ap suc (length-coordsIn k (drop 8 f))
 
-pub coords-are : (k : ℕ) (f : List ℕ) → Each Byte f → 8 * k ≤ length f → coordBytes (coordsIn k f) ≡ take (8 * k) f
+coords-are : (k : ℕ) (f : List ℕ) → Each Byte f → 8 * k ≤ length f → coordBytes (coordsIn k f) ≡ take (8 * k) f
 unfolding coordsIn coordBytes
 coords-are zero f h n = refl
 coords-are (suc k) f h n =
@@ -87,7 +83,7 @@ module _ (n : ℕ) (f : List ℕ) where
   ring-flat : flat (vertices (coordsIn (2 * n) f)) ≡ coordsIn (2 * n) f
   ring-flat = flat-vertices (coordsIn (2 * n) f) (omega (arith, length-coordsIn (2 * n) f))
 
-  pub ring-length : length (vertices (coordsIn (2 * n) f)) ≡ n
+  ring-length : length (vertices (coordsIn (2 * n) f)) ≡ n
   ring-length = omega (arith, length-flat (vertices (coordsIn (2 * n) f)), ap length ring-flat, length-coordsIn (2 * n) f)
 
 pub corners : (l : List ℕ) → Each Coordinate l → Each Corner (vertices l)
@@ -112,19 +108,6 @@ rings-body (n ∷ ns) f h s =
     ap coordBytes (ring-flat n f) ∙ coords-are (2 * n) f h (omega arith) ∙ ap (λ (j : ℕ). take j f) d in
     ap₂ (λ (x y : List ℕ). x ++ y) a (rings-body ns (drop (16 * n) f) (each-drop Byte (16 * n) f h) (omega (arith, length-drop (16 * n) f)))
     ∙ sym (ap (λ (j : ℕ). take j f) e ∙ take-add (16 * n) (16 * total ns) f)
-
-pub rings-hold : (ns f : List ℕ) (at : ℕ) → Each Byte f → 16 * total ns ≤ length f → Each (λ (n : ℕ). (3 ≤ n) × (n ≤ 256)) ns
-    → coordsCheck (2 * total ns) at f passes → Each Outline (ringsIn ns f)
-unfolding ringsIn total
-rings-hold [] f at h s z c = tt
-rings-hold (n ∷ ns) f at h s z c =
-    let e : 2 * (n + total ns) ≡ 2 * n + 2 * total ns = omega arith in
-    let d : 8 * (2 * n) ≡ 16 * n = omega arith in
-    let p = both (coordsCheck (2 * n) at f) (coordsCheck (2 * total ns) (at + 8 * (2 * n)) (drop (8 * (2 * n)) f)) (ap passed (sym (coords-split (2 * n) (2 * total ns) at f) ∙ ap (λ (j : ℕ). coordsCheck j at f) (sym e)) ∙ c) in
-    let r = ring-length n f in (
-      record { least = omega (arith, z .0 .0); most = omega (arith, z .0 .1); corners = corners (coordsIn (2 * n) f) (coords-hold (2 * n) at f h (omega arith) (p .0)) },
-      rings-hold ns (drop (16 * n) f) (at + 8 * (2 * n)) (each-drop Byte (16 * n) f h) (omega (arith, length-drop (16 * n) f)) (z .1) (ap (λ (j : ℕ). passed (coordsCheck (2 * total ns) (at + 8 * (2 * n)) (drop j f))) (sym d) ∙ p .1),
-    )
 
 pub rings-kept : (ns f : List ℕ) (at : ℕ) → Each (λ (n : ℕ). (3 ≤ n) × (n ≤ 256)) ns → leastCheck ns at f passes → map leastReading (ringsIn ns f) ≡ ringsIn ns f
 unfolding ringsIn leastCheck

@@ -1,12 +1,12 @@
 -- A layout is read back as the rings that it was made of, so two layouts that are equal are of the same rings. Assumes nothing.
-use Prim.Native.Nat.{ℕ, zero, suc, _+_, _-_, _*_, _/_, _%_, _^_, _≤_, _<_}
+use Prim.Native.Nat.{ℕ, _+_, _-_, _*_, _≤_}
 use native.Mathlib.Omega.{arith}
-use mathlib.Core.Path.{_≡_, refl, sym, ap, subst, _∙_}
+use mathlib.Core.Path.{_≡_, refl, sym, ap, _∙_}
 use mathlib.Core.List.{List, [], _∷_, _++_, map, append-assoc, append-nil}
-use lib.ListN.{length, take, drop, length-append, length-drop, length-map}
-use lib.Seq.{take-at, drop-at, drop-drop}
-use Rattle.reading.specs.Reading.{Vertex, flat, vertices}
-use Rattle.book_layout.specs.Layout.{bytesOf, numberOf, coordBytes, body, entries, layout, Each, Coordinate, Corner, Outline, Accepted, coordsIn, countsIn, ringsIn, ringCount, entryOffset, countsOf, ringsOf}
+use lib.ListN.{length, take, drop, length-append, length-map}
+use lib.Seq.{drop-at}
+use Rattle.reading.specs.Reading.{Vertex, flat}
+use Rattle.book_layout.specs.Layout.{bytesOf, numberOf, coordBytes, body, entries, layout, Each, Outline, Accepted, countsIn, ringsIn, ringCount, entryOffset, countsOf, ringsOf}
 use Rattle.book_layout.proofs.Bytes.{length-bytesOf, take-number, length-ring, length-entries, counts-back, rings-back}
 
 -- ---- lengths
@@ -73,7 +73,7 @@ offset-back rs h =
 
 -- ---- the whole
 
-pub counts-most : (rs : List (List Vertex)) → Each Outline rs → Each (λ (n : ℕ). n ≤ 256) (map length rs)
+counts-most : (rs : List (List Vertex)) → Each Outline rs → Each (λ (n : ℕ). n ≤ 256) (map length rs)
 counts-most [] h = tt
 counts-most (r ∷ rs) h = (h .0 .most, counts-most rs (h .1))
 

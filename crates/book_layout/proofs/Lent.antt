@@ -1,8 +1,8 @@
 -- Lists of f64s: those that the writer takes are rings that a book holds, and those that the reader hands out are taken by the writer. Assumes nothing.
-use Prim.Native.Nat.{ℕ, zero, suc, _+_, _-_, _*_, _/_, _%_, _^_, _≤_, _<_}
+use Prim.Native.Nat.{ℕ, zero, suc, _+_, _*_, _/_, _%_, _≤_}
 use native.Mathlib.Omega.{arith}
-use mathlib.Core.Path.{_≡_, refl, sym, ap, ap₂, subst, _∙_}
-use mathlib.Core.Bool.{Bool, true, false, not, _&&_}
+use mathlib.Core.Path.{_≡_, refl, ap, ap₂, subst, _∙_}
+use mathlib.Core.Bool.{true, not, _&&_}
 use mathlib.Core.List.{List, [], _∷_, _++_, map, map-append}
 use lib.ListN.{length, take, drop, length-drop, length-map}
 use lib.Seq.{drop-drop, length-take-le, take-at, drop-at}
@@ -11,18 +11,19 @@ use lib.Ieee.{Float, nan, inf, fin, binary64, fits, isNan, ofBits}
 use lib.Ieee.Bits.{ofBits-fits}
 use borrow.Author.Tests.{le-leb, leb-true, eq-eqb, eqb-true}
 use Rattle.refusals.specs.Refusals.{unless, first}
-use Rattle.refusals.specs.Bounds.{coordinate, coordinates}
+use Rattle.refusals.specs.Bounds.{coordinate, every, coordinates}
 use Rattle.reading.specs.Reading.{Vertex, vertices}
 use Rattle.reading.specs.Lent.{kept, ringOf}
 use Rattle.reading.proofs.KeptBits.{kept-lt, of-kept, kept-of}
 use Rattle.reading.proofs.Order.{no-bool}
 use Rattle.reading.proofs.Places.{length-ringOf}
-use Rattle.book_layout.specs.Layout.{within, numberOf, Each, coordinateBits, Coordinate, Corner, Outline, Accepted, total, coordsIn, countsIn, ringsIn, ringCount, entryOffset, coordsOf, countsOf, ringsOf}
+use Rattle.book_layout.specs.Layout.{within, numberOf, Each, coordinateBits, Coordinate, Outline, Accepted, total, coordsIn, ringsIn, ringCount, entryOffset, coordsOf, countsOf, ringsOf}
 use Rattle.book_layout.specs.Faults.{_passes, bookCheck}
 use Rattle.book_layout.specs.Writer.{ringsFrom, sizedAll, lengthsOk, bookSize, writeRefusal, Held}
 use Rattle.book_layout.specs.Reader.{numbersOf}
 use Rattle.book_layout.proofs.Each.{each-take, each-drop}
-use Rattle.book_layout.proofs.Passing.{both, told, and-both, within-true, is-within}
+use Rattle.book_layout.proofs.Passing.{both, and-both, within-true, is-within}
+use Rattle.refusals.proofs.Sized.{held-last}
 use Rattle.book_layout.proofs.Found.{Byte, corners, coords-hold, length-coordsIn, length-countsIn}
 use Rattle.book_layout.proofs.Exact.{checked, listing}
 
@@ -44,9 +45,9 @@ module _ (xs : List Float) (ns : List ℕ) (size : ℕ) where
   takes h =
       let p = both (unless (lengthsOk xs ns) 1) (first (unless (coordinates xs) 2) (unless (leb (bookSize ns) size) 4)) h in
       let q = both (unless (coordinates xs) 2) (unless (leb (bookSize ns) size) 4) (p .1) in
-      let l = lengths-held xs ns (told (lengthsOk xs ns) 1 refl (p .0)) in (
-        record { one = l .0; few = l .1; sized = l .2; whole = l .3; bounded = told (coordinates xs) 2 refl (q .0) },
-        leb-true (bookSize ns) size (told (leb (bookSize ns) size) 4 refl (q .1)),
+      let l = lengths-held xs ns (held-last (lengthsOk xs ns) 1 refl (p .0)) in (
+        record { one = l .0; few = l .1; sized = l .2; whole = l .3; bounded = held-last (coordinates xs) 2 refl (q .0) },
+        leb-true (bookSize ns) size (held-last (leb (bookSize ns) size) 4 refl (q .1)),
       )
 
   pub taken : Held xs ns → bookSize ns ≤ size → writeRefusal xs ns size passes
@@ -78,7 +79,7 @@ abbrev pub Formed : List Float → Type 0
 Formed xs = Each (λ (x : Float). T (fits binary64 x)) xs
 
 coordinates-take : (n : ℕ) (xs : List Float) → coordinates xs ≡ true → coordinates (take n xs) ≡ true
-unfolding coordinates
+unfolding every
 coordinates-take zero xs t = refl
 coordinates-take (suc n) [] t = refl
 coordinates-take (suc n) (x ∷ xs) t =
@@ -86,13 +87,13 @@ coordinates-take (suc n) (x ∷ xs) t =
     rw (p .0) (coordinates-take n xs (p .1))
 
 coordinates-drop : (n : ℕ) (xs : List Float) → coordinates xs ≡ true → coordinates (drop n xs) ≡ true
-unfolding coordinates
+unfolding every
 coordinates-drop zero xs t = t
 coordinates-drop (suc n) [] t = refl
 coordinates-drop (suc n) (x ∷ xs) t = coordinates-drop n xs (and-both (coordinate x) (coordinates xs) t .1)
 
 all-kept : (xs : List Float) → Formed xs → coordinates xs ≡ true → Each Coordinate (map kept xs)
-unfolding coordinates
+unfolding every
 all-kept [] f t = tt
 all-kept (x ∷ xs) f t =
     let p = and-both (coordinate x) (coordinates xs) t in
@@ -109,7 +110,7 @@ total-bounds (n ∷ ns) h =
     let b = total-bounds ns (p .1) in
     ((omega arith), (omega arith))
 
-pub length-rings : (ns : List ℕ) (xs : List Float) → length (ringsFrom ns xs) ≡ length ns
+length-rings : (ns : List ℕ) (xs : List Float) → length (ringsFrom ns xs) ≡ length ns
 unfolding ringsFrom
 length-rings [] xs = refl
 length-rings (n ∷ ns) xs = ap suc (length-rings ns (drop (2 * n) xs))
@@ -193,7 +194,7 @@ formed [] = tt
 formed (b ∷ l) = (ofBits-fits binary64 b, formed l)
 
 coordinates-read : (l : List ℕ) → Each Coordinate l → coordinates (map (ofBits binary64) l) ≡ true
-unfolding coordinates coordinateBits
+unfolding every coordinateBits
 coordinates-read [] h = refl
 coordinates-read (b ∷ l) h = rw (h .0 .bounded) (coordinates-read l (h .1))
 

@@ -10,5 +10,3 @@ pub mod Exact
 pub mod Counts
 pub mod Lent
 pub mod Theorems
-pub mod Only
-pub mod Worked

@@ -2,9 +2,9 @@
 use Prim.Native.Nat.{ℕ, _≤_}
 use mathlib.Core.Path.{_≡_, refl, sym, _∙_}
 use mathlib.Core.Bool.{Bool, true, false, _&&_}
-use lib.Dec.{leb, eqb}
+use lib.Dec.{leb}
 use borrow.Author.Tests.{le-leb, leb-true}
-use Rattle.refusals.specs.Refusals.{passed, first, unless}
+use Rattle.refusals.specs.Refusals.{passed, first}
 use Rattle.refusals.specs.declared.Refusal.{Refusal}
 use Rattle.reading.proofs.Order.{no-bool}
 use Rattle.book_layout.specs.Layout.{within}
@@ -33,7 +33,3 @@ within-true low high n h k = rw (le-leb low n h, le-leb n high k)
 
 pub is-within : (low high n : ℕ) → within low high n ≡ true → (low ≤ n) × (n ≤ high)
 is-within low high n h = let p = and-both (leb low n) (leb n high) h in (leb-true low n (p .0), leb-true n high (p .1))
-
-pub told : (t : Bool) (n : ℕ) → eqb n 0 ≡ false → unless t n passes → t ≡ true
-told true n e h = refl
-told false n e h = no-bool (sym e ∙ h)

@@ -4,17 +4,19 @@ use native.Mathlib.Omega.{arith}
 use mathlib.Core.Path.{_≡_, sym, ap, _∙_}
 use mathlib.Core.Logic.{_↔_}
 use mathlib.Core.Bool.{true}
-use mathlib.Core.List.{List}
+use mathlib.Core.List.{List, map}
 use lib.ListN.{length}
 use lib.Ieee.{Float}
 use borrow.Author.Tests.{le-leb}
 use Rattle.refusals.specs.Refusals.{passed, unless}
-use Rattle.book_layout.specs.Layout.{bookOf, Each, SameOutlines, coordsOf, countsOf}
+use Rattle.reading.specs.Reading.{leastReading}
+use Rattle.book_layout.specs.Layout.{bookOf, Each, SameOutlines, coordsOf, countsOf, ringsOf}
 use Rattle.book_layout.specs.Faults.{_passes, bookCheck}
 use Rattle.book_layout.specs.Writer.{ringsFrom, writeRefusal}
 use Rattle.book_layout.specs.Reader.{numbersOf, holdsAll, readRefusal}
 use Rattle.book_layout.proofs.Passing.{both}
-use Rattle.book_layout.proofs.Books.{same-book}
+use Rattle.book_layout.proofs.Books.{same-book, least-accepted}
+use Rattle.book_layout.proofs.Laid.{rings-of}
 use Rattle.book_layout.proofs.Found.{Byte}
 use Rattle.book_layout.proofs.Exact.{written-again, book-passes}
 use Rattle.book_layout.proofs.Lent.{Formed, formed, takes, taken, held-accepted, handed, read-held, read-size, total-bounds}
@@ -64,3 +66,10 @@ enough f room counts bytes ok h k =
     let n : length (numbersOf f) ≤ room = omega (arith, held .whole, held .few, total-bounds (countsOf f) (held .sized)) in
     let m : length (countsOf f) ≤ counts = omega (arith, held .few) in
     rw (le-leb (length (numbersOf f)) room n, le-leb (length (countsOf f)) counts m)
+
+-- Of a book that was written, the rings are read as stored: in order, each in its least reading, bit for bit.
+pub read-back : (xs : List Float) (ns : List ℕ) (size : ℕ) → Formed xs → writeRefusal xs ns size passes → ringsOf (bookOf (ringsFrom ns xs)) ≡ map leastReading (ringsFrom ns xs)
+unfolding bookOf
+read-back xs ns size f h =
+    let rs = ringsFrom ns xs in
+    rings-of (map leastReading rs) (least-accepted rs (held-accepted xs ns f (takes xs ns size h .0)))

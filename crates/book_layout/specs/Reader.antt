@@ -1,11 +1,13 @@
 -- The reader of a book: when it refuses a file, and what it leaves in the two rooms. Definitions only.
 use Prim.Native.Nat.{ℕ}
-use mathlib.Core.Bool.{Bool, _&&_, cond}
-use mathlib.Core.List.{List, [], _∷_, _++_, map}
-use lib.ListN.{length, drop}
+use mathlib.Core.Bool.{Bool, _&&_}
+use mathlib.Core.List.{List, [], _∷_, map}
+use lib.ListN.{length}
 use lib.Dec.{leb}
 use lib.Ieee.{Float, binary64, ofBits}
-use Rattle.refusals.specs.Refusals.{unless, passed, firstOf}
+use Rattle.ring.specs.Room.{laid}
+use Rattle.refusals.specs.Answers.{Outcome, outcome, left}
+use Rattle.refusals.specs.Refusals.{unless, firstOf}
 use Rattle.refusals.specs.declared.Refusal.{Refusal}
 use Rattle.book_layout.specs.Layout.{coordsOf, countsOf}
 use Rattle.book_layout.specs.Faults.{bookCheck}
@@ -22,13 +24,12 @@ holdsAll f room counts = leb (length (numbersOf f)) room && leb (length (countsO
 unfoldable pub readRefusal : List ℕ → ℕ → ℕ → Refusal
 readRefusal f room counts = firstOf (bookCheck f ∷ unless (holdsAll f room counts) 4 ∷ [])
 
--- a list at the front of a room, and then what the room held
-abbrev pub onto : {A : Type 0} → List A → List A → List A
-onto l room = l ++ drop (length l) room
+-- what the call answers, and the two rooms as it leaves them
+abbrev pub readCall : List ℕ → ℕ → ℕ → Outcome ℕ
+readCall f room counts = outcome (readRefusal f room counts) (length (countsOf f))
 
--- the two rooms as the call leaves them
-unfoldable pub readRoom : List ℕ → List Float → ℕ → List Float
-readRoom f room counts = cond (passed (readRefusal f (length room) counts)) (onto (numbersOf f) room) room
+abbrev pub readRoom : List ℕ → List Float → ℕ → List Float
+readRoom f room counts = left (readRefusal f (length room) counts) (laid (numbersOf f) room) room
 
-unfoldable pub readCounts : List ℕ → ℕ → List ℕ → List ℕ
-readCounts f room counts = cond (passed (readRefusal f room (length counts))) (onto (countsOf f) counts) counts
+abbrev pub readCounts : List ℕ → ℕ → List ℕ → List ℕ
+readCounts f room counts = left (readRefusal f room (length counts)) (laid (countsOf f) counts) counts

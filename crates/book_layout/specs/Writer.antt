@@ -1,12 +1,14 @@
 -- The writer of a book: what it is lent, when it refuses, and what it leaves in the room. Definitions only.
 use Prim.Native.Nat.{ℕ, _+_, _*_, _%_, _≤_}
 use mathlib.Core.Path.{_≡_}
-use mathlib.Core.Bool.{Bool, true, _&&_, cond}
-use mathlib.Core.List.{List, [], _∷_, _++_}
+use mathlib.Core.Bool.{Bool, true, _&&_}
+use mathlib.Core.List.{List, [], _∷_}
 use lib.ListN.{length, take, drop}
 use lib.Dec.{leb, eqb}
 use lib.Ieee.{Float}
-use Rattle.refusals.specs.Refusals.{unless, passed, firstOf}
+use Rattle.ring.specs.Room.{laid}
+use Rattle.refusals.specs.Answers.{Outcome, outcome, left}
+use Rattle.refusals.specs.Refusals.{unless, firstOf}
 use Rattle.refusals.specs.Bounds.{coordinates}
 use Rattle.refusals.specs.declared.Refusal.{Refusal}
 use Rattle.reading.specs.Reading.{Vertex}
@@ -35,9 +37,12 @@ lengthsOk xs ns = eqb (length xs % 2) 0 && (within 1 8 (length ns) && (sizedAll 
 unfoldable pub writeRefusal : List Float → List ℕ → ℕ → Refusal
 writeRefusal xs ns size = firstOf (unless (lengthsOk xs ns) 1 ∷ unless (coordinates xs) 2 ∷ unless (leb (bookSize ns) size) 4 ∷ [])
 
--- the room as the call leaves it: the book, and then what the room held
-unfoldable pub writeRoom : List Float → List ℕ → List ℕ → List ℕ
-writeRoom xs ns room = cond (passed (writeRefusal xs ns (length room))) (bookOf (ringsFrom ns xs) ++ drop (bookSize ns) room) room
+-- what the call answers, and the room as it leaves it
+abbrev pub writeCall : List Float → List ℕ → ℕ → Outcome ℕ
+writeCall xs ns size = outcome (writeRefusal xs ns size) (bookSize ns)
+
+abbrev pub writeRoom : List Float → List ℕ → List ℕ → List ℕ
+writeRoom xs ns room = left (writeRefusal xs ns (length room)) (laid (bookOf (ringsFrom ns xs)) room) room
 
 -- lists that pass the tests of the writer but for its room
 pub record Held (xs : List Float) (ns : List ℕ) : Type 0 where

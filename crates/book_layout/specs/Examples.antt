@@ -1,16 +1,18 @@
 -- Worked examples, computed. Assumes nothing.
-use Prim.Native.Nat.{ℕ, _-_}
+use Prim.Native.Nat.{ℕ}
 use mathlib.Core.Path.{_≡_, refl}
-use mathlib.Core.Bool.{false, true}
+use mathlib.Core.Bool.{false}
 use mathlib.Core.List.{List, [], _∷_}
-use lib.ListN.{length, take, set}
+use lib.ListN.{take, set}
 use lib.IntN.{pos}
 use lib.Ieee.{Float, fin, toBits, ofBits}
-use Rattle.refusals.specs.Refusals.{none}
-use Rattle.refusals.specs.Bounds.{coordinate}
+use Rattle.refusals.specs.Refusals.{none, refuse}
+use Rattle.refusals.specs.Bounds.{coordinate, every}
 use Rattle.reading.specs.Reading.{Vertex, ord, less, best, bestOf, leastReading}
 use Rattle.reading.specs.Lent.{kept, ringOf}
-use Rattle.book_layout.specs.Layout.{bytesOf, numberOf, coordBytes, body, entries, layout, bookOf, coordinateBits, total, coordsIn, countsIn, countsOf, ringCount, entryOffset}
+use Rattle.book_layout.specs.Layout.{bytesOf, numberOf, coordBytes, body, entries, layout, bookOf, coordinateBits, total, coordsIn, countsIn, coordsOf, countsOf, ringCount, entryOffset}
+use Rattle.book_layout.specs.Writer.{sizedAll, lengthsOk, writeRefusal}
+use Rattle.book_layout.specs.Reader.{readRefusal}
 use Rattle.book_layout.specs.Faults.{faultAt, entriesCheck, coordsCheck, leastCheck, bookCheck}
 
 abbrev zero : Float
@@ -79,3 +81,66 @@ not-a-number = refl
 pub as-given : bookCheck (layout triangle) ≡ faultAt 0
 unfolding layout body entries coordBytes bytesOf kept toBits bookCheck entriesCheck coordsCheck leastCheck coordinateBits coordinate ofBits numberOf coordsIn countsIn countsOf ringCount entryOffset total bestOf best less ord
 as-given = refl
+
+-- of two faults the first is told: the ring's offset before its vertices, a coordinate before the least reading
+pub offset-first : bookCheck (set (set book 48 1) 52 2) ≡ faultAt 48
+unfolding bookCheck entriesCheck coordsCheck leastCheck coordinateBits coordinate ofBits numberOf coordsIn countsIn countsOf ringCount entryOffset total bestOf best less ord
+offset-first = refl
+
+pub coordinate-first : bookCheck (set (set (set (layout triangle) 7 64) 15 65) 14 48) ≡ faultAt 8
+unfolding layout body entries coordBytes bytesOf kept toBits bookCheck entriesCheck coordsCheck leastCheck coordinateBits coordinate ofBits numberOf coordsIn countsIn countsOf ringCount entryOffset total bestOf best less ord
+coordinate-first = refl
+
+-- ---- the writer's tests, for rooms of so many bytes
+
+abbrev lent : List Float
+lent = four ∷ zero ∷ zero ∷ three ∷ zero ∷ zero ∷ []
+
+abbrev huge : List Float
+huge = fin false 1 (pos 20) ∷ zero ∷ zero ∷ three ∷ zero ∷ zero ∷ []
+
+pub written : writeRefusal lent (3 ∷ []) 64 ≡ none
+unfolding writeRefusal lengthsOk sizedAll total every coordinate
+written = refl
+
+pub small-room : writeRefusal lent (3 ∷ []) 63 ≡ refuse 4
+unfolding writeRefusal lengthsOk sizedAll total every coordinate
+small-room = refl
+
+pub number-before-room : writeRefusal huge (3 ∷ []) 63 ≡ refuse 2
+unfolding writeRefusal lengthsOk sizedAll total every coordinate
+number-before-room = refl
+
+pub length-before-number : writeRefusal huge (4 ∷ []) 63 ≡ refuse 1
+unfolding writeRefusal lengthsOk sizedAll total every coordinate
+length-before-number = refl
+
+pub odd-list : writeRefusal (zero ∷ lent) (3 ∷ []) 64 ≡ refuse 1
+unfolding writeRefusal lengthsOk sizedAll total every coordinate
+odd-list = refl
+
+pub no-counts : writeRefusal [] [] 64 ≡ refuse 1
+unfolding writeRefusal lengthsOk sizedAll total every coordinate
+no-counts = refl
+
+pub pair : writeRefusal (take 4 lent) (2 ∷ []) 64 ≡ refuse 1
+unfolding writeRefusal lengthsOk sizedAll total every coordinate
+pair = refl
+
+-- ---- the reader's, for rooms of so many numbers and counts
+
+pub accepted : readRefusal book 6 1 ≡ none
+unfolding readRefusal coordsOf bookCheck entriesCheck coordsCheck leastCheck coordinateBits coordinate ofBits numberOf coordsIn countsIn countsOf ringCount entryOffset total bestOf best less ord
+accepted = refl
+
+pub small-numbers : readRefusal book 5 1 ≡ refuse 4
+unfolding readRefusal coordsOf bookCheck entriesCheck coordsCheck leastCheck coordinateBits coordinate ofBits numberOf coordsIn countsIn countsOf ringCount entryOffset total bestOf best less ord
+small-numbers = refl
+
+pub small-counts : readRefusal book 6 0 ≡ refuse 4
+unfolding readRefusal coordsOf bookCheck entriesCheck coordsCheck leastCheck coordinateBits coordinate ofBits numberOf coordsIn countsIn countsOf ringCount entryOffset total bestOf best less ord
+small-counts = refl
+
+pub fault-before-room : readRefusal (set book 52 2) 5 0 ≡ faultAt 52
+unfolding readRefusal coordsOf bookCheck entriesCheck coordsCheck leastCheck coordinateBits coordinate ofBits numberOf coordsIn countsIn countsOf ringCount entryOffset total bestOf best less ord
+fault-before-room = refl
