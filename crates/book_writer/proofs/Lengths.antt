@@ -1,7 +1,7 @@
 -- The tests of the lengths that the writer is lent, one after the other, and what `sum_of` tells. Assumes nothing.
 use Prim.Native.Nat.{ℕ, _*_, _%_, _≤_, _<_}
 use native.Mathlib.Omega.{arith}
-use mathlib.Core.Path.{_≡_, refl, sym, ap, _∙_}
+use mathlib.Core.Path.{_≡_, refl, ap, _∙_}
 use mathlib.Core.Bool.{Bool, true, false, cond}
 use mathlib.Core.List.{List}
 use lib.ListN.{length}
@@ -17,7 +17,7 @@ module _ (ns : List ℕ) (sum : ℕ) (e : sum ≡ cond (sizedAll ns) (total ns) 
   pub sum-is : sizedAll ns ≡ true → sum ≡ total ns
   sum-is h = e ∙ ap (λ (t : Bool). cond t (total ns) 0) h
 
-  pub sum-none : 1 ≤ length ns → sum ≡ 0 → sizedAll ns ≡ false
+  sum-none : 1 ≤ length ns → sum ≡ 0 → sizedAll ns ≡ false
   sum-none one z = go (sizedAll ns) refl
     where
       go : (b : Bool) → sizedAll ns ≡ b → b ≡ false

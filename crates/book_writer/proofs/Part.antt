@@ -9,13 +9,13 @@ use lib.ListN.{length, getD, take, drop, length-drop}
 use lib.Seq.{getD-take, getD-drop, length-take-le}
 use lib.Dec.{T}
 use lib.Ieee.{Float, nan, isNan}
-use Rattle.refusals.specs.Bounds.{coordinate, coordinates}
+use Rattle.refusals.specs.Bounds.{coordinate, every, coordinates}
 use Rattle.reading.specs.Lent.{Lent}
 use Rattle.book_layout.proofs.Lent.{coordinate-number}
 use Rattle.book_layout.proofs.Passing.{and-both}
 
 coordinates-at : (xs : List Float) (i : ℕ) → coordinates xs ≡ true → i < length xs → coordinate (getD xs i nan) ≡ true
-unfolding coordinates
+unfolding every
 coordinates-at [] i t h = absurd (not-suc-le-zero h)
 coordinates-at (x ∷ xs) zero t h = and-both (coordinate x) (coordinates xs) t .0
 coordinates-at (x ∷ xs) (suc i) t h = coordinates-at xs i (and-both (coordinate x) (coordinates xs) t .1) (omega arith)

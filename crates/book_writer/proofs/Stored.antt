@@ -5,14 +5,15 @@ use mathlib.Core.Path.{_≡_, refl, sym, ap, ap₂, _∙_}
 use mathlib.Core.Bool.{true}
 use mathlib.Core.List.{List, [], _∷_, _++_, map}
 use lib.ListN.{length, take, drop, length-append, length-drop, length-map}
-use lib.Seq.{sets, sets-eq}
+use lib.Seq.{sets}
 use lib.Ieee.{Float}
+use Rattle.ring.specs.Room.{laid}
 use Rattle.reading.specs.Reading.{Vertex, leastReading}
 use Rattle.reading.specs.Lent.{ringOf}
 use Rattle.reading.proofs.Leasts.{length-least}
 use Rattle.book_layout.specs.Layout.{within, bytesOf, entries, layout, bookOf, total}
 use Rattle.book_layout.specs.Writer.{ringsFrom, sizedAll, bookSize}
-use Rattle.book_layout.proofs.Bytes.{length-bytesOf, length-entries}
+use Rattle.book_layout.proofs.Bytes.{laid-is, length-bytesOf, length-entries}
 use Rattle.book_layout.proofs.Checks.{body-total}
 use Rattle.book_layout.proofs.Passing.{and-both, is-within}
 use Rattle.book_layout.proofs.Lent.{ring-count}
@@ -46,7 +47,8 @@ module _ (xs : List Float) (ns room : List ℕ) (sized : sizedAll ns ≡ true) (
   unfolding bookOf layout
   book-is = rw (same-counts, rings-number, stored-length)
 
-  book-length : length (bookOf (ringsFrom ns xs)) ≡ bookSize ns
+  -- The book has as many bytes as the writer answers.
+  pub book-length : length (bookOf (ringsFrom ns xs)) ≡ bookSize ns
   book-length =
       ap length book-is
       ∙ omega (
@@ -63,7 +65,7 @@ module _ (xs : List Float) (ns room : List ℕ) (sized : sizedAll ns ≡ true) (
   -- the four runs of stores, one after the other
   pub four-runs : bookSize ns ≤ length room
       → sets (sets (sets (sets room 0 (stored ns xs)) (16 * total ns) (entries 0 ns)) (16 * total ns + 8 * length ns) (bytesOf 4 (length ns))) (16 * total ns + 8 * length ns + 4) (bytesOf 4 (16 * total ns))
-      ≡ bookOf (ringsFrom ns xs) ++ drop (bookSize ns) room
+      ≡ laid (bookOf (ringsFrom ns xs)) room
   four-runs h =
       let f = 16 * total ns in
       let a = stored ns xs in
@@ -82,8 +84,4 @@ module _ (xs : List Float) (ns room : List ℕ) (sized : sizedAll ns ≡ true) (
       ∙ ap (λ (j : ℕ). sets r2 j (c ++ d)) e2
       ∙ sets-append r2 (f + 8 * length ns) c d
       ∙ ap (λ (j : ℕ). sets (sets r2 (f + 8 * length ns) c) j d) e3 in
-      let n : 0 + length (bookOf (ringsFrom ns xs)) ≡ bookSize ns = omega (arith, book-length) in
-      sym z
-      ∙ ap (sets room 0) (sym book-is)
-      ∙ sets-eq (bookOf (ringsFrom ns xs)) room 0 (omega arith)
-      ∙ ap (λ (j : ℕ). bookOf (ringsFrom ns xs) ++ drop j room) n
+      sym z ∙ ap (sets room 0) (sym book-is) ∙ laid-is (bookOf (ringsFrom ns xs)) room (omega (arith, book-length))

@@ -8,10 +8,11 @@ use book_layout::VERTEX_BYTES;
 use reading::coordinate;
 use reading::least;
 ghost use mathlib.Core.Path.{_≡_};
-ghost use mathlib.Core.List.{map, _++_};
+ghost use mathlib.Core.List.{map};
 ghost use Prim.Native.Nat.{_+_, _*_, _<_, _≤_};
-ghost use lib.ListN.{length, drop};
+ghost use lib.ListN.{length};
 ghost use lib.Seq.{sets};
+ghost use Rattle.ring.specs.Room.{laid};
 ghost use Rattle.reading.specs.Reading.{flat, choice, leastReading};
 ghost use Rattle.reading.specs.Lent.{ringOf, Lent};
 ghost use Rattle.book_layout.specs.Layout.{bytesOf, coordBytes, body, entries, total, bookOf};
@@ -94,7 +95,7 @@ fn put_entries(counts: &[u32], room: &mut [u8], from: usize)
 pub fn put_book(xs: &[f64], counts: &[u32], room: &mut [u8]) -> usize
     requires { ⌜ Held (now xs) (now counts) ⌝ }
     requires { ⌜ bookSize (now counts) ≤ length (now room) ⌝ }
-    ensures { λ r. ⌜ (r ≡ bookSize (now (counts .entry))) × (now (room .exit) ≡ bookOf (ringsFrom (now (counts .entry)) (now (xs .entry))) ++ drop (bookSize (now (counts .entry))) (now (room .entry))) ⌝ }
+    ensures { λ r. ⌜ (r ≡ bookSize (now (counts .entry))) × (now (room .exit) ≡ laid (bookOf (ringsFrom (now (counts .entry)) (now (xs .entry)))) (now (room .entry))) ⌝ }
 {
     let from = VERTEX_BYTES * sum_of(counts);
     let tail = from + ENTRY_BYTES * counts.len();

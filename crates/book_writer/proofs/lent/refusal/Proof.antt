@@ -1,14 +1,14 @@
 -- `book_writer::lent::refusal` meets its contract: the first of the three tests that fails. Assumes nothing.
 use Prim.Native.Nat.{ℕ}
 use mathlib.Core.Path.{_≡_, refl, sym, ap, _∙_}
-use mathlib.Core.Bool.{Bool, true}
+use mathlib.Core.Bool.{Bool}
 use borrow.Author.Needs.{needs}
 use borrow.Author.Tests.{not-true, not-false}
 use lib.Dec.{leb}
 use Rattle.refusals.specs.Refusals.{unless, passed}
 use Rattle.refusals.proofs.First.{on, off}
-use Rattle.book_layout.specs.Writer.{lengthsOk, bookSize, writeRefusal}
-use Rattle.book_layout.proofs.Passing.{told}
+use Rattle.book_layout.specs.Writer.{lengthsOk, writeRefusal}
+use Rattle.refusals.proofs.Sized.{held-last}
 use Rattle.book_layout.proofs.Lent.{lengths-held}
 use Rattle.book_writer.proofs.lent.refusal.Statement.{statement}
 use Rattle.book_writer.proofs.lent.refusal.Tie as tie
@@ -55,7 +55,7 @@ size-of-requires c κs =
     let p = e .before in
     let a = p .before .before .before .before .before .args in
     let h = lengths-held (a .xs .now) (a .counts .now)
-    (told (lengthsOk (a .xs .now) (a .counts .now)) 1 refl (ap passed (sym (lengths (p .before))) ∙ sym (p .passed .ensures) ∙ not-false (p .passed .result) (e .if1 .left))) in
+    (held-last (lengthsOk (a .xs .now) (a .counts .now)) 1 refl (ap passed (sym (lengths (p .before))) ∙ sym (p .passed .ensures) ∙ not-false (p .passed .result) (e .if1 .left))) in
     (h .1, h .2)
 
 unless-requires-2 : tie.Need-unless-requires-2

@@ -1,9 +1,8 @@
-use Prim.Native.Nat.{ℕ, _+_, _*_, _-_, _/_, _%_, _≤_, _<_}
+-- `book_writer::lent::sum_of` meets its contract. The loop's invariant: the counts passed are sized and sum is theirs; the counts left decide. Assumes nothing.
+use Prim.Native.Nat.{_+_, _*_, _-_, _≤_}
 use mathlib.Core.Path.{_≡_, refl, sym, ap, _∙_}
 use native.Mathlib.Omega.{arith}
-use lib.ListN.{length, getD}
-use borrow.Author.Needs.{needs}
-use lib.ListN.{drop}
+use lib.ListN.{length, drop}
 use mathlib.Core.Bool.{Bool, true, false, cond}
 use Rattle.book_layout.specs.Layout.{total}
 use Rattle.book_layout.specs.Writer.{sizedAll}

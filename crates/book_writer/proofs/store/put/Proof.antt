@@ -1,9 +1,10 @@
-use Prim.Native.Nat.{ℕ, _+_, _*_, _-_, _/_, _%_, _≤_, _<_}
-use mathlib.Core.Path.{_≡_, refl, sym, ap, _∙_}
+-- `book_writer::store::put` meets its contract. The loop's invariant: with the bytes of what is left of the number stored from at + i on, the room is what
+-- was asked for. Assumes nothing.
+use Prim.Native.Nat.{_+_, _-_, _%_, _≤_}
+use mathlib.Core.Path.{_≡_, refl, sym, _∙_}
 use native.Mathlib.Omega.{arith}
-use lib.ListN.{length, getD}
+use lib.ListN.{length, length-set}
 use borrow.Author.Needs.{needs}
-use lib.ListN.{length-set}
 use lib.Seq.{sets}
 use Rattle.book_layout.specs.Layout.{bytesOf}
 use Rattle.book_writer.proofs.Storing.{put-start, put-on, put-end}

@@ -1,6 +1,6 @@
 -- `book_writer::store::put_least` meets its contract: the reading that `least` answers is the least one. Assumes nothing.
 use Prim.Native.Nat.{ℕ}
-use mathlib.Core.Path.{_≡_, ap, _∙_}
+use mathlib.Core.Path.{ap, _∙_}
 use borrow.Author.Needs.{needs}
 use lib.Seq.{sets}
 use Rattle.reading.specs.Reading.{flat, choice, leastReading}

@@ -1,6 +1,6 @@
 -- `book_writer::store::put_rings` meets its contract. The loop's invariant: with the rings from i on stored at their place, the room is what was asked
 -- for; the coordinates from at on are those of the rings left. Assumes nothing.
-use Prim.Native.Nat.{ℕ, _+_, _*_, _-_, _≤_, _<_}
+use Prim.Native.Nat.{ℕ, _+_, _*_, _-_, _≤_}
 use mathlib.Core.Path.{_≡_, refl, sym, ap, _∙_}
 use mathlib.Core.Bool.{true}
 use mathlib.Core.List.{List}
