@@ -1,9 +1,9 @@
 -- The reader's loops over coordinates: what is left of the check, and of what is loaded. Assumes nothing.
 use Prim.Native.Nat.{ℕ, suc, _+_, _-_, _*_, _≤_, _<_}
 use native.Mathlib.Omega.{arith}
-use mathlib.Core.Path.{_≡_, refl, sym, ap, ap₂, _∙_}
+use mathlib.Core.Path.{_≡_, sym, ap, ap₂, _∙_}
 use mathlib.Core.Bool.{true, false}
-use mathlib.Core.List.{List, _∷_, map}
+use mathlib.Core.List.{List, map}
 use lib.ListN.{take, drop, set}
 use lib.Seq.{sets, drop-drop}
 use lib.Ieee.{Float, binary64, ofBits}

@@ -1,7 +1,7 @@
 -- The fields of a book by their codes, and the bit patterns of coordinates. Assumes nothing.
 use Prim.Native.Nat.{ℕ, zero, suc, _%_, _*_, _^_, _≤_, _<_}
 use native.Mathlib.Omega.{arith}
-use mathlib.Core.Path.{_≡_, refl, sym, ap, subst, _∙_}
+use mathlib.Core.Path.{_≡_, refl, sym, subst, _∙_}
 use mathlib.Core.Logic.{_⊎_, inl, inr}
 use mathlib.Core.Bool.{Bool, true, false, not}
 use lib.Dec.{T, leb, ltb, eqb, not-T, ltb→lt}

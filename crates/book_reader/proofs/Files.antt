@@ -2,23 +2,24 @@
 use Prim.Native.Nat.{ℕ, _+_, _-_, _*_, _/_, _≤_, _<_}
 use native.Mathlib.Omega.{arith}
 use mathlib.Core.Path.{_≡_, refl, sym, ap, _∙_}
-use mathlib.Core.Bool.{Bool, true, false}
+use mathlib.Core.Bool.{true, false}
 use mathlib.Core.List.{List}
 use lib.ListN.{length, drop}
 use lib.Dec.{leb, eqb}
 use lib.Ieee.{Float}
 use borrow.Author.Tests.{le-leb, lt-leb, leb-true, eqb-true}
 use Rattle.refusals.specs.Refusals.{none, refuse, passed, unless, first}
-use Rattle.refusals.specs.Answers.{Outcome, answers, refuses, outcome, count}
+use Rattle.refusals.specs.Answers.{count}
 use Rattle.refusals.specs.declared.Refusal.{Refusal}
 use Rattle.refusals.specs.declared.answer.Count.{Count}
 use Rattle.refusals.proofs.First.{first-assoc}
 use Rattle.book_layout.specs.Layout.{within, total, ringCount, entryOffset, countsIn, countsOf}
 use Rattle.book_layout.specs.Faults.{faultAt, fault, _passes, entriesCheck, coordsCheck, leastCheck, bookCheck}
-use Rattle.book_layout.specs.Reader.{numbersOf, holdsAll, readRefusal, onto, readRoom, readCounts}
-use Rattle.book_layout.proofs.Passing.{both, held, told, and-both, is-within}
+use Rattle.book_layout.specs.Reader.{numbersOf, holdsAll, readRefusal, readCall, readRoom, readCounts}
+use Rattle.book_layout.proofs.Passing.{both, held, and-both, is-within}
+use Rattle.refusals.proofs.Sized.{held-last}
 use Rattle.book_layout.proofs.Lent.{length-numbers, length-counts}
-use Rattle.book_layout.proofs.Only.{count-only}
+use Rattle.refusals.proofs.Calls.{unique, count-only}
 use Rattle.book_reader.specs.Parts.{tailCheck, listCheck}
 
 -- ---- the last fields
@@ -73,9 +74,13 @@ tail-passed f h =
 
 -- ---- the checks in order, in the four parts that `check_book` makes
 
-pub book-is : (f : List ℕ)
-    → bookCheck f
-    ≡ first (tailCheck f) (first (listCheck f (entryOffset f) (ringCount f)) (first (coordsCheck (entryOffset f / 8) 0 f) (leastCheck (countsIn (ringCount f) (drop (entryOffset f) f)) 0 f)))
+abbrev pub afterList : List ℕ → Refusal
+afterList f = first (coordsCheck (entryOffset f / 8) 0 f) (leastCheck (countsIn (ringCount f) (drop (entryOffset f) f)) 0 f)
+
+abbrev pub afterTail : List ℕ → Refusal
+afterTail f = first (listCheck f (entryOffset f) (ringCount f)) (afterList f)
+
+pub book-is : (f : List ℕ) → bookCheck f ≡ first (tailCheck f) (afterTail f)
 unfolding bookCheck tailCheck listCheck countsOf
 book-is f =
     let k = ringCount f in
@@ -110,30 +115,17 @@ module _ (f : List ℕ) (room counts : ℕ) where
   unfolding readRefusal
   reads h =
       let p = both (bookCheck f) (unless (holdsAll f room counts) 4) h in
-      let q = and-both (leb (length (numbersOf f)) room) (leb (length (countsOf f)) counts) (told (holdsAll f room counts) 4 refl (p .1)) in
+      let q = and-both (leb (length (numbersOf f)) room) (leb (length (countsOf f)) counts) (held-last (holdsAll f room counts) 4 refl (p .1)) in
       (p .0, leb-true (length (numbersOf f)) room (q .0), leb-true (length (countsOf f)) counts (q .1))
 
 -- ---- the answer and the rooms
 
 -- what `read_book` promises of its answer and of the two rooms that it leaves
 abbrev pub Promised : List ℕ → List Float → List ℕ → Count → List Float → List ℕ → Type 0
-Promised f room counts r x n =
-    (count r ≡ outcome (readRefusal f (length room) (length counts)) (length (countsOf f))) × (x ≡ readRoom f room (length counts)) × (n ≡ readCounts f (length room) counts)
+Promised f room counts r x n = (count r ≡ readCall f (length room) (length counts)) × (x ≡ readRoom f room (length counts)) × (n ≡ readCounts f (length room) counts)
 
 -- Two answers of the reader that meet its promise are equal, and so are the rooms.
 pub read-only : (f : List ℕ) (room : List Float) (counts : List ℕ) (r r' : Count) (x x' : List Float) (n n' : List ℕ)
     → Promised f room counts r x n → Promised f room counts r' x' n' → (r ≡ r') × (x ≡ x') × (n ≡ n')
-read-only f room counts r r' x x' n n' p q = (count-only r r' (p .0 ∙ sym (q .0)), p .1 ∙ sym (q .1), p .2 ∙ sym (q .2))
-
-module _ (f : List ℕ) (room : List Float) (counts : List ℕ) (no-one : Refusal) (e : no-one ≡ readRefusal f (length room) (length counts)) where
-  pub refused : passed no-one ≡ false
-      → (_≡_ {A = Outcome ℕ} (refuses no-one) (outcome (readRefusal f (length room) (length counts)) (length (countsOf f)))) × (room ≡ readRoom f room (length counts)) × (counts ≡ readCounts f (length room) counts)
-  unfolding readRoom readCounts
-  refused h = ((rw (← e, h)), (rw (← e, h)), (rw (← e, h)))
-
-  pub read : passed no-one ≡ true
-      → (_≡_ {A = Outcome ℕ} (answers (length (countsOf f))) (outcome (readRefusal f (length room) (length counts)) (length (countsOf f))))
-      × (onto (numbersOf f) room ≡ readRoom f room (length counts))
-      × (onto (countsOf f) counts ≡ readCounts f (length room) counts)
-  unfolding readRoom readCounts
-  read h = ((rw (← e, h)), (rw (← e, h)), (rw (← e, h)))
+read-only f room counts r r' x x' n n' p q =
+    (unique count count-only (readCall f (length room) (length counts)) r r' (p .0) (q .0), p .1 ∙ sym (q .1), p .2 ∙ sym (q .2))

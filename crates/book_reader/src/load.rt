@@ -14,7 +14,8 @@ ghost use lib.Seq.{sets};
 ghost use lib.Ieee.{binary64, ofBits};
 ghost use Rattle.book_layout.specs.Layout.{coordsIn, countsIn, countsOf};
 ghost use Rattle.book_layout.specs.Faults.{_passes, coordsCheck, bookCheck};
-ghost use Rattle.book_layout.specs.Reader.{numbersOf, onto};
+ghost use Rattle.book_layout.specs.Reader.{numbersOf};
+ghost use Rattle.ring.specs.Room.{laid};
 
 // The m numbers from f[at] on, at the room's front.
 pub fn load(f: &[u8], at: usize, m: usize, room: &mut [f64])
@@ -46,7 +47,7 @@ fn load_counts(f: &[u8], from: usize, k: usize, counts: &mut [u32])
 pub fn load_book(f: &[u8], room: &mut [f64], counts: &mut [u32]) -> usize
     requires { ⌜ bookCheck (now f) passes ⌝ }
     requires { ⌜ (length (numbersOf (now f)) ≤ length (now room)) × (length (countsOf (now f)) ≤ length (now counts)) ⌝ }
-    ensures { λ r. ⌜ (r ≡ length (countsOf (now (f .entry)))) × (now (room .exit) ≡ onto (numbersOf (now (f .entry))) (now (room .entry))) × (now (counts .exit) ≡ onto (countsOf (now (f .entry))) (now (counts .entry))) ⌝ }
+    ensures { λ r. ⌜ (r ≡ length (countsOf (now (f .entry)))) × (now (room .exit) ≡ laid (numbersOf (now (f .entry))) (now (room .entry))) × (now (counts .exit) ≡ laid (countsOf (now (f .entry))) (now (counts .entry))) ⌝ }
 {
     let from = entry_offset(f);
     let k = ring_count(f);

@@ -1,5 +1,4 @@
 -- `book_reader::check::are_coordinate_bits` meets its contract: a NaN's pattern is none, and of the others the number decides. Assumes nothing.
-use mathlib.Core.Path.{refl}
 use borrow.Author.Needs.{needs}
 use Rattle.book_layout.specs.Layout.{coordinateBits}
 use Rattle.book_reader.proofs.Fields.{too-high, not-high}

@@ -9,9 +9,9 @@ use lib.ListN.{drop}
 use Rattle.refusals.specs.Refusals.{passed}
 use Rattle.refusals.proofs.First.{on, off}
 use Rattle.book_layout.specs.Layout.{countsIn, ringCount, entryOffset}
-use Rattle.book_layout.specs.Faults.{_passes, coordsCheck, leastCheck}
+use Rattle.book_layout.specs.Faults.{coordsCheck, leastCheck, bookCheck}
 use Rattle.book_reader.specs.Parts.{tailCheck, listCheck}
-use Rattle.book_reader.proofs.Files.{Tail, tail-passed, book-is}
+use Rattle.book_reader.proofs.Files.{Tail, tail-passed, afterTail, afterList, book-is}
 use Rattle.book_reader.proofs.check.check_book.Statement.{statement}
 use Rattle.book_reader.proofs.check.check_book.Tie as tie
 
@@ -26,10 +26,13 @@ returns c =
     let p = c .before in
     let t = p .before in
     t .check-tail .ensures
-    ∙ sym (book-is (t .before .before .args .f .now) ∙ off _ _ (t .check-tail .ensures) (p .passed .ensures) (not-true (p .passed .result) (c .if1 .taken)))
+    ∙ sym (book-is (t .before .before .args .f .now) ∙ off _ (afterTail (t .before .before .args .f .now)) (t .check-tail .ensures) (p .passed .ensures) (not-true (p .passed .result) (c .if1 .taken)))
+
+abbrev file : tie.Else1 → List ℕ
+file c = c .before .before .before .before .args .f .now
 
 -- the last fields are right
-tail : (c : tie.Else1) → Tail (c .before .before .before .before .args .f .now)
+tail : (c : tie.Else1) → Tail (file c)
 tail c =
     let p = c .before in
     let t = p .before in
@@ -47,7 +50,7 @@ module _ (c : tie.After-ring-count) where
   one = c .before .before
 
   abbrev f : List ℕ
-  f = one .before .before .before .before .args .f .now
+  f = file one
 
   abbrev from : ℕ
   from = c .before .entry-offset .result
@@ -72,17 +75,17 @@ passed-requires-2 c κs = search needs
 listed : (c : tie.After-check-entries) → c .check-entries .result ≡ listCheck (f (c .before)) (entryOffset (f (c .before))) (ringCount (f (c .before)))
 listed c = let k = c .before in c .check-entries .ensures ∙ ap₂ (listCheck (f k)) (is-from k) (is-k k)
 
+-- past the last fields: what the other parts find
+past-tail : (c : tie.Else1) → bookCheck (file c) ≡ afterTail (file c)
+past-tail c =
+    let p = c .before in
+    book-is (file c) ∙ on (tailCheck (file c)) (afterTail (file c)) (p .before .check-tail .ensures) (p .passed .ensures) (not-false (p .passed .result) (c .if1 .left))
+
 returns-2 : tie.Need-returns-2
 returns-2 c =
     let p = c .before in
     let a = p .before in
-    let k = a .before in
-    let t = one k .before in
-    listed a
-    ∙ sym
-    (book-is (f k)
-    ∙ on _ _ (t .before .check-tail .ensures) (t .passed .ensures) (not-false (t .passed .result) (one k .if1 .left))
-    ∙ off _ _ (listed a) (p .passed2 .ensures) (not-true (p .passed2 .result) (c .if2 .taken)))
+    listed a ∙ sym (past-tail (one (a .before)) ∙ off _ _ (listed a) (p .passed2 .ensures) (not-true (p .passed2 .result) (c .if2 .taken)))
 
 check-coords-requires : tie.Need-check-coords-requires
 check-coords-requires c κs =
@@ -98,21 +101,20 @@ coords-checked c =
     let k = c .before .before .before .before in
     c .check-coords .ensures ∙ ap (λ (e : ℕ). coordsCheck (e / 8) 0 (f k)) (is-from k)
 
+-- past the entries
+past-list : (c : tie.Else2) → bookCheck (f (c .before .before .before)) ≡ afterList (f (c .before .before .before))
+past-list c =
+    let p = c .before in
+    let a = p .before in
+    let k = a .before in
+    past-tail (one k)
+    ∙ on (listCheck (f k) (entryOffset (f k)) (ringCount (f k))) (afterList (f k)) (listed a) (p .passed2 .ensures) (not-false (p .passed2 .result) (c .if2 .left))
+
 returns-3 : tie.Need-returns-3
 returns-3 c =
     let q = c .before in
     let d = q .before in
-    let e = d .before in
-    let p = e .before in
-    let a = p .before in
-    let k = a .before in
-    let t = one k .before in
-    coords-checked d
-    ∙ sym
-    (book-is (f k)
-    ∙ on _ _ (t .before .check-tail .ensures) (t .passed .ensures) (not-false (t .passed .result) (one k .if1 .left))
-    ∙ on _ _ (listed a) (p .passed2 .ensures) (not-false (p .passed2 .result) (e .if2 .left))
-    ∙ off _ _ (coords-checked d) (q .passed3 .ensures) (not-true (q .passed3 .result) (c .if3 .taken)))
+    coords-checked d ∙ sym (past-list (d .before) ∙ off _ _ (coords-checked d) (q .passed3 .ensures) (not-true (q .passed3 .result) (c .if3 .taken)))
 
 check-rings-requires : tie.Need-check-rings-requires
 check-rings-requires c κs =
@@ -135,18 +137,10 @@ returns-4 c =
     let g = c .before in
     let q = g .before in
     let d = q .before in
-    let e = d .before in
-    let p = e .before in
-    let a = p .before in
-    let k = a .before in
-    let t = one k .before in
+    let k = d .before .before .before .before in
     c .check-rings .ensures
     ∙ ap₂ (λ (m n : ℕ). leastCheck (countsIn m (drop n (f k))) 0 (f k)) (is-k k) (is-from k)
-    ∙ sym
-    (book-is (f k)
-    ∙ on _ _ (t .before .check-tail .ensures) (t .passed .ensures) (not-false (t .passed .result) (one k .if1 .left))
-    ∙ on _ _ (listed a) (p .passed2 .ensures) (not-false (p .passed2 .result) (e .if2 .left))
-    ∙ on _ _ (coords-checked d) (q .passed3 .ensures) (not-false (q .passed3 .result) (g .if3 .left)))
+    ∙ sym (past-list (d .before) ∙ on _ _ (coords-checked d) (q .passed3 .ensures) (not-false (q .passed3 .result) (g .if3 .left)))
 
 pub check-book-spec : {M : Type 1} → statement M
 check-book-spec =

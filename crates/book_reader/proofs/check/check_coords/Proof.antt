@@ -1,11 +1,10 @@
 -- `book_reader::check::check_coords` meets its contract. The loop's invariant: the check of the coordinates left, from j on, decides. Assumes nothing.
-use Prim.Native.Nat.{ℕ, _+_, _*_, _-_, _≤_, _<_}
+use Prim.Native.Nat.{ℕ, _+_, _*_, _-_, _≤_}
 use mathlib.Core.Path.{_≡_, sym, ap, _∙_}
-use mathlib.Core.Bool.{Bool}
 use native.Mathlib.Omega.{arith}
 use borrow.Author.Needs.{needs}
 use borrow.Author.Tests.{not-true, not-false}
-use lib.ListN.{length, take, drop}
+use lib.ListN.{take, drop}
 use Rattle.book_layout.specs.Layout.{coordinateBits, numberOf}
 use Rattle.book_layout.specs.Faults.{faultAt, coordsCheck}
 use Rattle.book_reader.proofs.Coords.{coords-start, coord-good, coord-bad, coords-end}

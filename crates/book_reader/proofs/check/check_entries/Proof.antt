@@ -2,15 +2,15 @@
 -- have the bytes before the next one. Assumes nothing.
 use Prim.Native.Nat.{ℕ, _+_, _*_, _-_, _≤_, _<_}
 use mathlib.Core.Path.{_≡_, sym, ap, _∙_}
-use mathlib.Core.Bool.{true, false}
+use mathlib.Core.Bool.{true}
 use mathlib.Core.List.{List}
 use native.Mathlib.Omega.{arith}
 use borrow.Author.Needs.{needs}
 use borrow.Author.Tests.{not-true, not-false}
-use lib.ListN.{length, take, drop}
+use lib.ListN.{take, drop}
 use lib.Dec.{eqb}
 use Rattle.book_layout.specs.Layout.{within, numberOf, total, countsIn}
-use Rattle.book_layout.specs.Faults.{faultAt, entriesCheck}
+use Rattle.book_layout.specs.Faults.{entriesCheck}
 use Rattle.refusals.specs.Refusals.{none}
 use Rattle.book_layout.proofs.Passing.{is-within}
 use Rattle.book_reader.proofs.Entries.{offset-bad, count-bad, entry-good, total-left, entries-start, entries-end, counts-start, total-end, list-wrong, list-long, list-fine}

@@ -6,7 +6,7 @@ use mathlib.Core.List.{List}
 use native.Mathlib.Omega.{arith}
 use borrow.Author.Needs.{needs}
 use borrow.Author.Tests.{not-true, not-false}
-use lib.ListN.{length, take, drop}
+use lib.ListN.{take, drop}
 use Rattle.refusals.specs.Refusals.{passed}
 use Rattle.reading.specs.Reading.{vertices, isLeast}
 use Rattle.book_layout.specs.Layout.{numberOf, total, coordsIn, countsIn}

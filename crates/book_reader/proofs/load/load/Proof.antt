@@ -2,15 +2,14 @@
 -- the check passes the coordinates left. Assumes nothing.
 use Prim.Native.Nat.{ℕ, _+_, _*_, _-_, _≤_}
 use mathlib.Core.Path.{_≡_, refl, sym, ap, _∙_}
-use mathlib.Core.Bool.{true}
 use mathlib.Core.List.{List, map}
 use native.Mathlib.Omega.{arith}
 use borrow.Author.Needs.{needs}
-use lib.ListN.{length, take, drop, set, length-set}
+use lib.ListN.{length, drop, set, length-set}
 use lib.Seq.{sets}
 use lib.Ieee.{binary64, ofBits}
 use Rattle.refusals.specs.Refusals.{passed}
-use Rattle.book_layout.specs.Layout.{coordinateBits, numberOf, coordsIn}
+use Rattle.book_layout.specs.Layout.{coordinateBits, coordsIn}
 use Rattle.book_layout.specs.Faults.{_passes, coordsCheck}
 use Rattle.book_reader.proofs.Coords.{coords-start, coord-held, load-start, load-on, load-end}
 use Rattle.book_reader.proofs.Fields.{no-nan}

@@ -1,16 +1,17 @@
 -- `book_reader::load::load_book` meets its contract: the numbers and the counts, each at the front of its room. Assumes nothing.
-use Prim.Native.Nat.{ℕ, _+_, _/_, _≤_}
+use Prim.Native.Nat.{ℕ, _/_}
 use mathlib.Core.Path.{_≡_, sym, ap, ap₂, _∙_}
-use mathlib.Core.List.{List, _++_, map}
+use mathlib.Core.List.{List, map}
 use native.Mathlib.Omega.{arith}
 use borrow.Author.Needs.{needs}
-use lib.ListN.{length, drop}
-use lib.Seq.{sets, sets-eq}
-use lib.Ieee.{Float, binary64, ofBits}
+use lib.ListN.{drop}
+use lib.Seq.{sets}
+use lib.Ieee.{binary64, ofBits}
 use Rattle.refusals.specs.Refusals.{passed}
-use Rattle.book_layout.specs.Layout.{coordsIn, countsIn, ringCount, entryOffset, coordsOf, countsOf}
+use Rattle.book_layout.specs.Layout.{coordsIn, countsIn, entryOffset, coordsOf, countsOf}
 use Rattle.book_layout.specs.Faults.{coordsCheck}
-use Rattle.book_layout.specs.Reader.{numbersOf, onto}
+use Rattle.book_layout.specs.Reader.{numbersOf}
+use Rattle.book_layout.proofs.Bytes.{laid-is}
 use Rattle.book_layout.proofs.Exact.{Checked, checked}
 use Rattle.book_layout.proofs.Lent.{length-numbers, length-counts}
 use Rattle.book_reader.proofs.load.load_book.Statement.{statement}
@@ -59,10 +60,6 @@ same-length c = search needs
 same-length-2 : tie.Need-same-length-2
 same-length-2 c = search needs
 
--- a list stored at the front of a room that it fits
-stored : {A : Type 0} (l room : List A) → length l ≤ length room → sets room 0 l ≡ onto l room
-stored l room h = let e : 0 + length l ≡ length l = omega arith in sets-eq l room 0 (omega arith) ∙ ap (λ (j : ℕ). l ++ drop j room) e
-
 returns : tie.Need-returns
 unfolding coordsOf countsOf
 returns c =
@@ -73,10 +70,10 @@ returns c =
       k .ring-count .ensures .0 ∙ sym (length-counts (f k)),
       d .load .ensures
           ∙ ap (λ (m : ℕ). sets (a .room .now) 0 (map (ofBits binary64) (coordsIn m (f k)))) (is-m k)
-          ∙ stored (numbersOf (f k)) (a .room .now) (s k .pre .1 .0),
+          ∙ laid-is (numbersOf (f k)) (a .room .now) (s k .pre .1 .0),
       n .load-counts .ensures
           ∙ ap₂ (λ (i j : ℕ). sets (a .counts .now) 0 (countsIn i (drop j (f k)))) (k .ring-count .ensures .0) (k .before .entry-offset .ensures .0)
-          ∙ stored (countsOf (f k)) (a .counts .now) (s k .pre .1 .1),
+          ∙ laid-is (countsOf (f k)) (a .counts .now) (s k .pre .1 .1),
     )
 
 pub load-book-spec : {M : Type 1} → statement M

@@ -1,7 +1,5 @@
-use Prim.Native.Nat.{ℕ, _+_, _*_, _-_, _/_, _%_, _≤_, _<_}
-use mathlib.Core.Path.{_≡_, refl, sym, ap, _∙_}
+-- `book_reader::number::number4` meets its contract: the four bytes, weighed. Assumes nothing.
 use native.Mathlib.Omega.{arith}
-use lib.ListN.{length, getD}
 use borrow.Author.Needs.{needs}
 use Rattle.book_reader.proofs.Numbers.{four}
 use Rattle.book_reader.proofs.number.number4.Statement.{statement}

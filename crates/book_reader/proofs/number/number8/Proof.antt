@@ -1,7 +1,5 @@
-use Prim.Native.Nat.{ℕ, _+_, _*_, _-_, _/_, _%_, _≤_, _<_}
-use mathlib.Core.Path.{_≡_, refl, sym, ap, _∙_}
+-- `book_reader::number::number8` meets its contract: the low half and the high half. Assumes nothing.
 use native.Mathlib.Omega.{arith}
-use lib.ListN.{length, getD}
 use borrow.Author.Needs.{needs}
 use Rattle.book_reader.proofs.Numbers.{eight}
 use Rattle.book_reader.proofs.number.number8.Statement.{statement}
