@@ -4,21 +4,22 @@ use native.Mathlib.Omega.{arith}
 use native.Mathlib.Nat.{not-suc-le-zero}
 use mathlib.Core.Path.{_≡_, refl, sym, ap, subst, _∙_}
 use mathlib.Core.Bool.{Bool, true, false, not, cond}
-use mathlib.Core.List.{List, [], _∷_, _++_}
+use mathlib.Core.List.{List, [], _∷_}
 use lib.ListN.{length, getD, take, drop, length-append, List·getD-append}
 use lib.Seq.{take-at}
 use lib.Dec.{T}
 use lib.Ieee.{Float, nan, isNan}
+use Rattle.ring.specs.Room.{laid}
 use Rattle.refusals.specs.Refusals.{passed}
-use Rattle.refusals.specs.Bounds.{coordinate, coordinates}
-use Rattle.refusals.specs.Answers.{Outcome, answers, refuses, outcome, count}
+use Rattle.refusals.specs.Bounds.{coordinate, every, coordinates}
+use Rattle.refusals.specs.Answers.{answers, refuses, outcome, count}
 use Rattle.refusals.specs.declared.Refusal.{Refusal}
 use Rattle.refusals.specs.declared.answer.Count.{Count}
 use Rattle.refusals.specs.declared.answer.Count.the-variants.{Is}
-use Rattle.book_layout.specs.Layout.{Each, total, countsOf}
+use Rattle.book_layout.specs.Layout.{total, countsOf}
 use Rattle.book_layout.specs.Faults.{_passes}
 use Rattle.book_layout.specs.Writer.{Held}
-use Rattle.book_layout.specs.Reader.{numbersOf, readRefusal, onto, readRoom, readCounts}
+use Rattle.book_layout.specs.Reader.{numbersOf, readRefusal}
 use Rattle.book_layout.proofs.Passing.{and-both}
 use Rattle.book_layout.proofs.Found.{each-byte}
 use Rattle.book_layout.proofs.Lent.{coordinate-number, read-held}
@@ -34,7 +35,7 @@ answered no-one a b h = go (passed no-one) refl (h ∙ refl)
     go false e q = absurd (let z : _≡_ {A = ℕ} 0 1 = cc in omega arith)
 
 numbers-in : (xs : List Float) → coordinates xs ≡ true → Numbers xs (length xs)
-unfolding coordinates
+unfolding every
 numbers-in [] t i h = absurd (not-suc-le-zero h)
 numbers-in (x ∷ xs) t zero h = coordinate-number x (and-both (coordinate x) (coordinates xs) t .0)
 numbers-in (x ∷ xs) t (suc i) h = numbers-in xs (and-both (coordinate x) (coordinates xs) t .1) i (omega arith)
@@ -43,12 +44,10 @@ module _ (f : List ℕ) (bytes : (i : ℕ) → getD f i 0 < 256) (room x : List 
   accepted : (readRefusal f (length room) (length counts) passes) × (k ≡ length (countsOf f))
   accepted = answered (readRefusal f (length room) (length counts)) k (length (countsOf f)) (ap count (sym e) ∙ p .0)
 
-  room-is : x ≡ onto (numbersOf f) room
-  unfolding readRoom
+  room-is : x ≡ laid (numbersOf f) room
   room-is = p .1 ∙ (rw (accepted .0))
 
-  counts-is : n ≡ onto (countsOf f) counts
-  unfolding readCounts
+  counts-is : n ≡ laid (countsOf f) counts
   counts-is = p .2 ∙ (rw (accepted .0))
 
   held : Held (numbersOf f) (countsOf f)

@@ -2,10 +2,10 @@
 use refusals::Refusal;
 use refusals::answer::Count;
 ghost use mathlib.Core.Bool.{not};
-ghost use Prim.Native.Nat.{ℕ, _+_, _*_, _<_, _≤_};
-ghost use lib.ListN.{length, getD};
+ghost use Prim.Native.Nat.{_+_, _*_, _<_, _≤_};
+ghost use lib.ListN.{length};
 ghost use lib.Dec.{T};
-ghost use lib.Ieee.{nan, isNan};
+ghost use lib.Ieee.{isNan};
 ghost use Rattle.ring_printer.specs.Printable.{Numbers, Printable};
 
 const OUT: i32 = 1;

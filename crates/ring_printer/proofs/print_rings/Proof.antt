@@ -1,6 +1,6 @@
 -- `ring_printer::print_rings` meets its contract. The loop's invariant: the numbers before at are those of the rings passed, and the counts left are sized.
 -- Assumes nothing.
-use Prim.Native.Nat.{ℕ, _+_, _*_, _-_, _≤_, _<_}
+use Prim.Native.Nat.{ℕ, _+_, _*_, _-_, _≤_}
 use mathlib.Core.Path.{_≡_, refl}
 use mathlib.Core.Bool.{true}
 use mathlib.Core.List.{List}

@@ -1,5 +1,5 @@
 -- `ring_printer::print_vertices` meets its contract. The loop's invariant: at most n vertices are passed. Assumes nothing.
-use Prim.Native.Nat.{ℕ, _+_, _*_, _-_, _≤_, _<_}
+use Prim.Native.Nat.{_+_, _*_, _-_, _≤_}
 use native.Mathlib.Omega.{arith}
 use borrow.Author.Needs.{needs}
 use Rattle.ring_printer.proofs.print_vertices.Statement.{statement}
