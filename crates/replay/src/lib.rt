@@ -76,6 +76,59 @@ pub fn load(bytes: &[u8], n: usize, room: &mut [f64])
     }
 }
 
+// The low half of each of n words, at the front of the room.
+pub fn load_counts(bytes: &[u8], n: usize, room: &mut [u32])
+    requires { ⌜ n ≤ length (now room) ⌝ }
+{
+    let mut i = 0;
+    while i < n {
+        room[i] = (word(bytes, 8 * i) % 4294967296) as u32;
+        i += 1;
+    }
+}
+
+// Whether the first n floats of two lists are the same, bit for bit.
+pub fn same_floats(a: &[f64], b: &[f64], n: usize) -> bool
+    requires { ⌜ (n ≤ length (now a)) × (n ≤ length (now b)) ⌝ }
+{
+    let mut i = 0;
+    while i < n {
+        if bits(a[i]) != bits(b[i]) {
+            return false;
+        }
+        i += 1;
+    }
+    true
+}
+
+// Whether the first n counts of two lists are the same.
+pub fn same_counts(a: &[u32], b: &[u32], n: usize) -> bool
+    requires { ⌜ (n ≤ length (now a)) × (n ≤ length (now b)) ⌝ }
+{
+    let mut i = 0;
+    while i < n {
+        if a[i] != b[i] {
+            return false;
+        }
+        i += 1;
+    }
+    true
+}
+
+// Whether the first n bytes of two lists are the same.
+pub fn same_bytes(a: &[u8], b: &[u8], n: usize) -> bool
+    requires { ⌜ (n ≤ length (now a)) × (n ≤ length (now b)) ⌝ }
+{
+    let mut i = 0;
+    while i < n {
+        if a[i] != b[i] {
+            return false;
+        }
+        i += 1;
+    }
+    true
+}
+
 // What reading a record came to.
 pub enum Verdict {
     End,

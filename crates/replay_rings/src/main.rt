@@ -4,10 +4,10 @@ mod told;
 use libc::STDIN_FILENO;
 use plane::Point;
 use replay::Verdict;
-use replay::bits;
 use replay::load;
 use replay::read;
 use replay::report;
+use replay::same_floats;
 use replay::tally;
 use replay::word;
 use told::Told;
@@ -67,20 +67,6 @@ fn takes_rings(call: u64) -> bool {
     }
 }
 
-// Whether the first n floats of two lists are the same, bit for bit.
-fn same(a: &[f64; 600], b: &[f64; 600], n: usize) -> bool
-    requires { ⌜ n ≤ 600 ⌝ }
-{
-    let mut i = 0;
-    while i < n {
-        if bits(a[i]) != bits(b[i]) {
-            return false;
-        }
-        i += 1;
-    }
-    true
-}
-
 // n words of the list, as floats.
 fn floats(n: usize) -> [f64; 600]
     requires { ⌜ n ≤ 600 ⌝ }
@@ -103,7 +89,7 @@ fn agrees(told: Told, header: &[u8; 48], room: &[f64; 600], left: &[f64; 600], n
     if told.value != word(header, 40) {
         return false;
     }
-    same(room, left, n)
+    same_floats(room, left, n)
 }
 
 // One record past its header: the lists are read, the call is made and compared.

@@ -1,9 +1,9 @@
--- `replay_rings::same` meets its contract. The invariant says only that i is at most n. Assumes nothing.
+-- `replay::same_floats` meets its contract. The invariant says only that i is at most n. Assumes nothing.
 use native.Mathlib.Omega.{arith}
 use borrow.Author.Needs.{needs}
 use Prim.Native.Nat.{_-_, _≤_}
-use Rattle.replay_rings.proofs.same.Statement.{statement}
-use Rattle.replay_rings.proofs.same.Tie as tie
+use Rattle.replay.proofs.same_floats.Statement.{statement}
+use Rattle.replay.proofs.same_floats.Tie as tie
 
 abbrev Inv-loop : tie.InvT-loop
 Inv-loop a b n i₀ i = i ≤ n
@@ -17,8 +17,8 @@ loop-holds c = omega arith
 mul-bits : tie.Need-mul-bits Inv-loop μ-loop
 mul-bits c = omega arith
 
-element-copy-out-bits : tie.Need-element-copy-out-bits Inv-loop μ-loop
-element-copy-out-bits c = omega arith
+shared-slice-read-bits : tie.Need-shared-slice-read-bits Inv-loop μ-loop
+shared-slice-read-bits c = omega arith
 
 bits-requires : tie.Need-bits-requires Inv-loop μ-loop
 bits-requires c κs = search needs
@@ -26,8 +26,8 @@ bits-requires c κs = search needs
 mul-bits-2 : tie.Need-mul-bits-2 Inv-loop μ-loop
 mul-bits-2 c = omega arith
 
-element-copy-out-bits-2 : tie.Need-element-copy-out-bits-2 Inv-loop μ-loop
-element-copy-out-bits-2 c = omega arith
+shared-slice-read-bits-2 : tie.Need-shared-slice-read-bits-2 Inv-loop μ-loop
+shared-slice-read-bits-2 c = omega arith
 
 bits-requires-2 : tie.Need-bits-requires-2 Inv-loop μ-loop
 bits-requires-2 c κs = search needs
@@ -47,18 +47,18 @@ loop-again c = omega arith
 returns-2 : tie.Need-returns-2 Inv-loop μ-loop
 returns-2 c = tt
 
-pub same-spec : {M : Type 1} → statement M
-same-spec =
+pub same-floats-spec : {M : Type 1} → statement M
+same-floats-spec =
     tie.close
     (tie.spec
     Inv-loop
     μ-loop
     loop-holds
     mul-bits
-    element-copy-out-bits
+    shared-slice-read-bits
     bits-requires
     mul-bits-2
-    element-copy-out-bits-2
+    shared-slice-read-bits-2
     bits-requires-2
     returns
     add-i
