@@ -4,9 +4,11 @@
 //! The files under `text/` are compiled three times. `fixed` gives them the
 //! helpers that document 01 fixes, `repository` those of the repository's own
 //! text and of Rust's library, `swapped` the fixed ones with the two zeros in the
-//! other order. `calls` gives document 01's answers over `fixed`.
+//! other order. `calls` gives document 01's answers over `fixed`; `book` is no
+//! text of theirs, but the outline book written down from document 01.
 
 pub mod answers;
+pub mod book;
 pub mod calls;
 pub mod fixed;
 pub mod refusals;

@@ -24,7 +24,7 @@ pub struct Settings {
 }
 
 /// The refusal with this number unless the test holds.
-fn unless(test: bool, number: u32) -> Answer<()> {
+pub fn unless(test: bool, number: u32) -> Answer<()> {
     if test {
         Ok(())
     } else {

@@ -32,6 +32,33 @@ pub fn knot(n: usize) -> Vec<f64> {
     (0..n).flat_map(corner).collect()
 }
 
+/// The point at this part of a circle of radius 1, from (1, 0) counter-clockwise
+/// and once round from 0 to 1; without sines, the same on every machine.
+fn round(part: f64) -> [f64; 2] {
+    let t = (4.0 * part).fract();
+    let (x, y) = ((1.0 - t * t) / (1.0 + t * t), 2.0 * t / (1.0 + t * t));
+    match (4.0 * part) as usize % 4 {
+        0 => [x, y],
+        1 => [-y, x],
+        2 => [-x, -y],
+        _ => [y, -x],
+    }
+}
+
+/// A disc of this radius with n vertices, about the origin.
+pub fn disc(n: usize, radius: f64) -> Vec<f64> {
+    let corner = |i: usize| round(i as f64 / n as f64).map(|x| radius * x);
+    (0..n).flat_map(corner).collect()
+}
+
+/// A star with this many points: every other vertex of a disc drawn in.
+pub fn star(points: usize, radius: f64, inner: f64) -> Vec<f64> {
+    let n = 2 * points;
+    let reach = |i: usize| if i % 2 == 0 { radius } else { inner };
+    let corner = |i: usize| round(i as f64 / n as f64).map(|x| reach(i) * x);
+    (0..n).flat_map(corner).collect()
+}
+
 /// Named whole-coordinate shapes, simple and not.
 pub fn whole_shapes() -> Vec<Vec<f64>> {
     vec![

@@ -1,11 +1,36 @@
-//! The replay lists in the repository are the ones that the oracle writes.
+//! The replay lists in the repository are the ones that the oracle writes, keep
+//! their bounds, and hold every outcome there is.
 
-use oracle::replay::{bytes, rings, scalars};
+use oracle::replay::{book, bytes, list, rings, scalars, sliding, traces};
+use oracle::seeded::Seeded;
+use std::collections::BTreeSet;
+
+/// Most bytes of a stored list that has a long form.
+const MOST_BYTES: usize = 1_200_000;
 
 /// The list that a replay program of the repository reads.
 fn stored(program: &str) -> Vec<u8> {
     let place = format!("{}/../crates/{program}/stdin", env!("CARGO_MANIFEST_DIR"));
     std::fs::read(&place).unwrap_or_else(|fault| panic!("{place}: {fault}"))
+}
+
+/// That the stored list is the one the oracle writes, and not too long.
+fn as_written(program: &str, records: Vec<Vec<u64>>) {
+    let list = stored(program);
+    assert!(list == bytes(&records.concat()));
+    assert!(list.len() < MOST_BYTES, "{}", list.len());
+}
+
+/// Records of a long run of the list with this name.
+fn long(name: &str, count: u64) -> Vec<Vec<u64>> {
+    let list = list(name).expect("the list has a long form");
+    let seeded = &mut Seeded::new(11);
+    (0..count).map(|place| (list.long)(seeded, place)).collect()
+}
+
+/// The words of a record as lengths.
+fn lengths<const N: usize>(record: &[u64], places: [usize; N]) -> [usize; N] {
+    places.map(|place| record[place] as usize)
 }
 
 #[test]
@@ -25,4 +50,171 @@ fn ring_records_keep_their_bounds() {
         assert!(a <= 600 && b <= 600 && room <= 600);
         assert_eq!(record.len(), 6 + a + b + 2 * room);
     }
+}
+
+#[test]
+fn book_is_as_written() {
+    as_written("replay_book", book::records());
+}
+
+#[test]
+fn book_records_keep_their_bounds() {
+    for record in book::records().into_iter().chain(long("book", 4_000)) {
+        let [a, b, room, counts] = lengths(&record, [1, 2, 3, 4]);
+        let rest = if record[0] == book::WRITE {
+            assert!(a <= 4_200 && b <= 16 && room <= 33_000 && counts == 0);
+            a + b + 2 * room.div_ceil(8)
+        } else {
+            assert!(a <= 33_000 && b == 0 && room <= 4_200 && counts <= 16);
+            a.div_ceil(8) + 2 * (room + counts)
+        };
+        assert_eq!(record.len(), book::HEADER + rest);
+        assert_eq!(record[8..book::HEADER], [0; 4]);
+    }
+}
+
+#[test]
+fn sliding_records_keep_their_bounds() {
+    for record in sliding::records().into_iter().chain(long("sliding", 4_000)) {
+        let [a, b, list, extra, one, two] = lengths(&record, [1, 2, 3, 4, 5, 6]);
+        assert!(a <= 600 && b <= 600 && list <= 20_100 && extra <= 8);
+        assert!(one <= sliding::MOST_ROOM && two <= sliding::MOST_ROOM);
+        assert_eq!(record.len(), sliding::HEADER + a + b + list + extra + 2 * (one + two));
+        assert_eq!(record[13..sliding::HEADER], [0; 3]);
+    }
+}
+
+#[test]
+fn trace_records_keep_their_bounds() {
+    for record in traces::records().into_iter().chain(long("traces", 2_000)) {
+        let [a, b, work, result] = lengths(&record, [0, 1, 2, 3]);
+        assert!(a <= 600 && b <= 600);
+        assert!(work <= traces::MOST_ROOM && result <= traces::MOST_ROOM);
+        assert_eq!(record.len(), traces::HEADER + a + b + 2 * (work + result));
+        assert_eq!(record[12..traces::HEADER], [0; 4]);
+    }
+}
+
+/// The checks of a book's reader, in the order of document 01.
+#[derive(Debug, PartialEq, Eq, PartialOrd, Ord)]
+enum Check {
+    Length,
+    RingCount,
+    EntryOffset,
+    RingOffset,
+    Vertices,
+    RingsEnd,
+    Coordinate,
+    Reading,
+}
+
+/// Which check a book of this record failed, told from the place and the file.
+fn failed(record: &[u64]) -> Check {
+    let (length, place) = (record[1] as usize, record[7] as usize);
+    let file = bytes(&record[book::HEADER..]);
+    let field = |at: usize| u32::from_le_bytes([0, 1, 2, 3].map(|i| file[at + i])) as usize;
+    if !(64..=32_840).contains(&length) {
+        return Check::Length;
+    }
+    let entries = (length - 8).checked_sub(8 * field(length - 8));
+    if place == length - 8 {
+        Check::RingCount
+    } else if place == length - 4 && entries == Some(field(length - 4)) {
+        Check::RingsEnd
+    } else if place == length - 4 {
+        Check::EntryOffset
+    } else if place >= entries.expect("the entries are in the file") {
+        [Check::RingOffset, Check::Vertices].into_iter().nth((length - place) / 4 % 2).expect("two")
+    } else {
+        let number = f64::from_bits(record[book::HEADER + place / 8]);
+        if number.abs() <= 1e6 {
+            Check::Reading
+        } else {
+            Check::Coordinate
+        }
+    }
+}
+
+#[test]
+fn books_are_refused_in_every_way() {
+    let records = book::records();
+    let met: BTreeSet<_> = records.iter().map(|record| (record[0], record[5])).collect();
+    let write = [0, 1, 2, 4].map(|number| (book::WRITE, number));
+    let read = [0, 4, 7].map(|number| (book::READ, number));
+    assert!(met.into_iter().eq(write.into_iter().chain(read)));
+    let failed: BTreeSet<_> =
+        records.iter().filter(|record| record[5] == 7).map(|record| failed(record)).collect();
+    assert_eq!(failed.len(), 8, "{failed:?}");
+    for rings in 1..=8 {
+        assert!(records.iter().any(|record| record[0] == book::READ && record[6] == rings));
+        assert!(records.iter().any(|record| record[..3] == [book::WRITE, 6 * rings, rings]));
+    }
+    for length in [64, 32_840] {
+        assert!(records.iter().any(|record| record[0] == book::WRITE && record[6] == length));
+        assert!(records.iter().any(|r| r[..2] == [book::READ, length] && r[5] == 0));
+    }
+}
+
+#[test]
+fn each_sliding_call_is_refused_and_answers() {
+    let records = sliding::records();
+    let met: BTreeSet<_> = records.iter().map(|record| (record[0], record[7])).collect();
+    let numbers = |call: u64| -> &[u64] {
+        match call {
+            0..=2 | 10 => &[0, 1, 2, 3, 5],
+            3 => &[0, 1],
+            7 | 9 => &[0, 1, 2],
+            _ => &[0, 1, 2, 3],
+        }
+    };
+    for call in 0..=10 {
+        let of_call = met.iter().filter(|pair| pair.0 == call).map(|pair| &pair.1);
+        assert!(of_call.eq(numbers(call)), "call {call}");
+        let found = |some: bool| {
+            let is = |r: &&Vec<u64>| r[0] == call && r[7] == 0 && (r[8] != 0) == some;
+            records.iter().any(|record| is(&record))
+        };
+        assert!(call == sliding::START || (found(true) && found(false)), "call {call}");
+    }
+}
+
+#[test]
+fn contacts_and_hits_are_of_every_kind() {
+    let records = sliding::records();
+    let (mut contacts, mut hits) = (BTreeSet::new(), BTreeSet::new());
+    for record in records.iter().filter(|record| record[7] == 0) {
+        let [a, b, list, extra, one, two] = lengths(record, [1, 2, 3, 4, 5, 6]);
+        if record[0] == sliding::FIND_CONTACTS {
+            let after = sliding::HEADER + a + b + list + extra + one + two;
+            let which = &record[after..after + 3 * record[8] as usize];
+            contacts.extend(which.chunks_exact(3).map(|contact| contact[0]));
+        } else if record[0] == sliding::COLLISION && record[8] == 1 {
+            hits.insert(record[10]);
+        }
+    }
+    assert!(contacts.into_iter().eq([0, 1, 2]));
+    assert!(hits.into_iter().eq([0, 1]));
+}
+
+#[test]
+fn traces_end_in_every_way() {
+    let records = traces::records();
+    let numbers: BTreeSet<_> = records.iter().map(|record| record[7]).collect();
+    assert!(numbers.into_iter().eq(0..=6));
+    let stops = |number: u64| -> BTreeSet<u64> {
+        records.iter().filter(|record| record[7] == number).map(|record| record[11]).collect()
+    };
+    assert!(stops(0).into_iter().eq(1..=5));
+    assert!(stops(6).into_iter().eq([1, 2, 3, 5]));
+    assert!((1..=5).all(|number| stops(number).into_iter().eq([0])));
+    let most = records.iter().filter(|record| record[6] > 200 && record[7] != 3).count();
+    assert!(most < 10, "{most} traces have a limit above 200");
+}
+
+#[test]
+fn long_runs_are_decided_by_the_seed() {
+    for name in ["book", "sliding", "traces"] {
+        assert!(long(name, 50) == long(name, 50));
+    }
+    assert!(list("rings").is_none());
 }

@@ -81,6 +81,46 @@ fn every_reason_is_met() {
 }
 
 #[test]
+fn a_step_to_interlock_may_lose_the_contact() {
+    // The step is as long as the tolerance, and so is the distance after it.
+    let settings = Settings { contact_tolerance: 0.5, min_translation: 0.0, ..DEFAULT };
+    let [a, b] =
+        [&[0.0, -1.0, -1.0, -1.0, 0.0, 1.0, -1.0, 1.0][..], &[0.0, -2.0, -1.0, -1.0, -1.0, -1.0]];
+    let (traced, [work, _]) = trace(a, b, &settings, [8, 8]);
+    assert_eq!(traced, Traced::Short { passes: 2, stop: 1 });
+    assert_eq!(work[..4], [0.0, 0.0, 0.0, -0.5]);
+
+    // A path of three points succeeds all the same.
+    let settings = Settings { contact_tolerance: 1.0, ..settings };
+    let [a, b] =
+        [&[-1.0, -1.0, -2.0, 2.0, 1.0, -2.0, 0.0, 0.0][..], &[-1.0, -2.0, -2.0, 0.0, 1.0, -2.0]];
+    let (traced, [_, result]) = trace(a, b, &settings, [8, 8]);
+    assert_eq!(traced, Traced::Done { points: 3, stored: 3, passes: 3, stop: 1 });
+    assert_eq!(result[..6], [3.0, -2.0, 2.0, -2.0, 1.0, -2.0]);
+}
+
+#[test]
+fn a_path_that_closes_may_lead_through_the_stationary_polygon() {
+    let a = [-3.0, 0.0, 0.0, 0.0, -2.0, 3.0];
+    let b = [-2.0, -2.0, 0.0, -2.0, -2.0, -1.0];
+    let (traced, [work, _]) = trace(&a, &b, &DEFAULT, [8, 8]);
+    assert!(matches!(traced, Traced::Done { points: 3, stored: 3, stop: 4, .. }));
+    assert_eq!(work[..6], [-1.0, 1.0, -1.0, 2.0, -3.0, 2.0]);
+    // At (-1, 2) both hold the point (-2.5, 0.25), well inside.
+    let inside = |ring: &[f64], x: f64, y: f64| {
+        let turn = |i: usize| {
+            let [p, q] = [i, (i + 1) % 3].map(|i| (ring[2 * i], ring[2 * i + 1]));
+            calls::orientation(p, q, (x, y)) == Ok(1)
+        };
+        (0..3).all(turn)
+    };
+    assert!(inside(&a, -2.5, 0.25) && inside(&b, -1.5, -1.75));
+    // The pass there saw no hit: what touches already is none.
+    let moved = [-3.0, -1.0, -1.0, -1.0, -3.0, 0.0];
+    assert_eq!(calls::check_translation_collision(&a, &moved, (0.0, 1.0), 1e-6), Ok(None));
+}
+
+#[test]
 fn rooms_are_tested_after_settings() {
     for (rooms, number) in [([0, 8], 4), ([7, 8], 4), ([1, 8], 4), ([8, 7], 4), ([2, 3], 5)] {
         assert_eq!(trace(&S, &Q, &DEFAULT, rooms).0.number(), number, "{rooms:?}");

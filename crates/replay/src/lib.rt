@@ -76,6 +76,17 @@ pub fn load(bytes: &[u8], n: usize, room: &mut [f64])
     }
 }
 
+// The n words themselves, at the front of the room.
+pub fn load_words(bytes: &[u8], n: usize, room: &mut [u64])
+    requires { ⌜ n ≤ length (now room) ⌝ }
+{
+    let mut i = 0;
+    while i < n {
+        room[i] = word(bytes, 8 * i);
+        i += 1;
+    }
+}
+
 // The low half of each of n words, at the front of the room.
 pub fn load_counts(bytes: &[u8], n: usize, room: &mut [u32])
     requires { ⌜ n ≤ length (now room) ⌝ }
@@ -103,6 +114,20 @@ pub fn same_floats(a: &[f64], b: &[f64], n: usize) -> bool
 
 // Whether the first n counts of two lists are the same.
 pub fn same_counts(a: &[u32], b: &[u32], n: usize) -> bool
+    requires { ⌜ (n ≤ length (now a)) × (n ≤ length (now b)) ⌝ }
+{
+    let mut i = 0;
+    while i < n {
+        if a[i] != b[i] {
+            return false;
+        }
+        i += 1;
+    }
+    true
+}
+
+// Whether the first n words of two lists are the same.
+pub fn same_words(a: &[u64], b: &[u64], n: usize) -> bool
     requires { ⌜ (n ≤ length (now a)) × (n ≤ length (now b)) ⌝ }
 {
     let mut i = 0;

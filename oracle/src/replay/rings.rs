@@ -13,11 +13,10 @@
 mod corners;
 mod lists;
 
-use super::answer_bits;
+use super::{answer_bits, once};
 use crate::calls;
-use crate::refusals::{Answer, LARGEST};
+use crate::refusals::Answer;
 use crate::seeded::Seeded;
-use std::collections::HashSet;
 
 pub const ORIENTATION: u64 = 0;
 pub const ON_SEGMENT: u64 = 1;
@@ -46,31 +45,6 @@ impl Case {
     fn of(call: u64, a: &[f64]) -> Self {
         Self { call, a: a.to_vec(), b: Vec::new(), room: Vec::new() }
     }
-}
-
-/// Numbers to put in a place: on the bounds, past them, and odd ones within.
-const EDGES: [f64; 14] = [
-    LARGEST,
-    -LARGEST,
-    LARGEST.next_up(),
-    (-LARGEST).next_down(),
-    f64::NAN,
-    f64::INFINITY,
-    f64::NEG_INFINITY,
-    f64::MAX,
-    -0.0,
-    5e-324,
-    -5e-324,
-    f64::MIN_POSITIVE,
-    LARGEST.next_down(),
-    1e-160,
-];
-
-/// The list with this number in this place.
-fn with(list: &[f64], place: usize, number: f64) -> Vec<f64> {
-    let mut changed = list.to_vec();
-    changed[place] = number;
-    changed
 }
 
 /// What the call answers, as the value of a record; writes the room.
@@ -118,10 +92,7 @@ pub fn records() -> Vec<Vec<u64>> {
     let seeded = &mut Seeded::new(0x0f17_0011);
     let mut cases = corners::cases(seeded);
     cases.extend(lists::cases(seeded));
-    let mut met = HashSet::new();
-    let mut all: Vec<_> = cases.iter().map(record).collect();
-    all.retain(|record| met.insert(record.clone()));
-    all
+    once(cases.iter().map(record).collect())
 }
 
 /// The list, word by word.

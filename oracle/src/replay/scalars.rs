@@ -2,7 +2,7 @@
 //! 1 smaller, 2 larger, 3 clamp, 4 square root, 5 limit), the bits of up to
 //! three operands (0 where unused) and the bits of the answer.
 
-use super::answer_bits;
+use super::{answer_bits, NANS};
 use crate::calls;
 use crate::seeded::Seeded;
 
@@ -33,18 +33,6 @@ const EDGES: [u64; 15] = [
     0xbff0_0000_0000_0000,
     0x412e_8480_0000_0000, // 1e6
     0xc12e_8480_0000_0000,
-];
-
-/// NaNs: quiet and signalling, both signs, several payloads.
-const NANS: [u64; 8] = [
-    0x7ff8_0000_0000_0000,
-    0xfff8_0000_0000_0000,
-    0x7ff0_0000_0000_0001,
-    0xfff0_0000_0000_0001,
-    0x7fff_ffff_ffff_ffff,
-    0xffff_ffff_ffff_ffff,
-    0x7ff7_ffff_ffff_ffff,
-    0x7ff8_0000_dead_beef,
 ];
 
 /// More numbers whose root, sign or order is easy to get wrong.

@@ -3,7 +3,9 @@
 use crate::inputs::{self, Input};
 use oracle::answers::{Error, Point, Trace};
 use oracle::calls::points_of;
+use oracle::fixed::helpers::orient2d_filtered;
 use oracle::fixed::nfp_sliding::{self as sliding, SlidingNfpConfig};
+use oracle::fixed::polygon_ops::is_simple_polygon;
 use oracle::seeded::Seeded;
 use oracle::shapes::{placed, square, whole_shapes};
 use oracle::{fixed, repository};
@@ -16,11 +18,36 @@ pub fn print() {
     squares();
     reasons();
     lost_contact();
+    steps_to_interlock();
     closing();
+    crossed();
+    through();
     recoveries();
     overlap();
     interlocking();
     turned_round();
+}
+
+/// The smallest example met so far: fewest points, then smallest numbers.
+#[derive(Default)]
+struct Smallest {
+    met: usize,
+    size: (usize, f64),
+    text: String,
+}
+
+impl Smallest {
+    /// Counts the pair, and keeps what is told of it if it is the smallest with
+    /// its path.
+    fn meet(&mut self, a: &[Point], b: &[Point], path: &[Point], told: String) {
+        let numbers = a.iter().chain(b).map(|p| p.0.abs() + p.1.abs()).sum();
+        let size = (a.len() + b.len() + path.len(), numbers);
+        if self.met == 0 || size < self.size {
+            self.size = size;
+            self.text = format!("{a:?}, {b:?}: {told}");
+        }
+        self.met += 1;
+    }
 }
 
 /// Rust's own minimum, maximum and sum where IEEE 754 or document 01 fix more.
@@ -177,6 +204,115 @@ fn lost_contact() {
         let (stop, passes) = (trace.stop, trace.passes);
         println!("{stationary:?}, {orbiting:?}, {tolerance:e}: reason {stop}, {passes} passes");
     }
+}
+
+/// Traces that stop for want of contact on whole coordinates: how many of small
+/// seeded polygons are refused and how many succeed, with a smallest of either.
+fn steps_to_interlock() {
+    let seeded = &mut Seeded::new(11);
+    let mut found = [Smallest::default(), Smallest::default()];
+    for _ in 0..200_000 {
+        let mut ring = |least: usize, more: usize| -> Vec<Point> {
+            let n = least + seeded.below(more);
+            (0..n).map(|_| (seeded.whole(2), seeded.whole(2))).collect()
+        };
+        let (a, b) = (ring(4, 2), ring(3, 2));
+        let config = SlidingNfpConfig {
+            contact_tolerance: seeded.pick(&[0.25, 0.5, 1.0]),
+            min_translation: 0.0,
+            max_iterations: 40,
+        };
+        let Trace { path, passes, stop } = run(&a, &b, &config).0;
+        if stop == 1 {
+            let tolerance = config.contact_tolerance;
+            let told = format!("tolerance {tolerance}, {passes} passes, {path:?}");
+            found[usize::from(path.len() > 2)].meet(&a, &b, &path, told);
+        }
+    }
+    for (end, Smallest { met, text, .. }) in ["refused", "succeed"].iter().zip(&found) {
+        println!("200000 pairs of small rings: reason 1 and {end}: {met}, as {text}");
+    }
+}
+
+/// Whether a ring has all its corners to the left, none in line, and goes round
+/// once.
+fn convex(ring: &[Point]) -> bool {
+    let n = ring.len();
+    let left = |i: usize| {
+        let turn = orient2d_filtered(ring[i], ring[(i + 1) % n], ring[(i + 2) % n]);
+        !turn.is_cw() && !turn.is_collinear()
+    };
+    (0..n).all(left) && is_simple_polygon(ring)
+}
+
+/// How deep convex rings lie in each other: the least overlap along the normals
+/// of their edges, negative if they are apart.
+fn depth(a: &[Point], b: &[Point]) -> f64 {
+    let mut least = f64::INFINITY;
+    for ring in [a, b] {
+        for (i, p) in ring.iter().enumerate() {
+            let q = ring[(i + 1) % ring.len()];
+            let length = (q.0 - p.0).hypot(q.1 - p.1);
+            let axis = ((p.1 - q.1) / length, (q.0 - p.0) / length);
+            let [x, y] = [a, b].map(|ring| sliding::project_polygon_on_axis(ring, axis));
+            least = least.min(x.1 - y.0).min(y.1 - x.0);
+        }
+    }
+    least
+}
+
+/// The greatest depth at a point of the path.
+fn deepest(a: &[Point], b: &[Point], path: &[Point]) -> f64 {
+    let moved = |at: &Point| b.iter().map(|p| (p.0 + at.0, p.1 + at.1)).collect::<Vec<_>>();
+    path.iter().map(|at| depth(a, &moved(at))).fold(f64::NEG_INFINITY, f64::max)
+}
+
+/// How many traces of convex triangles have a point at which these lie in each
+/// other by more than a hundredth, by reason, with a smallest that closes.
+fn through() {
+    let seeded = &mut Seeded::new(13);
+    let (mut all, mut deep, mut closing) = ([0; 6], [0; 6], Smallest::default());
+    for _ in 0..40_000 {
+        let mut triangle = || [0; 3].map(|_| (seeded.whole(4), seeded.whole(4)));
+        let [a, b] = [triangle(), triangle()];
+        if !convex(&a) || !convex(&b) {
+            continue;
+        }
+        let Trace { path, stop, .. } = run(&a, &b, &passes(100)).0;
+        all[stop as usize] += 1;
+        if deepest(&a, &b, &path) > 0.01 {
+            deep[stop as usize] += 1;
+            if stop == 4 {
+                let depths: Vec<f64> = path.iter().map(|at| deepest(&a, &b, &[*at])).collect();
+                closing.meet(&a, &b, &path, format!("path {path:?}, depths {depths:?}"));
+            }
+        }
+    }
+    println!("convex triangles, 100 passes: reasons 1 to 5 {:?}", &all[1..]);
+    println!("  of these lead through the stationary one: {:?}", &deep[1..]);
+    println!("  as {}", closing.text);
+}
+
+/// How many of the answers for simple shapes with an area cross or touch
+/// themselves, by reason, with a smallest.
+fn crossed() {
+    let plain = |shape: &Vec<Point>| is_simple_polygon(shape) && areas(shape)[0] != 0.0;
+    let shapes: Vec<_> = whole_shapes().iter().map(|shape| points_of(shape)).collect();
+    let simple: Vec<_> = shapes.into_iter().filter(plain).collect();
+    let (mut all, mut met, mut found) = ([0; 6], [0; 6], Smallest::default());
+    for a in &simple {
+        for b in &simple {
+            let Ok(nfp) = sliding::compute_nfp_sliding(a, b, &passes(500), 501) else { continue };
+            let stop = nfp.trace.stop as usize;
+            all[stop] += 1;
+            if !is_simple_polygon(&nfp.polygon) {
+                met[stop] += 1;
+                found.meet(a, b, &nfp.polygon, format!("{:?}", nfp.polygon));
+            }
+        }
+    }
+    println!("answers for {} simple shapes, 500 passes: {:?}", simple.len(), &all[1..]);
+    println!("  of these are not simple themselves: {:?}, as {}", &met[1..], found.text);
 }
 
 /// Segments whose meeting depends on the way one of them runs: tenths, the

@@ -1,7 +1,8 @@
 //! Cases for the calls that take single points and segment ends.
 
-use super::{with, Case, EDGES};
+use super::Case;
 use crate::calls;
+use crate::replay::{with, EDGES};
 use crate::seeded::Seeded;
 
 /// The calls that take three points.

@@ -1,6 +1,7 @@
 //! Cases for the calls that take rings.
 
-use super::{with, Case, EDGES};
+use super::Case;
+use crate::replay::{float_room, with, EDGES};
 use crate::seeded::Seeded;
 use crate::shapes::whole_shapes;
 use crate::shapes::{closed, comb, knot, parabola, placed, reversed, seeded_ring, square};
@@ -29,12 +30,6 @@ const LONG_ROOMS: [(usize, usize); 14] = [
     (10, 3),
     (11, 3),
 ];
-
-/// A room of this length whose every number can be told from an answer.
-fn room(length: usize) -> Vec<f64> {
-    let number = |i: usize| if i % 5 == 3 { -0.0 } else { 1000.5 + i as f64 };
-    (0..length).map(number).collect()
-}
 
 /// Small rings with closing repeats, signed zeros, repeated points, and the
 /// margin of 1e-9 between edges that are no neighbours.
@@ -149,7 +144,7 @@ fn room_cases(small: &[Vec<f64>], others: &[Vec<f64>], long: &[Vec<f64>]) -> Vec
     let mut all = Vec::new();
     for call in ROOM_CALLS {
         let mut lend = |ring: &[f64], length: usize| {
-            all.push(Case { room: room(length), ..Case::of(call, ring) });
+            all.push(Case { room: float_room(length), ..Case::of(call, ring) });
         };
         for ring in small {
             room_lengths(ring.len()).into_iter().for_each(|length| lend(ring, length));

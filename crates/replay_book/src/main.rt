@@ -1,0 +1,174 @@
+// Replays the oracle's answers for the outline book: records of what the writer or the reader is lent, answers and leaves, from standard input.
+use libc::STDIN_FILENO;
+use refusals::answer::Count;
+use replay::Verdict;
+use replay::load;
+use replay::load_counts;
+use replay::read;
+use replay::report;
+use replay::same_bytes;
+use replay::same_counts;
+use replay::same_floats;
+use replay::tally;
+use replay::word;
+ghost use mathlib.Core.Path.{_≡_};
+ghost use Prim.Native.Nat.{_≤_};
+ghost use lib.ListN.{length};
+
+// The next n words of the input as floats, as counts, and the next n bytes, which fill whole words.
+fn floats(n: usize) -> [f64; 4200]
+    requires { ⌜ n ≤ 4200 ⌝ }
+    ensures { λ r. ⌜ 4200 ≡ length r ⌝ }
+{
+    let mut words = [0u8; 33600];
+    let mut list = [0.0; 4200];
+    read(&mut words, 8 * n);
+    load(&words, n, &mut list);
+    list
+}
+
+fn counts(n: usize) -> [u32; 16]
+    requires { ⌜ n ≤ 16 ⌝ }
+    ensures { λ r. ⌜ 16 ≡ length r ⌝ }
+{
+    let mut words = [0u8; 128];
+    let mut list = [0u32; 16];
+    read(&mut words, 8 * n);
+    load_counts(&words, n, &mut list);
+    list
+}
+
+fn bytes(n: usize) -> [u8; 33000]
+    requires { ⌜ n ≤ 33000 ⌝ }
+    ensures { λ r. ⌜ 33000 ≡ length r ⌝ }
+{
+    let mut list = [0u8; 33000];
+    read(&mut list, (n + 7) / 8 * 8);
+    list
+}
+
+// Whether an answer is what the record says: the refusal's number, the value, the place.
+fn told(answer: Count, header: &[u8; 96]) -> bool {
+    match answer {
+        Count::Is(n) => {
+            if word(header, 40) != 0 {
+                return false;
+            }
+            n as u64 == word(header, 48)
+        }
+        Count::Refused(no) => {
+            if no.number as u64 != word(header, 40) {
+                return false;
+            }
+            no.place == word(header, 56)
+        }
+    }
+}
+
+// The writer on the first numbers of each list.
+fn write(xs: &[f64], an: usize, ns: &[u32], bn: usize, room: &mut [u8], rn: usize) -> Count
+    requires { ⌜ (an ≤ length (now xs)) × (bn ≤ length (now ns)) × (rn ≤ length (now room)) ⌝ }
+{
+    book_writer::calls::write_book(&xs[..an], &ns[..bn], &mut room[..rn])
+}
+
+fn write_agrees(header: &[u8; 96], an: usize, bn: usize, rn: usize) -> bool
+    requires { ⌜ (an ≤ 4200) × (bn ≤ 16) × (rn ≤ 33000) ⌝ }
+{
+    let xs = floats(an);
+    let ns = counts(bn);
+    let mut room = bytes(rn);
+    let left = bytes(rn);
+    if told(write(&xs, an, &ns, bn, &mut room, rn), header) {
+        same_bytes(&room, &left, rn)
+    } else {
+        false
+    }
+}
+
+// The reader on the first numbers of each list.
+fn read_rings(book: &[u8], an: usize, xs: &mut [f64], rn: usize, ns: &mut [u32], cn: usize) -> Count
+    requires { ⌜ (an ≤ length (now book)) × (rn ≤ length (now xs)) × (cn ≤ length (now ns)) ⌝ }
+{
+    book_reader::calls::read_book(&book[..an], &mut xs[..rn], &mut ns[..cn])
+}
+
+fn read_agrees(header: &[u8; 96], an: usize, rn: usize, cn: usize) -> bool
+    requires { ⌜ (an ≤ 33000) × (rn ≤ 4200) × (cn ≤ 16) ⌝ }
+{
+    let book = bytes(an);
+    let mut xs = floats(rn);
+    let mut ns = counts(cn);
+    let xs_left = floats(rn);
+    let ns_left = counts(cn);
+    if !told(read_rings(&book, an, &mut xs, rn, &mut ns, cn), header) {
+        return false;
+    }
+    if same_floats(&xs, &xs_left, rn) {
+        same_counts(&ns, &ns_left, cn)
+    } else {
+        false
+    }
+}
+
+// A length of the header, at most so much.
+fn list_length(header: &[u8; 96], at: usize, most: usize) -> usize
+    requires { ⌜ most ≤ 33000 ⌝ }
+    ensures { λ r. ⌜ r ≤ most ⌝ }
+{
+    let n = word(header, at);
+    if n <= most as u64 { n as usize } else { most }
+}
+
+// One record past its header.
+fn agrees(header: &[u8; 96]) -> bool {
+    if word(header, 0) == 0 {
+        let an = list_length(header, 8, 4200);
+        let bn = list_length(header, 16, 16);
+        let rn = list_length(header, 24, 33000);
+        write_agrees(header, an, bn, rn)
+    } else {
+        let an = list_length(header, 8, 33000);
+        let rn = list_length(header, 24, 4200);
+        let cn = list_length(header, 32, 16);
+        read_agrees(header, an, rn, cn)
+    }
+}
+
+// One record: read, worked out and compared.
+fn step() -> Verdict {
+    let mut header = [0u8; 96];
+    let got = io::read_full(STDIN_FILENO, &mut header);
+    if got < 96 {
+        return Verdict::End;
+    }
+    if agrees(&header) {
+        Verdict::Agrees
+    } else {
+        Verdict::Differs
+    }
+}
+
+fn main() {
+    let mut seen: u64 = 0;
+    let mut agreed: u64 = 0;
+    let mut left: u64 = 1000000;
+    while 0 < left {
+        match step() {
+            Verdict::End => {
+                left = 0;
+            }
+            Verdict::Agrees => {
+                agreed = tally(seen, agreed, true);
+                seen += 1;
+                left -= 1;
+            }
+            Verdict::Differs => {
+                agreed = tally(seen, agreed, false);
+                seen += 1;
+                left -= 1;
+            }
+        }
+    }
+    report(seen, agreed);
+}

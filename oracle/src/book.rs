@@ -1,0 +1,229 @@
+//! The outline book, written from document 01 alone: a plain writer, reader and
+//! printer for the proved ones to be compared with. Nothing is clever here; the
+//! least reading is found by laying all readings side by side.
+
+use crate::answers::Point;
+use crate::calls::points_of;
+use crate::refusals::{self, unless, Answer, LARGEST, LEAST_VERTICES, MOST_VERTICES};
+use std::cmp::Ordering;
+
+/// Most rings of a book; the fewest are one.
+pub const MOST_RINGS: usize = 8;
+/// Bytes of the shortest book: one ring of three vertices.
+pub const LEAST_BYTES: usize = 64;
+/// Bytes of the longest book: eight rings of 256 vertices.
+pub const MOST_BYTES: usize = 32_840;
+
+/// Bytes of a coordinate, of an entry, and of the two fields at the end.
+const COORDINATE: usize = 8;
+const ENTRY: usize = 8;
+const END: usize = 8;
+/// Bytes of a field.
+const FIELD: usize = 4;
+
+// ---------------------------------------------------------------------------
+// Readings
+// ---------------------------------------------------------------------------
+
+/// All readings of a ring: from each vertex on, and from each vertex back.
+pub fn readings(ring: &[Point]) -> Vec<Vec<Point>> {
+    let n = ring.len();
+    let on = |start: usize| (0..n).map(|i| ring[(start + i) % n]).collect();
+    let back = |start: usize| (0..n).map(|i| ring[(start + n - i) % n]).collect();
+    (0..n).flat_map(|start| [on(start), back(start)]).collect()
+}
+
+/// Numbers by size, -0.0 before +0.0; there is no NaN among them.
+fn number_order(a: f64, b: f64) -> Ordering {
+    if a < b {
+        Ordering::Less
+    } else if a > b {
+        Ordering::Greater
+    } else {
+        b.is_sign_negative().cmp(&a.is_sign_negative())
+    }
+}
+
+/// Points by x, then by y.
+fn point_order(a: Point, b: Point) -> Ordering {
+    number_order(a.0, b.0).then(number_order(a.1, b.1))
+}
+
+/// Readings by their first difference.
+fn reading_order(a: &[Point], b: &[Point]) -> Ordering {
+    let orders = a.iter().zip(b).map(|(p, q)| point_order(*p, *q));
+    orders.into_iter().find(|order| order.is_ne()).unwrap_or(Ordering::Equal)
+}
+
+/// The least of a ring's readings.
+pub fn least_reading(ring: &[Point]) -> Vec<Point> {
+    let all = readings(ring).into_iter();
+    all.min_by(|a, b| reading_order(a, b)).expect("a ring has a vertex")
+}
+
+// ---------------------------------------------------------------------------
+// Writing
+// ---------------------------------------------------------------------------
+
+/// The bytes of a book that keeps these rings just as they are.
+pub fn layout(rings: &[Vec<Point>]) -> Vec<u8> {
+    let (mut book, mut entries) = (Vec::new(), Vec::new());
+    for ring in rings {
+        entries.extend([book.len() as u32, ring.len() as u32]);
+        let bits = ring.iter().flat_map(|p| [p.0.to_bits(), p.1.to_bits()]);
+        book.extend(bits.flat_map(u64::to_le_bytes));
+    }
+    entries.extend([rings.len() as u32, book.len() as u32]);
+    book.extend(entries.into_iter().flat_map(u32::to_le_bytes));
+    book
+}
+
+/// 1 unless the counts are those of a book and the list is as long as their sum.
+fn lengths(coordinates: &[f64], counts: &[u32]) -> Answer<()> {
+    unless((1..=MOST_RINGS).contains(&counts.len()), 1)?;
+    for &count in counts {
+        unless((LEAST_VERTICES..=MOST_VERTICES).contains(&(count as usize)), 1)?;
+    }
+    let sum: u64 = counts.iter().map(|&count| u64::from(count)).sum();
+    unless(coordinates.len() as u64 == 2 * sum, 1)
+}
+
+/// The list cut into rings of these lengths.
+fn cut(points: &[Point], counts: &[u32]) -> Vec<Vec<Point>> {
+    let mut rest = points;
+    let mut rings = Vec::new();
+    for &count in counts {
+        let (ring, others) = rest.split_at(count as usize);
+        rings.push(ring.to_vec());
+        rest = others;
+    }
+    rings
+}
+
+/// Writes the book of these rings to the front of the room; answers its length.
+pub fn write_book(coordinates: &[f64], counts: &[u32], room: &mut [u8]) -> Answer<usize> {
+    lengths(coordinates, counts)?;
+    refusals::coordinates(coordinates)?;
+    let rings = cut(&points_of(coordinates), counts);
+    let book = layout(&rings.iter().map(|ring| least_reading(ring)).collect::<Vec<_>>());
+    unless(book.len() <= room.len(), 4)?;
+    room[..book.len()].copy_from_slice(&book);
+    Ok(book.len())
+}
+
+// ---------------------------------------------------------------------------
+// Reading
+// ---------------------------------------------------------------------------
+
+/// Why a book was not read.
+#[derive(Debug, Clone, Copy, PartialEq, Eq)]
+pub enum Unread {
+    /// Refusal 7: the book is wrong, and its first fault is in this place.
+    Wrong(usize),
+    /// Refusal 4: a room is too short.
+    NoRoom,
+}
+
+/// The fault in this place unless the check holds.
+fn check(holds: bool, place: usize) -> Result<(), Unread> {
+    if holds {
+        Ok(())
+    } else {
+        Err(Unread::Wrong(place))
+    }
+}
+
+/// The field in this place.
+fn field(book: &[u8], place: usize) -> u64 {
+    let bytes = [0, 1, 2, 3].map(|i| book[place + i]);
+    u64::from(u32::from_le_bytes(bytes))
+}
+
+/// The coordinate in this place.
+fn coordinate(book: &[u8], place: usize) -> f64 {
+    let bytes = [0, 1, 2, 3, 4, 5, 6, 7].map(|i| book[place + i]);
+    f64::from_bits(u64::from_le_bytes(bytes))
+}
+
+/// Checks the end; answers how many rings there are and where the entries begin.
+fn end_of(book: &[u8]) -> Result<(usize, usize), Unread> {
+    let length = book.len();
+    check((LEAST_BYTES..=MOST_BYTES).contains(&length), 0)?;
+    let rings = field(book, length - END);
+    check((1..=MOST_RINGS as u64).contains(&rings), length - END)?;
+    let entries = field(book, length - FIELD);
+    check(entries + ENTRY as u64 * rings + END as u64 == length as u64, length - FIELD)?;
+    Ok((rings as usize, entries as usize))
+}
+
+/// Checks the entries, and that the rings end where these begin; answers the
+/// vertices of each ring.
+fn entries_of(book: &[u8], rings: usize, entries: usize) -> Result<Vec<u32>, Unread> {
+    let mut counts = Vec::new();
+    let mut before = 0;
+    for place in (0..rings).map(|ring| entries + ENTRY * ring) {
+        check(field(book, place) == before, place)?;
+        let vertices = field(book, place + FIELD);
+        let allowed = LEAST_VERTICES as u64..=MOST_VERTICES as u64;
+        check(allowed.contains(&vertices), place + FIELD)?;
+        counts.push(vertices as u32);
+        before += 2 * COORDINATE as u64 * vertices;
+    }
+    check(before == entries as u64, book.len() - FIELD)?;
+    Ok(counts)
+}
+
+/// Checks the book; answers its coordinates and the vertices of each ring.
+fn checked(book: &[u8]) -> Result<(Vec<f64>, Vec<u32>), Unread> {
+    let (rings, entries) = end_of(book)?;
+    let counts = entries_of(book, rings, entries)?;
+    let mut coordinates = Vec::new();
+    for place in (0..entries).step_by(COORDINATE) {
+        let number = coordinate(book, place);
+        check(number.abs() <= LARGEST, place)?;
+        coordinates.push(number);
+    }
+    let mut place = 0;
+    for ring in cut(&points_of(&coordinates), &counts) {
+        check(reading_order(&ring, &least_reading(&ring)).is_eq(), place)?;
+        place += 2 * COORDINATE * ring.len();
+    }
+    Ok((coordinates, counts))
+}
+
+/// Hands out the rings of a book as stored, to the front of each room; answers
+/// how many rings there are.
+pub fn read_book(
+    book: &[u8],
+    coordinates: &mut [f64],
+    counts: &mut [u32],
+) -> Result<usize, Unread> {
+    let (stored, vertices) = checked(book)?;
+    if coordinates.len() < stored.len() || counts.len() < vertices.len() {
+        return Err(Unread::NoRoom);
+    }
+    coordinates[..stored.len()].copy_from_slice(&stored);
+    counts[..vertices.len()].copy_from_slice(&vertices);
+    Ok(vertices.len())
+}
+
+// ---------------------------------------------------------------------------
+// Printing
+// ---------------------------------------------------------------------------
+
+/// What the ring printer prints for this book.
+pub fn printed(book: &[u8]) -> String {
+    let (coordinates, counts) = match checked(book) {
+        Ok(read) => read,
+        Err(Unread::Wrong(place)) => return format!("refused 7 {place}\n"),
+        Err(Unread::NoRoom) => unreachable!("no room is lent"),
+    };
+    let mut text = format!("rings {}\n", counts.len());
+    for (i, ring) in cut(&points_of(&coordinates), &counts).iter().enumerate() {
+        text += &format!("ring {i} vertices {}\n", ring.len());
+        for (x, y) in ring {
+            text += &format!("{:016x} {:016x}\n", x.to_bits(), y.to_bits());
+        }
+    }
+    text
+}

@@ -1,0 +1,154 @@
+//! The list `book`. A record is twelve words of header: the call (0 write,
+//! 1 read), an, bn, rn, cn, the refusal number, the value answered, the place of
+//! the fault (0 unless the number is 7) and four zeros.
+//!
+//! For writing, an coordinates and bn vertex counts are lent with a room of rn
+//! bytes, cn is 0, and the value is the book's length. After the header come the
+//! coordinates' bits, the counts, the room at entry and the room at exit. For
+//! reading, a file of an bytes is lent with rooms for rn coordinates and cn
+//! counts, bn is 0, and the value is the number of rings. After the header come
+//! the file, both rooms at entry and both rooms at exit. Bytes are packed eight
+//! to a word, the last word filled up with zeros; a count takes a word. The value
+//! is 0 where refused.
+
+mod files;
+mod lent;
+mod sample;
+
+use super::{bits, float_room, once, List};
+use crate::book::{layout, read_book, write_book, Unread};
+use crate::calls::points_of;
+use crate::seeded::Seeded;
+
+pub const WRITE: u64 = 0;
+pub const READ: u64 = 1;
+
+/// Words of the header.
+pub const HEADER: usize = 12;
+
+/// The list with both its forms.
+pub const LIST: List = List { stored: records, long, counted };
+
+/// A call with what is lent to it; of a room only the length.
+enum Case {
+    Write { coordinates: Vec<f64>, counts: Vec<u32>, room: usize },
+    Read { file: Vec<u8>, coordinates: usize, counts: usize },
+}
+
+impl Case {
+    /// Writes these rings to a room that is just long enough.
+    fn writing(rings: &[Vec<f64>]) -> Self {
+        Self::Write { coordinates: rings.concat(), counts: counts(rings), room: length(rings) }
+    }
+
+    /// Reads this file to rooms of these lengths.
+    fn reading(file: &[u8], coordinates: usize, counts: usize) -> Self {
+        Self::Read { file: file.to_vec(), coordinates, counts }
+    }
+}
+
+/// The vertices of each ring.
+fn counts(rings: &[Vec<f64>]) -> Vec<u32> {
+    rings.iter().map(|ring| ring.len() as u32 / 2).collect()
+}
+
+/// The length of the book of these rings.
+fn length(rings: &[Vec<f64>]) -> usize {
+    8 * rings.concat().len() + 8 * rings.len() + 8
+}
+
+/// A file that keeps these rings as they are, least readings or not.
+fn file_of(rings: &[Vec<f64>]) -> Vec<u8> {
+    layout(&rings.iter().map(|ring| points_of(ring)).collect::<Vec<_>>())
+}
+
+/// The book of these rings.
+fn book_of(rings: &[Vec<f64>]) -> Vec<u8> {
+    let mut room = vec![0; length(rings)];
+    write_book(&rings.concat(), &counts(rings), &mut room).expect("these rings make a book");
+    room
+}
+
+/// A room of this many bytes, a pattern without a short period.
+fn byte_room(length: usize) -> Vec<u8> {
+    (0..length).map(|i| (i * 151 + i / 64 + 90) as u8).collect()
+}
+
+/// A room of this many counts, none of which a ring can have.
+fn count_room(length: usize) -> Vec<u32> {
+    (0..length).map(|i| 0xc000_0000 + 1000 * i as u32).collect()
+}
+
+/// The bytes, eight to a word, the last word filled up with zeros.
+fn packed(bytes: &[u8]) -> Vec<u64> {
+    let word = |chunk: &[u8]| chunk.iter().rev().fold(0, |word, &byte| word << 8 | u64::from(byte));
+    bytes.chunks(8).map(word).collect()
+}
+
+/// The counts, a word each.
+fn widened(counts: &[u32]) -> Vec<u64> {
+    counts.iter().map(|&count| u64::from(count)).collect()
+}
+
+/// The record of a call to write.
+fn written(coordinates: &[f64], counts: &[u32], room: usize) -> Vec<u64> {
+    let before = byte_room(room);
+    let mut after = before.clone();
+    let (number, value) = match write_book(coordinates, counts, &mut after) {
+        Ok(length) => (0, length as u64),
+        Err(number) => (u64::from(number), 0),
+    };
+    let [an, bn, rn] = [coordinates.len(), counts.len(), room].map(|n| n as u64);
+    let header = vec![WRITE, an, bn, rn, 0, number, value, 0, 0, 0, 0, 0];
+    [header, bits(coordinates), widened(counts), packed(&before), packed(&after)].concat()
+}
+
+/// The record of a call to read.
+fn read(file: &[u8], coordinates: usize, counts: usize) -> Vec<u64> {
+    let before = (float_room(coordinates), count_room(counts));
+    let mut after = before.clone();
+    let (number, value, place) = match read_book(file, &mut after.0, &mut after.1) {
+        Ok(rings) => (0, rings as u64, 0),
+        Err(Unread::Wrong(place)) => (7, 0, place as u64),
+        Err(Unread::NoRoom) => (4, 0, 0),
+    };
+    let [an, rn, cn] = [file.len(), coordinates, counts].map(|n| n as u64);
+    let mut words = vec![READ, an, 0, rn, cn, number, value, place, 0, 0, 0, 0];
+    words.extend(packed(file));
+    for (numbers, counts) in [before, after] {
+        words.extend(bits(&numbers));
+        words.extend(widened(&counts));
+    }
+    words
+}
+
+/// The record of a case.
+fn record(case: &Case) -> Vec<u64> {
+    match case {
+        Case::Write { coordinates, counts, room } => written(coordinates, counts, *room),
+        Case::Read { file, coordinates, counts } => read(file, *coordinates, *counts),
+    }
+}
+
+/// The list, record by record, none twice.
+pub fn records() -> Vec<Vec<u64>> {
+    let cases = lent::cases().into_iter().chain(files::cases());
+    once(cases.map(|case| record(&case)).collect())
+}
+
+/// A record of a long run: by turns a ring of the grid written and read as it
+/// is, and two seeded cases; seeded ones alone after the grid's last ring.
+fn long(seeded: &mut Seeded, place: u64) -> Vec<u64> {
+    let ring = if place % 4 < 2 { lent::grid_ring(place / 4) } else { None };
+    record(&match ring {
+        Some(ring) if place % 4 == 0 => Case::writing(&[ring]),
+        Some(ring) => Case::reading(&file_of(std::slice::from_ref(&ring)), ring.len(), 1),
+        None => sample::case(seeded),
+    })
+}
+
+/// The call, with its refusal number.
+fn counted(record: &[u64]) -> Vec<String> {
+    let call = if record[0] == WRITE { "write" } else { "read" };
+    vec![format!("{call}: all"), format!("{call}: refusal {}", record[5])]
+}

@@ -1,0 +1,258 @@
+//! The outline book: document 01's example, the least reading, each refusal.
+
+use oracle::answers::Point;
+use oracle::book::{layout, least_reading, printed, read_book, readings, write_book, Unread};
+use oracle::calls::points_of;
+use oracle::seeded::Seeded;
+
+/// Document 01's ring, as lent.
+const RING: [f64; 6] = [4.0, 0.0, 0.0, 3.0, 0.0, 0.0];
+
+/// Its book: the rings, the entry (0, 3), one ring, the entries from byte 48.
+const BOOK: [u8; 64] = [
+    0, 0, 0, 0, 0, 0, 0, 0, 0, 0, 0, 0, 0, 0, 0, 0, // (0, 0)
+    0, 0, 0, 0, 0, 0, 0, 0, 0, 0, 0, 0, 0, 0, 0x08, 0x40, // (0, 3)
+    0, 0, 0, 0, 0, 0, 0x10, 0x40, 0, 0, 0, 0, 0, 0, 0, 0, // (4, 0)
+    0, 0, 0, 0, 3, 0, 0, 0, 1, 0, 0, 0, 48, 0, 0, 0,
+];
+
+/// The book of these rings, with a room that is just long enough.
+fn book_of(rings: &[&[f64]]) -> Vec<u8> {
+    let counts: Vec<u32> = rings.iter().map(|ring| ring.len() as u32 / 2).collect();
+    let coordinates = rings.concat();
+    let mut room = vec![0; 8 * coordinates.len() + 8 * rings.len() + 8];
+    assert_eq!(write_book(&coordinates, &counts, &mut room), Ok(room.len()));
+    room
+}
+
+/// The book with this field put in this place.
+fn with_field(book: &[u8], place: usize, value: u32) -> Vec<u8> {
+    let mut changed = book.to_vec();
+    changed[place..place + 4].copy_from_slice(&value.to_le_bytes());
+    changed
+}
+
+/// The book with this coordinate put in this place.
+fn with_number(book: &[u8], place: usize, number: f64) -> Vec<u8> {
+    let mut changed = book.to_vec();
+    changed[place..place + 8].copy_from_slice(&number.to_le_bytes());
+    changed
+}
+
+/// What reading this book into long rooms comes to; refused ones leave them.
+fn read(book: &[u8]) -> Result<usize, Unread> {
+    let (mut coordinates, mut counts) = ([7.5; 4096], [9; 8]);
+    let answer = read_book(book, &mut coordinates, &mut counts);
+    if answer.is_err() {
+        assert!(coordinates.iter().all(|&x| x == 7.5) && counts.iter().all(|&n| n == 9));
+    }
+    answer
+}
+
+/// The points as numbers.
+fn flat(points: &[Point]) -> Vec<f64> {
+    points.iter().flat_map(|p| [p.0, p.1]).collect()
+}
+
+#[test]
+fn the_example_is_written_to_the_byte() {
+    let mut room = [0xa5; 66];
+    assert_eq!(write_book(&RING, &[3], &mut room), Ok(64));
+    assert_eq!(room[..64], BOOK);
+    assert_eq!(room[64..], [0xa5, 0xa5]);
+}
+
+#[test]
+fn the_example_is_read_and_printed() {
+    let (mut coordinates, mut counts) = ([7.5; 7], [9; 2]);
+    assert_eq!(read_book(&BOOK, &mut coordinates, &mut counts), Ok(1));
+    assert_eq!(coordinates, [0.0, 0.0, 0.0, 3.0, 4.0, 0.0, 7.5]);
+    assert_eq!(counts, [3, 9]);
+    let text = "rings 1\nring 0 vertices 3\n\
+        0000000000000000 0000000000000000\n\
+        0000000000000000 4008000000000000\n\
+        4010000000000000 0000000000000000\n";
+    assert_eq!(printed(&BOOK), text);
+}
+
+#[test]
+fn several_rings_and_refused_books_are_printed() {
+    let book = book_of(&[&RING, &[-0.0, 1.0, 0.0, -1.0, 2.0, 0.5]]);
+    let text = "rings 2\nring 0 vertices 3\n\
+        0000000000000000 0000000000000000\n\
+        0000000000000000 4008000000000000\n\
+        4010000000000000 0000000000000000\n\
+        ring 1 vertices 3\n\
+        8000000000000000 3ff0000000000000\n\
+        0000000000000000 bff0000000000000\n\
+        4000000000000000 3fe0000000000000\n";
+    assert_eq!(printed(&book), text);
+    for wrong in [vec![], vec![0; 63], vec![0; 32_841], vec![0; 100_000]] {
+        assert_eq!(printed(&wrong), "refused 7 0\n");
+    }
+    assert_eq!(printed(&with_number(&BOOK, 40, f64::NAN)), "refused 7 40\n");
+}
+
+#[test]
+fn a_ring_may_hold_its_lowest_vertex_twice() {
+    let ring = [(0.0, 0.0), (1.0, 0.0), (0.0, 0.0), (0.0, 1.0)];
+    let least = [(0.0, 0.0), (0.0, 1.0), (0.0, 0.0), (1.0, 0.0)];
+    assert_eq!(readings(&ring).len(), 8);
+    for reading in readings(&ring) {
+        assert_eq!(least_reading(&reading), least);
+        assert_eq!(book_of(&[&flat(&reading)]), layout(&[least.to_vec()]));
+    }
+}
+
+#[test]
+fn minus_zero_comes_first_and_is_kept() {
+    let ring = [0.0, 0.0, -0.0, 0.0, 0.0, -0.0];
+    let (mut coordinates, mut counts) = ([7.5; 6], [9; 1]);
+    assert_eq!(read_book(&book_of(&[&ring]), &mut coordinates, &mut counts), Ok(1));
+    let expected = [-0.0, 0.0, 0.0, -0.0, 0.0, 0.0];
+    assert_eq!(coordinates.map(f64::to_bits), expected.map(f64::to_bits));
+}
+
+#[test]
+fn a_closing_repeat_is_a_vertex() {
+    let closed = [0.0, 0.0, 4.0, 0.0, 0.0, 3.0, 0.0, 0.0];
+    assert_eq!(book_of(&[&closed]).len(), 64 + 16);
+}
+
+#[test]
+fn wrong_lengths_are_1() {
+    let square = [0.0, 0.0, 4.0, 0.0, 4.0, 4.0, 0.0, 4.0];
+    let refused = |coordinates: &[f64], counts: &[u32]| {
+        let mut room = [0xa5; 256];
+        let answer = write_book(coordinates, counts, &mut room);
+        assert!(answer.is_ok() || room == [0xa5; 256]);
+        answer.err().unwrap_or(0)
+    };
+    assert_eq!(refused(&square, &[4]), 0);
+    assert_eq!(refused(&square, &[3]), 1);
+    assert_eq!(refused(&square, &[5]), 1);
+    assert_eq!(refused(&square[..7], &[3]), 1);
+    assert_eq!(refused(&square[..7], &[4]), 1);
+    assert_eq!(refused(&square[..4], &[2]), 1);
+    assert_eq!(refused(&[], &[]), 1);
+    assert_eq!(refused(&square, &[4, 0]), 1);
+    assert_eq!(refused(&[], &[1 << 31, 1 << 31]), 1);
+    assert_eq!(refused(&RING, &[u32::MAX, 4]), 1);
+    assert_eq!(refused(&[RING; 9].concat(), &[3; 9]), 1);
+    assert_eq!(refused(&[0.0; 514], &[257]), 1);
+}
+
+#[test]
+fn wrong_lengths_numbers_and_rooms_are_1_2_and_4_in_this_order() {
+    let mut faulty = RING;
+    faulty[5] = 1_000_000.0_f64.next_up();
+    assert_eq!(write_book(&faulty, &[4], &mut []), Err(1));
+    assert_eq!(write_book(&faulty, &[3], &mut []), Err(2));
+    let mut room = [0xa5; 63];
+    assert_eq!(write_book(&RING, &[3], &mut room), Err(4));
+    assert_eq!(room, [0xa5; 63]);
+    for number in [f64::NAN, f64::INFINITY, f64::NEG_INFINITY, -1_000_000.0_f64.next_up()] {
+        faulty[0] = number;
+        assert_eq!(write_book(&faulty, &[3], &mut [0; 64]), Err(2));
+    }
+    assert_eq!(write_book(&[-1e6, 1e6, 1e6, 1e6, 0.0, 0.0], &[3], &mut [0; 64]), Ok(64));
+}
+
+#[test]
+fn each_fault_has_its_place() {
+    let book = book_of(&[&RING, &[0.0, 0.0, 1.0, 0.0, 0.0, 0.0, 0.0, 1.0]]);
+    let (length, entries) = (136, 112);
+    assert_eq!((book.len(), read(&book)), (length, Ok(2)));
+    let wrong = |book: &[u8], place: usize| assert_eq!(read(book), Err(Unread::Wrong(place)));
+    wrong(&book[..63], 0);
+    wrong(&[&book[..], &[0; 32_705]].concat(), 0);
+    for rings in [0, 9, u32::MAX] {
+        wrong(&with_field(&book, length - 8, rings), length - 8);
+    }
+    for place in [0, 111, 113, 1 << 31, u32::MAX] {
+        wrong(&with_field(&book, length - 4, place), length - 4);
+    }
+    wrong(&with_field(&book, length - 8, 1), length - 4); // then the entries begin elsewhere
+    wrong(&with_field(&book, entries, 16), entries);
+    wrong(&with_field(&book, entries + 4, 2), entries + 4);
+    wrong(&with_field(&book, entries + 4, 257), entries + 4);
+    wrong(&with_field(&book, entries + 4, 4), entries + 8); // the second then begins at 64
+    wrong(&with_field(&book, entries + 8, 49), entries + 8);
+    wrong(&with_field(&book, entries + 12, 0), entries + 12);
+    wrong(&with_field(&book, entries + 12, 3), length - 4);
+    wrong(&with_field(&book, entries + 12, 5), length - 4);
+    for place in (0..entries).step_by(8) {
+        for number in [f64::NAN, f64::INFINITY, 1_000_000.0_f64.next_up()] {
+            wrong(&with_number(&book, place, number), place);
+        }
+    }
+    wrong(&with_number(&book, 0, 1.0), 0); // the first vertex is not the least
+    wrong(&with_number(&book, 48, 0.5), 48);
+}
+
+#[test]
+fn the_first_fault_is_told() {
+    let ring = |vertices: &[f64]| points_of(vertices);
+    let turned = layout(&[ring(&RING), ring(&[1.0, 1.0, 0.0, 0.0, 0.0, 1.0])]);
+    assert_eq!(read(&turned), Err(Unread::Wrong(0)));
+    // A coordinate of a later ring comes before an earlier ring's reading.
+    assert_eq!(read(&with_number(&turned, 88, 2e6)), Err(Unread::Wrong(88)));
+    let both = with_field(&with_field(&turned, 104, 8), 100, 2);
+    assert_eq!(read(&both), Err(Unread::Wrong(100)));
+    assert_eq!(read(&with_field(&both, 116, 0)), Err(Unread::Wrong(116)));
+    assert_eq!(read(&with_field(&with_field(&both, 116, 0), 112, 0)), Err(Unread::Wrong(112)));
+}
+
+#[test]
+fn entries_never_begin_before_the_first_byte() {
+    for length in 64..72_usize {
+        let offset = (length as u32).wrapping_sub(8 + 8 * 8);
+        let file = with_field(&with_field(&vec![0; length], length - 8, 8), length - 4, offset);
+        assert_eq!(read(&file), Err(Unread::Wrong(length - 4)));
+    }
+}
+
+#[test]
+fn faults_are_told_before_rooms() {
+    assert_eq!(read_book(&with_number(&BOOK, 0, 1.0), &mut [], &mut []), Err(Unread::Wrong(0)));
+    for (numbers, rings, answer) in [(6, 1, true), (7, 2, true), (5, 1, false), (6, 0, false)] {
+        let (mut coordinates, mut counts) = (vec![7.5; numbers], vec![9; rings]);
+        let read = read_book(&BOOK, &mut coordinates, &mut counts);
+        assert_eq!(read, if answer { Ok(1) } else { Err(Unread::NoRoom) });
+        assert!(answer || (coordinates == vec![7.5; numbers] && counts == vec![9; rings]));
+    }
+}
+
+#[test]
+fn the_longest_book_has_32840_bytes() {
+    let seeded = &mut Seeded::new(9);
+    let rings: Vec<Vec<f64>> =
+        (0..8).map(|_| (0..512).map(|_| seeded.spread(1e6)).collect()).collect();
+    let book = book_of(&rings.iter().map(|ring| &ring[..]).collect::<Vec<_>>());
+    assert_eq!((book.len(), read(&book)), (32_840, Ok(8)));
+    let mut room = vec![0; 32_839];
+    assert_eq!(write_book(&rings.concat(), &[256; 8], &mut room), Err(4));
+    assert_eq!(read(&[&book[..], &[0]].concat()), Err(Unread::Wrong(0)));
+    let (mut coordinates, mut counts) = ([0.0; 4096], [0; 8]);
+    assert_eq!(read_book(&book, &mut coordinates[1..], &mut counts), Err(Unread::NoRoom));
+    assert_eq!(read_book(&book, &mut coordinates, &mut counts), Ok(8));
+    // Writing what was read gives the same book.
+    let mut again = vec![0; 32_840];
+    assert_eq!(write_book(&coordinates, &counts, &mut again), Ok(32_840));
+    assert!(again == book);
+}
+
+#[test]
+fn all_readings_of_a_ring_give_one_book_and_only_it_is_read() {
+    let seeded = &mut Seeded::new(10);
+    for round in 0..400 {
+        let n = 3 + round % 6;
+        let ring: Vec<Point> = (0..n).map(|_| (seeded.whole(1), seeded.whole(1))).collect();
+        let book = book_of(&[&flat(&ring)]);
+        for reading in readings(&ring) {
+            assert_eq!(book_of(&[&flat(&reading)]), book);
+            let kept = layout(std::slice::from_ref(&reading));
+            assert_eq!(read(&kept), if kept == book { Ok(1) } else { Err(Unread::Wrong(0)) });
+        }
+    }
+}
