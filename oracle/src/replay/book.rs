@@ -29,6 +29,13 @@ pub const HEADER: usize = 12;
 /// The list with both its forms.
 pub const LIST: List = List { stored: records, long, counted };
 
+/// The longest book of rings whose vertices are all equal, written and read by
+/// turns: what the least reading costs most.
+pub const EQUAL: List = List { stored: records, long: |_, place| costly(1.0, place), counted };
+
+/// The same with one vertex of each ring different.
+pub const ONE: List = List { stored: records, long: |_, place| costly(2.0, place), counted };
+
 /// A call with what is lent to it; of a room only the length.
 enum Case {
     Write { coordinates: Vec<f64>, counts: Vec<u32>, room: usize },
@@ -45,6 +52,19 @@ impl Case {
     fn reading(file: &[u8], coordinates: usize, counts: usize) -> Self {
         Self::Read { file: file.to_vec(), coordinates, counts }
     }
+}
+
+/// The longest book of rings of the point (1,1), the last with this x: written at
+/// an even place of the run, read at an odd one.
+fn costly(last: f64, place: u64) -> Vec<u64> {
+    let mut ring = vec![1.0; 512];
+    ring[510] = last;
+    let rings = vec![ring; 8];
+    record(&if place % 2 == 0 {
+        Case::writing(&rings)
+    } else {
+        Case::reading(&book_of(&rings), 4_096, 8)
+    })
 }
 
 /// The vertices of each ring.

@@ -59,6 +59,8 @@ pub struct List {
 pub fn list(name: &str) -> Option<List> {
     match name {
         "book" => Some(book::LIST),
+        "book_equal" => Some(book::EQUAL),
+        "book_one" => Some(book::ONE),
         "sliding" => Some(sliding::LIST),
         "traces" => Some(traces::LIST),
         _ => None,
