@@ -1,0 +1,8 @@
+-- The modules that belong to no one function.
+pub mod Screened
+pub mod Nearer
+pub mod Counting
+pub mod Pairs
+pub mod Nearest
+pub mod Answers
+pub mod Worked

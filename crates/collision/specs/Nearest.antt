@@ -1,0 +1,71 @@
+-- What the check of a move answers, over the pairs of both kinds in the order in which they are scanned. Definitions only.
+use Prim.Native.Nat.{ℕ, _+_, _*_, _-_, _/_, _%_, _<_}
+use mathlib.Core.Path.{_≡_}
+use mathlib.Core.Logic.{_⊎_}
+use mathlib.Core.Bool.{true, false, cond}
+use mathlib.Core.List.{List}
+use lib.Dec.{ltb, eqb}
+use lib.Ieee.{Float, lt}
+use Rattle.scalar.specs.Float.{_⊖_}
+use Rattle.plane.specs.Vector.{lengthOf}
+use Rattle.plane.specs.declared.Point.{Point}
+use Rattle.ring.specs.Ring.{count, pointAt}
+use Rattle.collision.specs.Ray.{edgeRay}
+use Rattle.collision.specs.Check.{sweepOf, backOf}
+use Rattle.collision.specs.declared.Ray.{Ray}
+use Rattle.collision.specs.declared.Ray.the-variants.{At}
+use Rattle.collision.specs.declared.Collision.{Collision}
+use Rattle.collision.specs.declared.Collision.the-variants.{Nothing, Hit}
+
+-- a pair: of kind 0 a vertex of orbiting and an edge of stationary, of kind 1 a vertex of stationary and an edge of orbiting
+pub record Pair : Type 0 where
+  pub kind : ℕ
+  pub stationary : ℕ
+  pub orbiting : ℕ
+
+abbrev pub pairIs : ℕ → ℕ → ℕ → Pair
+pairIs k s o = record { kind = k; stationary = s; orbiting = o }
+
+-- how many pairs there are of one kind
+abbrev pub half : List Float → List Float → ℕ
+half st orb = count orb * count st
+
+-- the pair with a number in scan order: first, orbiting vertex by orbiting vertex, the stationary edges; then, stationary vertex by stationary vertex, the orbiting edges
+unfoldable pub pairAt : List Float → List Float → ℕ → Pair
+pairAt st orb k =
+    let n = count st in
+    let m = count orb in
+    let l = k - m * n in
+    cond (ltb k (m * n)) (pairIs 0 (k % n) (k / n)) (pairIs 1 (l / m) (l % m))
+
+-- the computed ray of a pair
+unfoldable pub rayAt : List Float → List Float → Point → Float → Pair → Ray
+rayAt st orb move tol p =
+    let w = sweepOf move tol in
+    cond (eqb (p .kind) 0)
+    (edgeRay (pointAt orb (p .orbiting)) (w .dir) st (p .stationary) tol)
+    (edgeRay (pointAt st (p .stationary)) (backOf w .dir) orb (p .orbiting) tol)
+
+-- the pair number k has a computed hit at d, strictly between the tolerance and the length less the tolerance
+pub record Blocks (st orb : List Float) (move : Point) (tol : Float) (k : ℕ) (d : Float) : Type 0 where
+  pub scanned : k < half st orb + half st orb
+  pub meets : rayAt st orb move tol (pairAt st orb k) ≡ At d
+  pub above : lt tol d ≡ true
+  pub below : lt d (lengthOf move ⊖ tol) ≡ true
+
+-- the move is shorter than the tolerance, or no pair has such a hit
+abbrev pub Clear : List Float → List Float → Point → Float → Type 0
+Clear st orb move tol = (lt (lengthOf move) tol ≡ true) ⊎ ((k : ℕ) (d : Float) → Blocks st orb move tol k d → ⊥)
+
+-- such a hit: no other is strictly smaller, and each that is scanned before it is strictly larger
+pub record Nearest (st orb : List Float) (move : Point) (tol : Float) (d : Float) (p : Pair) : Type 0 where
+  pub number : ℕ
+  pub is : pairAt st orb number ≡ p
+  pub blocks : Blocks st orb move tol number d
+  pub least : (j : ℕ) (e : Float) → Blocks st orb move tol j e → lt e d ≡ false
+  pub first : (j : ℕ) (e : Float) → j < number → Blocks st orb move tol j e → lt d e ≡ true
+
+-- the answer: nothing where the move is clear, and else the nearest hit
+pub data Told (st orb : List Float) (move : Point) (tol : Float) : Collision → Type 0 where
+  nothing : Clear st orb move tol → Told st orb move tol Nothing
+  hit : {d : Float} {k s o : ℕ} → (Clear st orb move tol → ⊥) → Nearest st orb move tol d (pairIs k s o) → Told st orb move tol (Hit d k s o)

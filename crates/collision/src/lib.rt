@@ -1,0 +1,225 @@
+// What a move runs into: rays against segments, the scan of both kinds of pair, the nearest hit: `check_translation_collision` of `nfp_sliding.rs`.
+pub mod answer;
+pub mod calls;
+
+use plane::Point;
+use plane::vector::cross;
+use plane::vector::length;
+use plane::vector::minus;
+use ring::next;
+use ring::point_at;
+ghost use mathlib.Core.Path.{_≡_};
+ghost use Prim.Native.Nat.{_<_};
+ghost use Rattle.ring.specs.Ring.{count};
+ghost use Rattle.collision.specs.Ray.{rayWithin, rayOf, edgeRay};
+ghost use Rattle.collision.specs.Hit.{countedOf, keptOf};
+ghost use Rattle.collision.specs.Check.{pairOf, rowOf, scanOf, backOf, bothOf, collisionOf};
+
+// A ray against a segment: it misses, or it meets the segment at a distance.
+pub enum Ray {
+    Miss,
+    At(f64),
+}
+
+// What a move runs into. Kind 0 is a vertex of orbiting on an edge of stationary, kind 1 a vertex of stationary on an edge of orbiting.
+pub enum Collision {
+    Nothing,
+    Hit {
+        distance: f64,
+        kind: u8,
+        stationary: usize,
+        orbiting: usize,
+    },
+}
+
+// A sweep of rays: their direction, the distance below which a hit counts, and the tolerance above which it does.
+pub struct Sweep {
+    pub dir: Point,
+    pub limit: f64,
+    pub tolerance: f64,
+}
+
+// The answer by the two parameters: in front of the ray and on the segment, or not.
+fn within(t: f64, u: f64, tolerance: f64) -> Ray
+    ensures { λ r. ⌜ r ≡ rayWithin t u tolerance ⌝ }
+{
+    if t >= -tolerance {
+        if u >= -tolerance {
+            if u <= 1.0 + tolerance {
+                return Ray::At(scalar::larger(t, 0.0));
+            }
+        }
+    }
+    Ray::Miss
+}
+
+// How far along the ray from origin it meets the segment p1 p2.
+pub fn ray_segment_intersection(
+    origin: Point,
+    dir: Point,
+    p1: Point,
+    p2: Point,
+    tolerance: f64,
+) -> Ray
+    ensures { λ r. ⌜ r ≡ rayOf origin dir p1 p2 tolerance ⌝ }
+{
+    let seg = minus(p2, p1);
+    let den = cross(dir, seg);
+    if scalar::abs(den) < tolerance {
+        return Ray::Miss;
+    }
+    let diff = minus(p1, origin);
+    within(cross(diff, seg) / den, cross(diff, dir) / den, tolerance)
+}
+
+// The ray from origin against the edge e of a ring.
+fn edge_ray(origin: Point, dir: Point, ring: &[f64], e: usize, tolerance: f64) -> Ray
+    requires { ⌜ e < count (now ring) ⌝ }
+    ensures { λ r. ⌜ r ≡ edgeRay origin dir (now (ring .entry)) e tolerance ⌝ }
+{
+    let p1 = point_at(ring, e);
+    let p2 = point_at(ring, next(e, ring.len() / 2));
+    ray_segment_intersection(origin, dir, p1, p2, tolerance)
+}
+
+// A ray's hit where it counts: above the tolerance and below the limit.
+fn counted(ray: Ray, sweep: Sweep, kind: u8, stationary: usize, orbiting: usize) -> Collision
+    ensures { λ r. ⌜ r ≡ countedOf ray sweep kind stationary orbiting ⌝ }
+{
+    let Ray::At(distance) = ray else {
+        return Collision::Nothing;
+    };
+    if distance > sweep.tolerance {
+        if distance < sweep.limit {
+            return Collision::Hit {
+                distance,
+                kind,
+                stationary,
+                orbiting,
+            };
+        }
+    }
+    Collision::Nothing
+}
+
+// Of what was found so far and a new one: only a strictly smaller distance replaces.
+fn keep(best: Collision, new: Collision) -> Collision
+    ensures { λ r. ⌜ r ≡ keptOf best new ⌝ }
+{
+    let Collision::Hit {
+        distance: e,
+        kind: _,
+        stationary: _,
+        orbiting: _,
+    } = new
+    else {
+        return best;
+    };
+    let Collision::Hit {
+        distance: d,
+        kind: _,
+        stationary: _,
+        orbiting: _,
+    } = best
+    else {
+        return new;
+    };
+    if e < d { new } else { best }
+}
+
+// The vertex v of one ring against the edge e of the other.
+fn pair(vertices: &[f64], edges: &[f64], sweep: Sweep, kind: u8, v: usize, e: usize) -> Collision
+    requires { ⌜ (v < count (now vertices)) × (e < count (now edges)) ⌝ }
+    ensures { λ r. ⌜ r ≡ pairOf (now (vertices .entry)) (now (edges .entry)) sweep kind v e ⌝ }
+{
+    let ray = edge_ray(point_at(vertices, v), sweep.dir, edges, e, sweep.tolerance);
+    if kind == 0 {
+        counted(ray, sweep, 0, e, v)
+    } else {
+        counted(ray, sweep, 1, v, e)
+    }
+}
+
+// The vertex v against each edge, from what was found before.
+fn row(
+    vertices: &[f64],
+    edges: &[f64],
+    sweep: Sweep,
+    kind: u8,
+    v: usize,
+    before: Collision,
+) -> Collision
+    requires { ⌜ v < count (now vertices) ⌝ }
+    ensures { λ r. ⌜ r ≡ rowOf (now (vertices .entry)) (now (edges .entry)) sweep kind v before ⌝ }
+{
+    let n = edges.len() / 2;
+    let mut best = before;
+    let mut e = 0;
+    while e < n {
+        best = keep(best, pair(vertices, edges, sweep, kind, v, e));
+        e += 1;
+    }
+    best
+}
+
+// Each vertex of one ring against each edge of the other, from what was found before.
+fn scan(vertices: &[f64], edges: &[f64], sweep: Sweep, kind: u8, before: Collision) -> Collision
+    ensures { λ r. ⌜ r ≡ scanOf (now (vertices .entry)) (now (edges .entry)) sweep kind before ⌝ }
+{
+    let n = vertices.len() / 2;
+    let mut best = before;
+    let mut v = 0;
+    while v < n {
+        best = row(vertices, edges, sweep, kind, v, best);
+        v += 1;
+    }
+    best
+}
+
+// The same sweep the other way.
+fn back(sweep: Sweep) -> Sweep
+    ensures { λ r. ⌜ r ≡ backOf sweep ⌝ }
+{
+    let dir = Point {
+        x: -sweep.dir.x,
+        y: -sweep.dir.y,
+    };
+    Sweep {
+        dir,
+        limit: sweep.limit,
+        tolerance: sweep.tolerance,
+    }
+}
+
+// Both kinds of pair: orbiting vertices first, and then stationary vertices, which come the other way.
+fn both(stationary: &[f64], orbiting: &[f64], sweep: Sweep) -> Collision
+    ensures { λ r. ⌜ r ≡ bothOf (now (stationary .entry)) (now (orbiting .entry)) sweep ⌝ }
+{
+    let best = scan(orbiting, stationary, sweep, 0, Collision::Nothing);
+    scan(stationary, orbiting, back(sweep), 1, best)
+}
+
+// What orbiting, moved by translation, runs into first.
+pub fn check_translation_collision(
+    stationary: &[f64],
+    orbiting: &[f64],
+    translation: Point,
+    tolerance: f64,
+) -> Collision
+    ensures { λ r. ⌜ r ≡ collisionOf (now (stationary .entry)) (now (orbiting .entry)) translation tolerance ⌝ }
+{
+    let len = length(translation);
+    if len < tolerance {
+        return Collision::Nothing;
+    }
+    let dir = Point {
+        x: translation.x / len,
+        y: translation.y / len,
+    };
+    let sweep = Sweep {
+        dir,
+        limit: len - tolerance,
+        tolerance,
+    };
+    both(stationary, orbiting, sweep)
+}
