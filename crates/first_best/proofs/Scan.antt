@@ -8,7 +8,8 @@ use mathlib.Core.Bool.{Bool, true, false, cond}
 use borrow.Author.Count.{below-more, below-none}
 use Rattle.first_best.specs.Best.{better, over, nest, flat, First, none, some}
 
-below-suc : (P : ℕ → Type 0) (i : ℕ) → ((k : ℕ) → k < i → P k) → P i → (k : ℕ) → k < suc i → P k
+-- what holds of each number below i, and of i, holds of each below suc i
+pub below-suc : (P : ℕ → Type 0) (i : ℕ) → ((k : ℕ) → k < i → P k) → P i → (k : ℕ) → k < suc i → P k
 below-suc P i all here k l = below-more P i all here k (rw add-one l)
 
 -- ---- turn by turn, and rows

@@ -1,0 +1,2 @@
+-- The definitions that the contracts of centroid cite.
+pub mod Centroid

@@ -1,0 +1,9 @@
+-- The modules that belong to no one function.
+pub mod ByKind
+pub mod Picks
+pub mod Scanning
+pub mod Counting
+pub mod Filling
+pub mod Writing
+pub mod Screened
+pub mod Worked

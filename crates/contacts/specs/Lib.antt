@@ -1,0 +1,4 @@
+-- The definitions that the contracts of contacts, and of the vectors over them, cite.
+pub mod Touching
+pub mod Contacts
+pub mod Calls

@@ -1,0 +1,3 @@
+-- The modules that belong to no one function.
+pub mod Search
+pub mod Worked

@@ -1,0 +1,11 @@
+-- What the call answers: the refusal of what is lent, a position, or nothing. Definitions only.
+use mathlib.Core.List.{List}
+use mathlib.Core.Option.{Option}
+use lib.Ieee.{Float}
+use Rattle.plane.specs.declared.Point.{Point}
+use Rattle.refusals.specs.Answers.{Outcome, outcome}
+use Rattle.moved.specs.Answers.{found, positionRefusal}
+use Rattle.interlocking.specs.Interlocking.{interlockOf}
+
+abbrev pub interlockCall : List Float → List Float → Point → Float → Outcome (Option Point)
+interlockCall s o current tol = outcome (positionRefusal s o current tol) (found (interlockOf s o current tol))

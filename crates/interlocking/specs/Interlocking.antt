@@ -1,0 +1,61 @@
+-- A position toward a concave vertex, in the order of operations of `nfp_sliding.rs`. Definitions only.
+use Prim.Native.Nat.{ℕ, zero, suc, _-_}
+use mathlib.Core.Bool.{Bool, not, _&&_, cond}
+use mathlib.Core.List.{List}
+use lib.Dec.{eqb}
+use lib.Ieee.{Float, lt}
+use Rattle.scalar.specs.Float.{_⊖_, _⊗_, f0}
+use Rattle.scalar.specs.Scalar.{absOf, smallerOf}
+use Rattle.plane.specs.Vector.{minusOf, dotOf, normalizeOf, turnOf, root}
+use Rattle.plane.specs.declared.Point.{Point}
+use Rattle.ring.specs.Ring.{count, pointAt, nextOf}
+use Rattle.moved.specs.Moved.{movedOf, aheadOf, half}
+use Rattle.moved.specs.declared.answer.Found.{Found}
+use Rattle.moved.specs.declared.answer.Found.the-variants.{Nothing, At}
+use Rattle.overlap.specs.Extent.{boxOf}
+use Rattle.overlap.specs.Overlap.{edgeOf, overlapOf, f1e-6}
+
+-- the vertex before i of n
+unfoldable pub previousOf : ℕ → ℕ → ℕ
+previousOf i n = cond (eqb i 0) (n - 1) (i - 1)
+
+-- the turn at vertex i is clockwise
+unfoldable pub concaveOf : List Float → ℕ → Bool
+concaveOf r i = lt (turnOf (pointAt r (previousOf i (count r))) (pointAt r i) (pointAt r (nextOf i (count r)))) f0
+
+-- sqrt(|dot|) of the edges before and after vertex i
+unfoldable pub openingOf : List Float → ℕ → Float
+openingOf r i = root (absOf (dotOf (edgeOf r (previousOf i (count r))) (edgeOf r i)))
+
+-- half of the smaller side of the bounding box
+unfoldable pub leastOf : List Float → Float
+leastOf r =
+    let b = boxOf r in
+    smallerOf (b .x .max ⊖ b .x .min) (b .y .max ⊖ b .y .min) ⊗ half
+
+-- o moved there does not overlap s
+unfoldable pub fitsOf : List Float → List Float → Point → Bool
+fitsOf s o at = not (overlapOf s (movedOf o at) f1e-6)
+
+-- one tolerance from the current position toward vertex i, where o fits there
+unfoldable pub tryOf : List Float → List Float → Point → Float → ℕ → Found
+tryOf s o current tol i =
+    let at = aheadOf current (normalizeOf (minusOf (pointAt s i) current)) tol in
+    cond (fitsOf s o at) (At at) Nothing
+
+-- the same where vertex i is concave and opens wider than least
+unfoldable pub candidateOf : List Float → List Float → Point → Float → Float → ℕ → Found
+candidateOf s o current tol least i =
+    cond (concaveOf s i && lt least (openingOf s i)) (tryOf s o current tol i) Nothing
+
+unfoldable pub orElse : Found → Found → Found
+orElse Nothing b = b
+orElse (At p) b = At p
+
+-- the first of so many, from k on, that is something
+unfoldable pub firstFound : (ℕ → Found) → ℕ → ℕ → Found
+firstFound f k zero = Nothing
+firstFound f k (suc more) = orElse (f k) (firstFound f (suc k) more)
+
+unfoldable pub interlockOf : List Float → List Float → Point → Float → Found
+interlockOf s o current tol = firstFound (candidateOf s o current tol (leastOf o)) 0 (count s)

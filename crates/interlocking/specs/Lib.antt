@@ -1,0 +1,3 @@
+-- The definitions that the contracts of interlocking cite.
+pub mod Interlocking
+pub mod Calls

@@ -1,0 +1,3 @@
+-- The definitions that the contracts of recovery cite.
+pub mod Recovery
+pub mod Calls

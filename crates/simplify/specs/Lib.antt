@@ -1,0 +1,3 @@
+-- The definitions that the contracts of simplify cite.
+pub mod Simplify
+pub mod Calls

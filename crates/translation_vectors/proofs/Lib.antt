@@ -1,0 +1,5 @@
+-- The modules that belong to no one function.
+pub mod Steps
+pub mod Passing
+pub mod Screened
+pub mod Worked

@@ -1,0 +1,2 @@
+-- The definitions that the contracts of winding cite.
+pub mod Winding

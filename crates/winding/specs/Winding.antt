@@ -1,0 +1,37 @@
+-- A polygon made counter-clockwise, in the order of operations of `nfp_sliding.rs`. Definitions only.
+use Prim.Native.Nat.{ℕ, zero, suc, _-_}
+use mathlib.Core.Bool.{Bool, cond}
+use mathlib.Core.List.{List}
+use lib.Ieee.{Float, lt}
+use Rattle.scalar.specs.Float.{_⊕_, _⊖_, _⊗_, _⊘_, float, f0}
+use Rattle.plane.specs.declared.Point.{Point}
+use Rattle.ring.specs.Ring.{count, pointAt, nextOf}
+use Rattle.moved.specs.Points.{points}
+
+-- x_i * y_j is added, then x_j * y_i subtracted
+unfoldable pub addedOf : Float → Point → Point → Float
+addedOf area p q = area ⊕ p .x ⊗ q .y ⊖ q .x ⊗ p .y
+
+-- the sum over the first k edges, from 0.0
+unfoldable pub sumTo : List Float → ℕ → Float
+sumTo r zero = f0
+sumTo r (suc k) = addedOf (sumTo r k) (pointAt r k) (pointAt r (nextOf k (count r)))
+
+-- 2.0
+abbrev pub f2 : Float
+f2 = float 0x4000_0000_0000_0000
+
+unfoldable pub areaOf : List Float → Float
+areaOf r = sumTo r (count r) ⊘ f2
+
+-- vertex i, from the end where the order is reversed
+unfoldable pub vertexOf : List Float → Bool → ℕ → Point
+vertexOf r reverse i = cond reverse (pointAt r (count r - 1 - i)) (pointAt r i)
+
+-- the vertices in reverse order
+unfoldable pub reversed : List Float → List Float
+reversed r = points (λ i. pointAt r (count r - 1 - i)) (count r)
+
+-- reversed where the area is below zero, else as it is
+unfoldable pub ccwOf : List Float → List Float
+ccwOf r = cond (lt (areaOf r) f0) (reversed r) r
