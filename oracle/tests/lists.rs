@@ -58,6 +58,11 @@ fn book_is_as_written() {
 }
 
 #[test]
+fn sliding_is_as_written() {
+    as_written("replay_sliding", sliding::records());
+}
+
+#[test]
 fn book_records_keep_their_bounds() {
     for record in book::records().into_iter().chain(long("book", 4_000)) {
         let [a, b, room, counts] = lengths(&record, [1, 2, 3, 4]);
