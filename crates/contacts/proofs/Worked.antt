@@ -17,47 +17,51 @@ use Rattle.contacts.specs.Touching.{edgeEnd, edgesOf, edgesTouch, touche
 use Rattle.contacts.specs.Contacts.{picks, contactsOf, whichOf, pointsOf}
 use Rattle.contacts.specs.Calls.{findRefusal, findCall}
 
-abbrev four : Float
+abbrev pub four : Float
 four = float 0x4010_0000_0000_0000
 
-abbrev minus-two : Float
+abbrev pub minus-two : Float
 minus-two = neg f2
 
 -- 1e-6
-abbrev tol : Float
+abbrev pub tol : Float
 tol = float 0x3eb0_c6f7_a0b5_ed8d
 
-abbrev S : List Float
+abbrev pub S : List Float
 S = f0 ∷ f0 ∷ four ∷ f0 ∷ four ∷ four ∷ f0 ∷ four ∷ []
 
 -- Q moved by (0, -2)
-abbrev Q : List Float
+abbrev pub Q : List Float
 Q = f0 ∷ minus-two ∷ f2 ∷ minus-two ∷ f2 ∷ f0 ∷ f0 ∷ f0 ∷ []
+
+-- the pairs' numbers
+pub numbers : contactsOf S Q tol ≡ 8 ∷ 12 ∷ 15 ∷ 18 ∷ 19 ∷ 34 ∷ []
+unfolding picks touching touchesBy edgesOf edgeEnd edgesTouch pairOf pointAt onSegmentOf toSegmentOf alongOf projectOf clampedFoot clampOf parallelOf absOf crossOf minusOf dotOf lengthOf distanceOf sqrtOf add sub mul div lt neg ofBits
+numbers = refl
 
 -- vertex-edge (0,2), (0,3), (3,3); edge-vertex (0,2), (0,3); edge-edge (0,2)
 pub contacts : whichOf 4 4 (contactsOf S Q tol)
     ≡ 0 ∷ 0 ∷ 2 ∷ 0 ∷ 0 ∷ 3 ∷ 0 ∷ 3 ∷ 3 ∷ 1 ∷ 0 ∷ 2 ∷ 1 ∷ 0 ∷ 3 ∷ 2 ∷ 0 ∷ 2 ∷ []
-unfolding whichOf picks touching touchesBy edgesOf edgeEnd edgesTouch pairOf pointAt onSegmentOf toSegmentOf alongOf projectOf clampedFoot clampOf parallelOf absOf crossOf minusOf dotOf lengthOf distanceOf sqrtOf add sub mul div lt neg ofBits
-contacts = refl
+unfolding whichOf pairOf
+contacts = rw numbers
 
 -- at (2,0), (0,0), (0,0); (0,0), (0,0); (1,0)
-pub points : pointsOf S Q (contactsOf S Q tol)
-    ≡ f2 ∷ f0 ∷ f0 ∷ f0 ∷ f0 ∷ f0 ∷ f0 ∷ f0 ∷ f0 ∷ f0 ∷ f1 ∷ f0 ∷ []
-unfolding pointsOf contactPoint pointBy picks touching touchesBy edgesOf edgeEnd edgesTouch pairOf pointAt onSegmentOf toSegmentOf alongOf projectOf clampedFoot clampOf parallelOf absOf crossOf minusOf dotOf lengthOf distanceOf sqrtOf add sub mul div lt neg ofBits
-points = refl
+pub points : pointsOf S Q (contactsOf S Q tol) ≡ f2 ∷ f0 ∷ f0 ∷ f0 ∷ f0 ∷ f0 ∷ f0 ∷ f0 ∷ f0 ∷ f0 ∷ f1 ∷ f0 ∷ []
+unfolding pointsOf contactPoint pointBy edgesOf edgeEnd pairOf pointAt add div neg ofBits
+points = rw numbers
 
 -- rooms of exactly six entries, and rooms that are one number short
 pub exact : findCall S Q tol 18 12 ≡ answers 6
-unfolding findRefusal ofTwoPolygons every coordinate picks touching touchesBy edgesOf edgeEnd edgesTouch pairOf pointAt onSegmentOf toSegmentOf alongOf projectOf clampedFoot clampOf parallelOf absOf crossOf minusOf dotOf lengthOf distanceOf sqrtOf add sub mul div lt le eq neg ofBits
-exact = refl
+unfolding findRefusal ofTwoPolygons every coordinate lt le eq neg ofBits
+exact = rw numbers
 
 pub which-short : findCall S Q tol 17 12 ≡ refuses (refuse 5)
-unfolding findRefusal ofTwoPolygons every coordinate picks touching touchesBy edgesOf edgeEnd edgesTouch pairOf pointAt onSegmentOf toSegmentOf alongOf projectOf clampedFoot clampOf parallelOf absOf crossOf minusOf dotOf lengthOf distanceOf sqrtOf add sub mul div lt le eq neg ofBits
-which-short = refl
+unfolding findRefusal ofTwoPolygons every coordinate lt le eq neg ofBits
+which-short = rw numbers
 
 pub points-short : findCall S Q tol 18 11 ≡ refuses (refuse 5)
-unfolding findRefusal ofTwoPolygons every coordinate picks touching touchesBy edgesOf edgeEnd edgesTouch pairOf pointAt onSegmentOf toSegmentOf alongOf projectOf clampedFoot clampOf parallelOf absOf crossOf minusOf dotOf lengthOf distanceOf sqrtOf add sub mul div lt le eq neg ofBits
-points-short = refl
+unfolding findRefusal ofTwoPolygons every coordinate lt le eq neg ofBits
+points-short = rw numbers
 
 -- a polygon of two vertices comes before a tolerance of 0, and that before the rooms
 pub two-vertices : findCall (f0 ∷ f0 ∷ four ∷ f0 ∷ []) Q f0 0 0 ≡ refuses (refuse 1)
