@@ -5,6 +5,7 @@ ghost use mathlib.Core.Path.{_≡_};
 ghost use Prim.Native.Nat.{_+_, _≤_, _<_};
 ghost use lib.ListN.{length};
 ghost use lib.Ieee.{binary64, ofBits};
+ghost use Rattle.replay.specs.Tally.{Counted};
 
 // A number of two, of four and of eight bytes, the lower half first.
 fn two(low: u8, high: u8) -> u16 {
@@ -161,26 +162,64 @@ pub enum Verdict {
     Differs,
 }
 
-// How many of the records agreed after one more. The first that differs is named.
-pub fn tally(seen: u64, agreed: u64, agrees: bool) -> u64
-    requires { ⌜ (agreed ≤ seen) × (seen < 1000000) ⌝ }
-    ensures { λ r. ⌜ r ≤ seen + 1 ⌝ }
+// How many records were seen and how many of them agreed, and how many more are read at most.
+pub struct Tally {
+    pub seen: u64,
+    pub agreed: u64,
+    pub left: u64,
+}
+
+// Nothing seen.
+pub fn begin() -> Tally
+    ensures { λ r. ⌜ Counted r ⌝ }
 {
-    if agrees {
-        return agreed + 1;
+    Tally {
+        seen: 0,
+        agreed: 0,
+        left: 1000000,
     }
+}
+
+// Names the first record that differs.
+fn name_first(seen: u64, agreed: u64) {
     if seen == agreed {
         io::write_all(STDOUT_FILENO, b"first that differs: record ");
         io::print_decimal(STDOUT_FILENO, seen);
         io::write_all(STDOUT_FILENO, b"\n");
     }
-    agreed
+}
+
+// The tally after one more record. The first that differs is named, and at the end of the input none is left.
+pub fn after(t: Tally, verdict: Verdict) -> Tally
+    requires { ⌜ Counted t × (0 < t .left) ⌝ }
+    ensures { λ r. ⌜ Counted r × (r .left < t .left) ⌝ }
+{
+    match verdict {
+        Verdict::End => Tally {
+            seen: t.seen,
+            agreed: t.agreed,
+            left: 0,
+        },
+        Verdict::Agrees => Tally {
+            seen: t.seen + 1,
+            agreed: t.agreed + 1,
+            left: t.left - 1,
+        },
+        Verdict::Differs => {
+            name_first(t.seen, t.agreed);
+            Tally {
+                seen: t.seen + 1,
+                agreed: t.agreed,
+                left: t.left - 1,
+            }
+        }
+    }
 }
 
 // The last line: how many records were read and how many agreed.
-pub fn report(seen: u64, agreed: u64) {
-    io::print_decimal(STDOUT_FILENO, agreed);
+pub fn report(t: Tally) {
+    io::print_decimal(STDOUT_FILENO, t.agreed);
     io::write_all(STDOUT_FILENO, b" of ");
-    io::print_decimal(STDOUT_FILENO, seen);
+    io::print_decimal(STDOUT_FILENO, t.seen);
     io::write_all(STDOUT_FILENO, b" agree\n");
 }

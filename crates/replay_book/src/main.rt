@@ -2,6 +2,8 @@
 use libc::STDIN_FILENO;
 use refusals::answer::Count;
 use replay::Verdict;
+use replay::after;
+use replay::begin;
 use replay::load;
 use replay::load_counts;
 use replay::read;
@@ -9,7 +11,6 @@ use replay::report;
 use replay::same_bytes;
 use replay::same_counts;
 use replay::same_floats;
-use replay::tally;
 use replay::word;
 ghost use mathlib.Core.Path.{_≡_};
 ghost use Prim.Native.Nat.{_≤_};
@@ -150,25 +151,9 @@ fn step() -> Verdict {
 }
 
 fn main() {
-    let mut seen: u64 = 0;
-    let mut agreed: u64 = 0;
-    let mut left: u64 = 1000000;
-    while 0 < left {
-        match step() {
-            Verdict::End => {
-                left = 0;
-            }
-            Verdict::Agrees => {
-                agreed = tally(seen, agreed, true);
-                seen += 1;
-                left -= 1;
-            }
-            Verdict::Differs => {
-                agreed = tally(seen, agreed, false);
-                seen += 1;
-                left -= 1;
-            }
-        }
+    let mut tally = begin();
+    while 0 < tally.left {
+        tally = after(tally, step());
     }
-    report(seen, agreed);
+    report(tally);
 }

@@ -1,10 +1,11 @@
 // Replays the oracle's answers for the scalars: records of five words, the operation, three operands and the answer, from standard input.
 use libc::STDIN_FILENO;
 use replay::Verdict;
+use replay::after;
+use replay::begin;
 use replay::bits;
 use replay::number;
 use replay::report;
-use replay::tally;
 use replay::word;
 
 // What the library answers: 0 abs, 1 smaller, 2 larger, 3 clamp, 4 sqrt, 5 limit.
@@ -53,25 +54,9 @@ fn step() -> Verdict {
 }
 
 fn main() {
-    let mut seen: u64 = 0;
-    let mut agreed: u64 = 0;
-    let mut left: u64 = 1000000;
-    while 0 < left {
-        match step() {
-            Verdict::End => {
-                left = 0;
-            }
-            Verdict::Agrees => {
-                agreed = tally(seen, agreed, true);
-                seen += 1;
-                left -= 1;
-            }
-            Verdict::Differs => {
-                agreed = tally(seen, agreed, false);
-                seen += 1;
-                left -= 1;
-            }
-        }
+    let mut tally = begin();
+    while 0 < tally.left {
+        tally = after(tally, step());
     }
-    report(seen, agreed);
+    report(tally);
 }

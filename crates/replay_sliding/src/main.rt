@@ -4,13 +4,14 @@ mod told;
 use libc::STDIN_FILENO;
 use plane::Point;
 use replay::Verdict;
+use replay::after;
+use replay::begin;
 use replay::load;
 use replay::load_words;
 use replay::read;
 use replay::report;
 use replay::same_floats;
 use replay::same_words;
-use replay::tally;
 use replay::word;
 use selection::Previous;
 use told::Told;
@@ -325,25 +326,9 @@ fn step() -> Verdict {
 }
 
 fn main() {
-    let mut seen: u64 = 0;
-    let mut agreed: u64 = 0;
-    let mut left: u64 = 1000000;
-    while 0 < left {
-        match step() {
-            Verdict::End => {
-                left = 0;
-            }
-            Verdict::Agrees => {
-                agreed = tally(seen, agreed, true);
-                seen += 1;
-                left -= 1;
-            }
-            Verdict::Differs => {
-                agreed = tally(seen, agreed, false);
-                seen += 1;
-                left -= 1;
-            }
-        }
+    let mut tally = begin();
+    while 0 < tally.left {
+        tally = after(tally, step());
     }
-    report(seen, agreed);
+    report(tally);
 }

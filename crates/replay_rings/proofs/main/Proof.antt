@@ -1,66 +1,32 @@
--- `replay_rings::main` meets its contract. The invariant: no more records agreed than were seen, and there is room to count those that are left. Assumes nothing.
-use native.Mathlib.Omega.{arith}
+-- `replay_rings::main` meets its contract. The invariant: the tally can be counted on. Assumes nothing.
 use borrow.Author.Needs.{needs}
-use Prim.Native.Nat.{_+_, _≤_}
+use Rattle.replay.specs.Tally.{Counted}
 use Rattle.replay_rings.proofs.main.Statement.{statement}
 use Rattle.replay_rings.proofs.main.Tie as tie
 
 abbrev Inv-loop : tie.InvT-loop
-Inv-loop seen₀ agreed₀ left₀ seen agreed left = (agreed ≤ seen) × (seen + left ≤ 1000000)
+Inv-loop tally₀ tally = Counted tally
 
 abbrev μ-loop : tie.MeasureT-loop
-μ-loop seen₀ agreed₀ left₀ seen agreed left = left
+μ-loop tally₀ tally = tally .left
+
+begin-requires : tie.Need-begin-requires Inv-loop μ-loop
+begin-requires c κs = search needs
 
 loop-holds : tie.Need-loop-holds Inv-loop μ-loop
-loop-holds c = (omega arith, omega arith)
+loop-holds c = c .begin .ensures
 
 step-requires : tie.Need-step-requires Inv-loop μ-loop
 step-requires c κs = search needs
 
-enum-told : tie.Need-enum-told Inv-loop μ-loop
-enum-told c = search needs
+after-requires : tie.Need-after-requires Inv-loop μ-loop
+after-requires c κs = search needs
 
 loop-less : tie.Need-loop-less Inv-loop μ-loop
-loop-less c = omega arith
+loop-less c = c .after .ensures .1
 
 loop-again : tie.Need-loop-again Inv-loop μ-loop
-loop-again c = (omega arith, omega arith)
-
-enum-told-2 : tie.Need-enum-told-2 Inv-loop μ-loop
-enum-told-2 c = search needs
-
-tally-requires : tie.Need-tally-requires Inv-loop μ-loop
-tally-requires c κs = search needs
-
-add-seen : tie.Need-add-seen Inv-loop μ-loop
-add-seen c = omega arith
-
-sub-left : tie.Need-sub-left Inv-loop μ-loop
-sub-left c = omega arith
-
-loop-less-2 : tie.Need-loop-less-2 Inv-loop μ-loop
-loop-less-2 c = omega arith
-
-loop-again-2 : tie.Need-loop-again-2 Inv-loop μ-loop
-loop-again-2 c = (omega arith, omega arith)
-
-enum-told-3 : tie.Need-enum-told-3 Inv-loop μ-loop
-enum-told-3 c = search needs
-
-tally-requires-2 : tie.Need-tally-requires-2 Inv-loop μ-loop
-tally-requires-2 c κs = search needs
-
-add-seen-2 : tie.Need-add-seen-2 Inv-loop μ-loop
-add-seen-2 c = omega arith
-
-sub-left-2 : tie.Need-sub-left-2 Inv-loop μ-loop
-sub-left-2 c = omega arith
-
-loop-less-3 : tie.Need-loop-less-3 Inv-loop μ-loop
-loop-less-3 c = omega arith
-
-loop-again-3 : tie.Need-loop-again-3 Inv-loop μ-loop
-loop-again-3 c = (omega arith, omega arith)
+loop-again c = c .after .ensures .0
 
 report-requires : tie.Need-report-requires Inv-loop μ-loop
 report-requires c κs = search needs
@@ -74,22 +40,11 @@ main-spec =
     (tie.spec
     Inv-loop
     μ-loop
+    begin-requires
     loop-holds
     step-requires
-    enum-told
+    after-requires
     loop-less
     loop-again
-    enum-told-2
-    tally-requires
-    add-seen
-    sub-left
-    loop-less-2
-    loop-again-2
-    enum-told-3
-    tally-requires-2
-    add-seen-2
-    sub-left-2
-    loop-less-3
-    loop-again-3
     report-requires
     returns)
