@@ -6,17 +6,12 @@ use plane::Point;
 use plane::vector::dot;
 use plane::vector::minus;
 use plane::vector::normalize;
+use translation_vectors::TranslationVector;
 ghost use mathlib.Core.Path.{_≡_};
 ghost use Prim.Native.Nat.{_+_, _*_, _<_};
 ghost use lib.ListN.{length};
 ghost use Rattle.selection.specs.Score.{preferredOf, continuedOf, scoreOf};
 ghost use Rattle.selection.specs.Select.{vectorAt, keptOf, startOf, selectOf};
-
-// A way to slide: its direction, and how far it goes at most.
-pub struct TranslationVector {
-    pub direction: Point,
-    pub distance: f64,
-}
 
 // The direction of the slide before, where there was one.
 pub enum Previous {
