@@ -18,7 +18,7 @@ use Rattle.translation_vectors.specs.Places.{Ready, Behind, leftAt, far,
 use Rattle.translation_vectors.specs.declared.TranslationVector.{TranslationVector}
 use Rattle.translation_vectors.specs.declared.Place.{Place}
 
-numbers-length : (l : List Sourced) → length (numbersOf l) ≡ 3 * length l
+pub numbers-length : (l : List Sourced) → length (numbersOf l) ≡ 3 * length l
 unfolding numbersOf
 numbers-length [] = refl
 numbers-length (s ∷ ss) = omega (arith, numbers-length ss)

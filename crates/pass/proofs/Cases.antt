@@ -1,0 +1,67 @@
+-- What a pass comes to, case by case, over plain values. Assumes nothing.
+use Prim.Native.Nat.{ℕ, _+_, _%_, _≤_, _<_}
+use mathlib.Core.Path.{_≡_, refl, sym, _∙_}
+use mathlib.Core.Bool.{true, false}
+use mathlib.Core.List.{List, [], _∷_}
+use native.Mathlib.Omega.{arith}
+use lib.ListN.{length, take}
+use lib.Dec.{ltb}
+use lib.Ieee.{Float}
+use borrow.Author.Tests.{lt-ltb, le-ltb}
+use Rattle.plane.specs.declared.Point.{Point}
+use Rattle.contacts.specs.Contacts.{contactsOf}
+use Rattle.translation_vectors.specs.Fit.{fitOf}
+use Rattle.selection.specs.Score.{preferredOf}
+use Rattle.ring.specs.Ring.{count}
+use Rattle.ring.specs.Room.{laid}
+use Rattle.pairs.specs.Pairs.{Sides}
+use Rattle.moved.specs.Moved.{movedOf}
+use Rattle.moved.proofs.Moved.{moved-front, moved-count}
+use Rattle.pass.specs.Choose.{choiceOf}
+use Rattle.pass.specs.Slide.{slideOf}
+use Rattle.pass.specs.Pass.{Scene, regainOf, unstickOf, chosen, ifNone, passAt}
+use Rattle.pass.specs.declared.Pose.{Pose}
+use Rattle.pass.specs.declared.Step.{Step}
+use Rattle.pass.specs.declared.choose.Choice.{Choice}
+use Rattle.translation_vectors.specs.declared.TranslationVector.{TranslationVector}
+use Rattle.pass.specs.declared.choose.Choice.the-variants.{Nothing, Vector}
+
+-- stuck for the third time at most, and more often
+pub few : (n : ℕ) → n < 3 → ltb 3 (n + 1) ≡ false
+few n h = le-ltb 3 (n + 1) (omega arith)
+
+pub often : (n : ℕ) → 3 ≤ n → ltb 3 (n + 1) ≡ true
+often n h = lt-ltb 3 (n + 1) (omega arith)
+
+touched : {A : Type 0} {l ks : List ℕ} {k : ℕ} (a b : A) → l ≡ k ∷ ks → ifNone l a b ≡ b
+touched a b e = rw e refl
+
+module _ (s : Scene) (moved path : List Float) (pose : Pose) where
+  abbrev tol : Float
+  tol = s .settings .«contact_tolerance»
+
+  pub loose : {r : Step} → contactsOf (s .stationary) moved tol ≡ [] → r ≡ regainOf (s .stationary) moved tol pose → r ≡ passAt s moved path pose
+  unfolding passAt
+  loose e h = rw (e, h)
+
+  module _ {k : ℕ} {ks : List ℕ} {ccw : Point} {v : Choice} (t : contactsOf (s .stationary) moved tol ≡ k ∷ ks) (p : ccw ≡ preferredOf (s .centroid) (pose .position))
+      (q : v ≡ choiceOf (fitOf (s .stationary) moved (pose .position) path tol) (pose .previous) ccw) where
+    by : {r : Step} → r ≡ chosen v s moved path pose → r ≡ passAt s moved path pose
+    unfolding passAt
+    by h = h ∙ (rw (q, p) refl) ∙ sym (touched _ _ t)
+
+    pub stuck : {r : Step} → v ≡ Nothing → r ≡ unstickOf (s .stationary) (s .orbiting) (s .settings) pose → r ≡ passAt s moved path pose
+    unfolding chosen
+    stuck e h = by (rw (e, h))
+
+    pub slides : {r : Step} {w : TranslationVector} → v ≡ Vector w → r ≡ slideOf (s .stationary) moved (s .settings) (s .start) path pose w → r ≡ passAt s moved path pose
+    unfolding chosen
+    slides e h = by (rw (e, h))
+
+-- the front of the array that the orbiting polygon was moved into is the moved polygon
+pub fronted : (orb : List Float) (by : Point) (held : List Float) {room : List Float} → length orb % 2 ≡ 0 → room ≡ laid (movedOf orb by) held
+    → take (length orb) room ≡ movedOf orb by
+fronted orb by held even e = rw e (moved-front orb by held even)
+
+pub sides : (sn : ℕ) (orb : List Float) (by : Point) {front : List Float} → front ≡ movedOf orb by → Sides sn (count orb) → Sides sn (count front)
+sides sn orb by e d = rw (e, moved-count orb by) d

@@ -1,0 +1,82 @@
+-- One pass of the trace, in the order of `trace_nfp_boundary` of `nfp_sliding.rs`. Definitions only.
+use Prim.Native.Nat.{ℕ, _+_}
+use mathlib.Core.Bool.{cond}
+use mathlib.Core.List.{List, [], _∷_}
+use lib.Dec.{ltb}
+use lib.Ieee.{Float, lt}
+use Rattle.plane.specs.Vector.{distanceOf}
+use Rattle.plane.specs.declared.Point.{Point}
+use Rattle.refusals.specs.declared.Settings.{Settings}
+use Rattle.contacts.specs.Contacts.{contactsOf}
+use Rattle.translation_vectors.specs.Fit.{fitOf}
+use Rattle.selection.specs.Score.{preferredOf}
+use Rattle.moved.specs.Moved.{movedOf}
+use Rattle.moved.specs.declared.answer.Found.{Found}
+use Rattle.moved.specs.declared.answer.Found.the-variants as found-is
+use Rattle.recovery.specs.Recovery.{recoverOf}
+use Rattle.interlocking.specs.Interlocking.{interlockOf}
+use Rattle.pass.specs.Choose.{choiceOf}
+use Rattle.pass.specs.Slide.{slideOf}
+use Rattle.pass.specs.declared.Pose.{Pose}
+use Rattle.pass.specs.declared.Step.{Step}
+use Rattle.pass.specs.declared.Step.the-variants.{Stop, Stay, Store}
+use Rattle.pass.specs.declared.choose.Choice.{Choice}
+use Rattle.pass.specs.declared.choose.Choice.the-variants as choice-is
+
+-- what stays the same from pass to pass: both polygons, counter-clockwise, the settings, the stationary one's centroid, the start
+pub record Scene : Type 0 where
+  pub stationary : List Float
+  pub orbiting : List Float
+  pub settings : Settings
+  pub centroid : Point
+  pub start : Point
+
+abbrev pub scene : List Float → List Float → Settings → Point → Point → Scene
+scene st orb s c p = record { stationary = st; orbiting = orb; settings = s; centroid = c; start = p }
+
+-- where contact was recovered the trace goes on from there; 1 where it was not
+unfoldable pub regained : Found → Pose → Step
+regained found-is.Nothing pose = Stop 1
+regained (found-is.At p) pose = Stay (record { position = p; previous = pose .previous; stuck = pose .stuck })
+
+unfoldable pub regainOf : List Float → List Float → Float → Pose → Step
+regainOf st moved tol pose = regained (recoverOf st moved (pose .position) tol) pose
+
+-- an interlocking position is stored where it is farther than the smallest move; 2 where it is not, and where there is none
+unfoldable pub interlocked : Found → Settings → Pose → Step
+interlocked found-is.Nothing s pose = Stop 2
+interlocked (found-is.At p) s pose =
+    cond (lt (s .«min_translation») (distanceOf p (pose .position)))
+    (Store (record { position = p; previous = pose .previous; stuck = pose .stuck + 1 }))
+    (Stop 2)
+
+-- no vector is left: 2 at the fourth time in a row
+unfoldable pub unstickOf : List Float → List Float → Settings → Pose → Step
+unstickOf st orb s pose =
+    cond (ltb 3 (pose .stuck + 1)) (Stop 2) (interlocked (interlockOf st orb (pose .position) (s .«contact_tolerance»)) s pose)
+
+-- the slide along the vector chosen
+unfoldable pub chosen : Choice → Scene → List Float → List Float → Pose → Step
+chosen choice-is.Nothing s moved path pose = unstickOf (s .stationary) (s .orbiting) (s .settings) pose
+chosen (choice-is.Vector v) s moved path pose = slideOf (s .stationary) moved (s .settings) (s .start) path pose v
+
+abbrev pub ifNone : {A : Type 0} → List ℕ → A → A → A
+ifNone [] a b = a
+ifNone (k ∷ ks) a b = b
+
+-- the pass of the moved polygon
+unfoldable pub passAt : Scene → List Float → List Float → Pose → Step
+passAt s moved path pose =
+    let tol = s .settings .«contact_tolerance» in
+    ifNone (contactsOf (s .stationary) moved tol)
+    (regainOf (s .stationary) moved tol pose)
+    (chosen
+    (choiceOf (fitOf (s .stationary) moved (pose .position) path tol) (pose .previous) (preferredOf (s .centroid) (pose .position)))
+    s
+    moved
+    path
+    pose)
+
+-- the pass from a pose, with the path so far
+unfoldable pub passOf : Scene → List Float → Pose → Step
+passOf s path pose = passAt s (movedOf (s .orbiting) (pose .position)) path pose

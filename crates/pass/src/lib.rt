@@ -1,0 +1,144 @@
+// One pass of the trace: the loop's body in `trace_nfp_boundary` of `nfp_sliding.rs`.
+pub mod choose;
+pub mod slide;
+
+use choose::Choice;
+use choose::choose;
+use contacts::Next;
+use contacts::next_contact;
+use interlocking::detect_interlocking_opportunity;
+use moved::answer::Found;
+use moved::move_ring;
+use plane::Point;
+use plane::vector::distance;
+use recovery::recover_contact;
+use refusals::Settings;
+use selection::Previous;
+use selection::preferred;
+use slide::slide;
+ghost use mathlib.Core.Path.{_≡_};
+ghost use Prim.Native.Nat.{_%_, _≤_};
+ghost use lib.ListN.{length};
+ghost use Rattle.ring.specs.Ring.{count};
+ghost use Rattle.pairs.specs.Pairs.{Sides};
+ghost use Rattle.pass.specs.Pass.{scene, regainOf, unstickOf, passAt, passOf};
+
+// Where the orbiting polygon is, the direction of the slide before, and how often in a row no vector was left.
+pub struct Pose {
+    pub position: Point,
+    pub previous: Previous,
+    pub stuck: u32,
+}
+
+// What a pass comes to: the trace stops, with its reason; or it goes on from a pose, whose position is stored or is not.
+pub enum Step {
+    Stop(u32),
+    Stay(Pose),
+    Store(Pose),
+}
+
+// Without a contact: toward the stationary polygon, where that brings one back.
+fn regain(stationary: &[f64], moved: &[f64], tol: f64, pose: Pose) -> Step
+    ensures { λ r. ⌜ r ≡ regainOf (now (stationary .entry)) (now (moved .entry)) tol pose ⌝ }
+{
+    let previous = pose.previous;
+    match recover_contact(stationary, moved, pose.position, tol) {
+        Found::Nothing => Step::Stop(1),
+        Found::At(position) => Step::Stay(Pose {
+            position,
+            previous,
+            stuck: pose.stuck,
+        }),
+    }
+}
+
+// Without a vector: to an interlocking position, three times in a row at most.
+fn unstick(stationary: &[f64], orbiting: &[f64], settings: Settings, pose: Pose) -> Step
+    requires { ⌜ length (now orbiting) % 2 ≡ 0 ⌝ }
+    requires { ⌜ length (now orbiting) ≤ 512 ⌝ }
+    ensures { λ r. ⌜ r ≡ unstickOf (now (stationary .entry)) (now (orbiting .entry)) settings pose ⌝ }
+{
+    let stuck = pose.stuck;
+    if stuck < 3 {
+        let from = pose.position;
+        let previous = pose.previous;
+        let tol = settings.contact_tolerance;
+        match detect_interlocking_opportunity(stationary, orbiting, from, tol) {
+            Found::Nothing => Step::Stop(2),
+            Found::At(position) => {
+                if distance(position, from) > settings.min_translation {
+                    Step::Store(Pose {
+                        position,
+                        previous,
+                        stuck: stuck + 1,
+                    })
+                } else {
+                    Step::Stop(2)
+                }
+            }
+        }
+    } else {
+        Step::Stop(2)
+    }
+}
+
+// The pass of the orbiting polygon, as drawn and as moved to the pose's position.
+fn pass_at(
+    stationary: &[f64],
+    orbiting: &[f64],
+    moved: &[f64],
+    settings: Settings,
+    centroid: Point,
+    start: Point,
+    path: &[f64],
+    pose: Pose,
+) -> Step
+    requires { ⌜ length (now orbiting) % 2 ≡ 0 ⌝ }
+    requires { ⌜ length (now orbiting) ≤ 512 ⌝ }
+    requires { ⌜ Sides (count (now stationary)) (count (now moved)) ⌝ }
+    ensures { λ r. ⌜ r ≡ passAt (scene (now (stationary .entry)) (now (orbiting .entry)) settings centroid start) (now (moved .entry)) (now (path .entry)) pose ⌝ }
+{
+    let tol = settings.contact_tolerance;
+    match next_contact(stationary, moved, tol, 0) {
+        Next::Nothing => regain(stationary, moved, tol, pose),
+        Next::At(_) => {
+            let from = pose.position;
+            let previous = pose.previous;
+            let ccw = preferred(centroid, from);
+            match choose(stationary, moved, tol, from, path, previous, ccw) {
+                Choice::Nothing => unstick(stationary, orbiting, settings, pose),
+                Choice::Vector(v) => slide(stationary, moved, settings, start, path, pose, v),
+            }
+        }
+    }
+}
+
+// The pass from a pose, with the path so far.
+pub fn pass(
+    stationary: &[f64],
+    orbiting: &[f64],
+    settings: Settings,
+    centroid: Point,
+    start: Point,
+    path: &[f64],
+    pose: Pose,
+) -> Step
+    requires { ⌜ length (now orbiting) % 2 ≡ 0 ⌝ }
+    requires { ⌜ length (now orbiting) ≤ 512 ⌝ }
+    requires { ⌜ Sides (count (now stationary)) (count (now orbiting)) ⌝ }
+    ensures { λ r. ⌜ r ≡ passOf (scene (now (stationary .entry)) (now (orbiting .entry)) settings centroid start) (now (path .entry)) pose ⌝ }
+{
+    let mut room = [0.0; 512];
+    move_ring(orbiting, pose.position, &mut room);
+    let len = orbiting.len();
+    pass_at(
+        stationary,
+        orbiting,
+        &room[..len],
+        settings,
+        centroid,
+        start,
+        path,
+        pose,
+    )
+}

@@ -1,0 +1,104 @@
+// The slide along a vector, as far as nothing is in the way, and where it ends.
+use crate::Pose;
+use crate::Step;
+use collision::Collision;
+use collision::check_translation_collision;
+use plane::Point;
+use plane::vector::distance;
+use plane::vector::plus;
+use refusals::Settings;
+use scalar::larger;
+use scalar::smaller;
+use selection::Previous;
+use translation_vectors::TranslationVector;
+ghost use mathlib.Core.Path.{_≡_};
+ghost use Rattle.pass.specs.Slide.{timesOf, blockedOf, closesOf, landOf, slideOf};
+
+// So far in a direction.
+fn times(dir: Point, far: f64) -> Point
+    ensures { λ r. ⌜ r ≡ timesOf dir far ⌝ }
+{
+    Point {
+        x: dir.x * far,
+        y: dir.y * far,
+    }
+}
+
+// The move that is made of an intended one: the full one, or, where something is in the way, up to one tolerance before it.
+fn blocked(stationary: &[f64], moved: &[f64], dir: Point, far: f64, tol: f64) -> Point
+    ensures { λ r. ⌜ r ≡ blockedOf (now (stationary .entry)) (now (moved .entry)) dir far tol ⌝ }
+{
+    let full = times(dir, far);
+    let Collision::Hit {
+        distance,
+        kind: _,
+        stationary: _,
+        orbiting: _,
+    } = check_translation_collision(stationary, moved, full, tol)
+    else {
+        return full;
+    };
+    times(dir, larger(distance - tol, 0.0))
+}
+
+// Whether a position closes the path: the path has more than two points and the start is nearer than ten tolerances.
+fn closes(path: &[f64], at: Point, start: Point, tol: f64) -> bool
+    ensures { λ r. ⌜ r ≡ closesOf (now (path .entry)) at start tol ⌝ }
+{
+    if path.len() / 2 > 2 {
+        distance(at, start) < tol * 10.0
+    } else {
+        false
+    }
+}
+
+// The end of a slide: it is stored where it is farther than the smallest move from where the slide began.
+fn land(settings: Settings, start: Point, path: &[f64], pose: Pose, dir: Point, at: Point) -> Step
+    ensures { λ r. ⌜ r ≡ landOf settings start (now (path .entry)) pose dir at ⌝ }
+{
+    if closes(path, at, start, settings.contact_tolerance) {
+        return Step::Stop(4);
+    }
+    if distance(at, pose.position) > settings.min_translation {
+        Step::Store(Pose {
+            position: at,
+            previous: Previous::Direction(dir),
+            stuck: 0,
+        })
+    } else {
+        let previous = pose.previous;
+        Step::Stay(Pose {
+            position: at,
+            previous,
+            stuck: 0,
+        })
+    }
+}
+
+// The slide along a vector, for 1000.0 at most.
+pub fn slide(
+    stationary: &[f64],
+    moved: &[f64],
+    settings: Settings,
+    start: Point,
+    path: &[f64],
+    pose: Pose,
+    vector: TranslationVector,
+) -> Step
+    ensures { λ r. ⌜ r ≡ slideOf (now (stationary .entry)) (now (moved .entry)) settings start (now (path .entry)) pose vector ⌝ }
+{
+    let far = smaller(vector.distance, 1000.0);
+    if far < settings.min_translation {
+        return Step::Stop(3);
+    }
+    let dir = vector.direction;
+    let by = blocked(stationary, moved, dir, far, settings.contact_tolerance);
+    land(
+        settings,
+        start,
+        path,
+        pose,
+        dir,
+        plus(pose.position, by),
+    )
+}
