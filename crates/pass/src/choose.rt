@@ -102,7 +102,15 @@ pub fn choose(
             };
             let second = better(first, vector, previous, ccw);
             let best = climb(
-                stationary, orbiting, tol, from, visited, previous, ccw, rest, second,
+                stationary,
+                orbiting,
+                tol,
+                from,
+                visited,
+                previous,
+                ccw,
+                rest,
+                second,
             );
             let chosen = best.vector;
             Choice::Vector(chosen)

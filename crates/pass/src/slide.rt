@@ -93,12 +93,5 @@ pub fn slide(
     }
     let dir = vector.direction;
     let by = blocked(stationary, moved, dir, far, settings.contact_tolerance);
-    land(
-        settings,
-        start,
-        path,
-        pose,
-        dir,
-        plus(pose.position, by),
-    )
+    land(settings, start, path, pose, dir, plus(pose.position, by))
 }

@@ -1,0 +1,98 @@
+-- The run over the room and the trace over the path say the same: what the room holds at the end is the path, and then what it held. The
+-- invariant: the room is the path so far and the rest of what it held. Assumes nothing.
+use Prim.Native.Nat.{ℕ, zero, suc, _+_, _*_, _-_, _/_, _≤_, _<_}
+use native.Mathlib.Omega.{arith}
+use native.Mathlib.Numerals.{add-one}
+use mathlib.Core.Path.{_≡_, refl, sym, ap, _∙_}
+use mathlib.Core.Bool.{Bool, true, false}
+use mathlib.Core.List.{List, [], _∷_, _++_}
+use lib.ListN.{length, take, drop, length-append, length-drop}
+use lib.Seq.{take-at, sets-eq, take-append-seam, drop-append-add, drop-drop}
+use lib.Dec.{ltb}
+use lib.Ieee.{Float}
+use borrow.Author.Tests.{ltb-false}
+use Rattle.plane.specs.declared.Point.{Point}
+use Rattle.ring.specs.Ring.{count}
+use Rattle.ring.specs.Room.{laid}
+use Rattle.moved.specs.Moved.{putAt}
+use Rattle.pass.specs.Pass.{Scene, passOf}
+use Rattle.pass.specs.declared.Pose.{Pose}
+use Rattle.pass.specs.declared.Step.{Step}
+use Rattle.pass.specs.declared.Step.the-variants.{Stop, Stay, Store}
+use Rattle.nfp_sliding.specs.declared.run.State.{State}
+use Rattle.nfp_sliding.specs.declared.run.End.{End}
+use Rattle.nfp_sliding.specs.Run.{Done, turnOf, turnBy, runOf, done, onward, state}
+use Rattle.nfp_sliding.specs.Path.{Trace, traceOf, follow, ended, coordinates}
+
+-- a trace as a run ends it
+abbrev pub endOf : Trace → End
+endOf t = record { full = t .full; reason = t .reason; passes = t .passes; stored = count (t .path) }
+
+-- what a run over the room and a trace have to do with each other
+pub record Same (room : List Float) (d : Done) (t : Trace) : Type 0 where
+  pub end : d .end ≡ endOf t
+  pub left : d .room ≡ laid (t .path) room
+  pub fits : length (t .path) ≤ length room
+  pub whole : length (t .path) ≡ 2 * count (t .path)
+
+put-path : (path rest : List Float) (n : ℕ) (p : Point) → 2 * n ≡ length path → length path + 2 ≤ length (path ++ rest)
+    → putAt (path ++ rest) n p ≡ (path ++ coordinates p) ++ drop (length path + 2) (path ++ rest)
+unfolding putAt
+put-path path rest n p e l =
+    rw (e, add-one) (sets-eq (coordinates p) (path ++ rest) (length path) l ∙ (rw take-append-seam refl))
+
+-- the claim of the induction, at k more passes: whatever the path and the pose
+abbrev Claim : Scene → List Float → ℕ → Type 0
+Claim s held k =
+    (passes stored : ℕ) (pose : Pose) (path : List Float) → length path ≤ length held → 2 * stored ≡ length path
+    → Same held (runOf s k passes (state pose stored) (laid path held)) (traceOf s (length held) k passes pose path)
+
+ends : (held : List Float) (full : Bool) (reason passes stored : ℕ) (pose : Pose) (path : List Float) → length path ≤ length held → 2 * stored ≡ length path
+    → Same held (done full reason passes (state pose stored) (laid path held)) (ended full reason passes path)
+ends held full reason passes stored pose path l e =
+    let n : stored ≡ length path / 2 = omega (arith, e) in
+    record { end = rw n refl; left = refl; fits = l; whole = omega (arith, e) }
+
+pub same-run : (s : Scene) (held : List Float) (k : ℕ) → Claim s held k
+unfolding runOf traceOf turnOf turnBy
+same-run s held zero passes stored pose path l e = ends held false 5 passes stored pose path l e
+same-run s held (suc k) passes stored pose path l e = go (same-run s held k) (passOf s path pose) refl
+  where
+    room : List Float
+    room = laid path held
+
+    size : length room ≡ length held
+    size = simp (length-append, length-drop) (omega arith)
+
+    st : State
+    st = state pose stored
+
+    turned : (o : Step) → passOf s path pose ≡ o → turnOf s st room ≡ turnBy o st room
+    turned o h = rw (take-at path (drop (length path) held) (2 * stored) (sym e), h) refl
+
+    long : (p : Point) → length (path ++ coordinates p) ≡ length path + 2
+    long p = length-append path (coordinates p)
+
+    put : (p : Point) → length path + 2 ≤ length held → putAt room stored p ≡ laid (path ++ coordinates p) held
+    put p h =
+        put-path path (drop (length path) held) stored p e (rw size h)
+        ∙ (rw (drop-append-add, drop-drop, long) refl)
+
+    store : Claim s held k → (q : Pose) (b : Bool) → ltb (length held - length path) 2 ≡ b → turnOf s st room ≡ turnBy (Store q) st room
+        → Same held
+        (onward (turnOf s st room .answer)
+        (λ st'. runOf s k (passes + 1) st' (turnOf s st room .room))
+        (done true 0 (passes + 1) st (turnOf s st room .room))
+        (λ reason. done false reason (passes + 1) st (turnOf s st room .room)))
+        (follow (Store q) (length held) passes path (traceOf s (length held) k (passes + 1)))
+    store ih q true b t = rw (t, size, e, b) (ends held true 0 (passes + 1) stored pose path l e)
+    store ih q false b t =
+        let b' : 2 ≤ length held - length path = ltb-false _ _ b in
+        rw (t, size, e, b, put (q .position) (omega arith))
+        (ih (passes + 1) (stored + 1) q (path ++ coordinates (q .position)) (omega (arith, long (q .position))) (omega (arith, long (q .position))))
+
+    go : Claim s held k → (o : Step) → passOf s path pose ≡ o
+        → Same held (runOf s (suc k) passes st room) (traceOf s (length held) (suc k) passes pose path)
+    go ih (Stop reason) h = rw (turned (Stop reason) h, h) (ends held false reason (passes + 1) stored pose path l e)
+    go ih (Stay q) h = rw (turned (Stay q) h, h) (ih (passes + 1) stored q path l e)
+    go ih (Store q) h = rw h (store ih q (ltb (length held - length path) 2) refl (turned (Store q) h))

@@ -1,0 +1,3 @@
+-- The definitions that the contracts of nfp_sliding cite.
+pub mod Run
+pub mod Path
