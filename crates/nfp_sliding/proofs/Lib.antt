@@ -1,3 +1,5 @@
 -- The modules that belong to no one function.
 pub mod Turns
 pub mod Same
+pub mod Traced
+pub mod Told

@@ -20,13 +20,8 @@ use Rattle.pass.specs.declared.Pose.{Pose}
 use Rattle.pass.specs.declared.Step.{Step}
 use Rattle.pass.specs.declared.Step.the-variants.{Stop, Stay, Store}
 use Rattle.nfp_sliding.specs.declared.run.State.{State}
-use Rattle.nfp_sliding.specs.declared.run.End.{End}
 use Rattle.nfp_sliding.specs.Run.{Done, turnOf, turnBy, runOf, done, onward, state}
-use Rattle.nfp_sliding.specs.Path.{Trace, traceOf, follow, ended, coordinates}
-
--- a trace as a run ends it
-abbrev pub endOf : Trace → End
-endOf t = record { full = t .full; reason = t .reason; passes = t .passes; stored = count (t .path) }
+use Rattle.nfp_sliding.specs.Path.{Trace, traceOf, follow, ended, coordinates, endOf}
 
 -- what a run over the room and a trace have to do with each other
 pub record Same (room : List Float) (d : Done) (t : Trace) : Type 0 where
@@ -35,7 +30,7 @@ pub record Same (room : List Float) (d : Done) (t : Trace) : Type 0 where
   pub fits : length (t .path) ≤ length room
   pub whole : length (t .path) ≡ 2 * count (t .path)
 
-put-path : (path rest : List Float) (n : ℕ) (p : Point) → 2 * n ≡ length path → length path + 2 ≤ length (path ++ rest)
+pub put-path : (path rest : List Float) (n : ℕ) (p : Point) → 2 * n ≡ length path → length path + 2 ≤ length (path ++ rest)
     → putAt (path ++ rest) n p ≡ (path ++ coordinates p) ++ drop (length path + 2) (path ++ rest)
 unfolding putAt
 put-path path rest n p e l =

@@ -1,5 +1,6 @@
 -- The trace, said of the path as a list. Definitions only.
-use Prim.Native.Nat.{ℕ, zero, suc, _+_, _-_}
+use Prim.Native.Nat.{ℕ, zero, suc, _+_, _-_, _%_, _≤_}
+use mathlib.Core.Path.{_≡_}
 use mathlib.Core.Bool.{Bool, true, false, cond}
 use mathlib.Core.List.{List, [], _∷_, _++_}
 use lib.ListN.{length}
@@ -8,10 +9,15 @@ use lib.Ieee.{Float}
 use Rattle.plane.specs.declared.Point.{Point}
 use Rattle.refusals.specs.declared.Settings.{Settings}
 use Rattle.ring.specs.Ring.{count}
+use Rattle.winding.specs.Winding.{ccwOf}
+use Rattle.start_position.specs.Start.{startOf}
+use Rattle.centroid.specs.Centroid.{centroidOf}
+use Rattle.selection.specs.declared.Previous.the-variants.{None}
 use Rattle.pass.specs.Pass.{Scene, scene, passOf}
 use Rattle.pass.specs.declared.Pose.{Pose}
 use Rattle.pass.specs.declared.Step.{Step}
 use Rattle.pass.specs.declared.Step.the-variants.{Stop, Stay, Store}
+use Rattle.nfp_sliding.specs.declared.run.End.{End}
 
 -- whether the room was full, the reason where it was not, the passes begun, and the points stored
 pub record Trace : Type 0 where
@@ -37,3 +43,32 @@ follow (Store pose) room passes path go =
 unfoldable pub traceOf : Scene → ℕ → ℕ → ℕ → Pose → List Float → Trace
 traceOf s room zero passes pose path = ended false 5 passes path
 traceOf s room (suc k) passes pose path = follow (passOf s path pose) room passes path (traceOf s room k (passes + 1))
+
+-- a trace as a run ends it
+abbrev pub endOf : Trace → End
+endOf t = record { full = t .full; reason = t .reason; passes = t .passes; stored = count (t .path) }
+
+-- what a trace is given: two polygons of 3 to 256 vertices, a pass limit, and a work room for one point at least
+pub record Ready (st orb : List Float) (s : Settings) (work : ℕ) : Type 0 where
+  pub st-even : length st % 2 ≡ 0
+  pub st-least : 6 ≤ length st
+  pub st-most : length st ≤ 512
+  pub orb-even : length orb % 2 ≡ 0
+  pub orb-least : 6 ≤ length orb
+  pub orb-most : length orb ≤ 512
+  pub limit : s .«max_iterations» ≤ 10000
+  pub room : 2 ≤ work
+
+-- before the first pass
+abbrev pub atStart : Point → Pose
+atStart p = record { position = p; previous = None; stuck = 0 }
+
+-- the trace of two counter-clockwise polygons in a room for so many numbers: the path begins with the start
+unfoldable pub traceFrom : List Float → List Float → Settings → ℕ → Trace
+traceFrom st orb s room =
+    let start = startOf st orb in
+    traceOf (scene st orb s (centroidOf st) start) room (s .«max_iterations») 0 (atStart start) (coordinates start)
+
+-- the trace of two polygons, each made counter-clockwise first
+unfoldable pub tracedOf : List Float → List Float → Settings → ℕ → Trace
+tracedOf st orb s room = traceFrom (ccwOf st) (ccwOf orb) s room

@@ -1,2 +1,5 @@
-// The sliding no-fit polygon: the trace of `compute_nfp_sliding` in `nfp_sliding.rs`.
+// The sliding no-fit polygon: `compute_nfp_sliding` of `nfp_sliding.rs`.
+pub mod answer;
+pub mod calls;
 pub mod run;
+pub mod trace;
