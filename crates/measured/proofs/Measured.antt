@@ -1,0 +1,89 @@
+-- Every measured piece holds of the written rules, by computation. Assumes nothing.
+use mathlib.Core.Path.{_≡_, refl}
+use mathlib.Core.List.{List, [], _∷_, _++_}
+use lib.Ieee.{round, add, sub, mul, div, lt, le, eq, neg, ofBits, toBits}
+use Rattle.scalar.specs.Scalar.{absOf, minusZero, ahead, orNumber, smallerOf, largerOf, clampOf}
+use Rattle.square_root.specs.Root.{sqrtOf}
+use Rattle.plane.specs.Vector.{minusOf, plusOf, dotOf, crossOf, lengthOf, distanceOf, parallelOf, turnOf}
+use Rattle.plane.specs.Segment.{clampedFoot, projectOf, alongOf, toSegmentOf, onSegmentOf}
+use Rattle.ring.specs.Each.{each}
+use Rattle.ring.specs.Ring.{pointAt}
+use Rattle.moved.specs.Points.{points}
+use Rattle.moved.specs.Moved.{movedOf}
+use Rattle.refusals.specs.Bounds.{coordinate, finite, every}
+use Rattle.refusals.specs.Screens.{ofPoints3, ofRing, ofTwoPolygons}
+use Rattle.first_best.specs.Best.{better, over, nest}
+use Rattle.start_position.specs.Start.{lowerOf, upperOf, vertexOf, startOf}
+use Rattle.pairs.specs.Pairs as pairs
+use Rattle.contacts.specs.Touching.{edgeEnd, edgesOf, edgesTouch, touchesBy, touching, pointBy, contactPoint}
+use Rattle.contacts.specs.Contacts.{picks, contactsOf, whichOf, pointsOf}
+use Rattle.contacts.specs.Calls.{findRefusal}
+use Rattle.collision.specs.Ray.{rayWithin, rayOf, edgeRay}
+use Rattle.collision.specs.Hit.{countedOf, nearer}
+use Rattle.collision.specs.Check.{pairOf, scanOf, backOf, bothOf, sweepOf, collisionOf}
+use Rattle.collision.specs.Nearest.{pairAt, rayAt}
+use Rattle.collision.specs.Calls.{collisionRefusal}
+use Rattle.simplify.specs.Simplify.{prevOf, staysOf, piece, survivors, simplified}
+use Rattle.simplify.specs.Calls.{simplifyRefusal}
+use Rattle.reading.specs.Reading.{ord, less, best, bestOf, leastReading}
+use Rattle.reading.specs.Lent.{kept}
+use Rattle.segments.specs.Segments.{signOf, orientationOf, betweenOf, straddlesOf, crossesOf, touchesOf, intersectOf}
+use Rattle.segments.specs.Segments as segments
+use Rattle.simple_polygon.specs.Simple.{adjacentOf, clearPair, clearRow, isSimple}
+use Rattle.signed_area.specs.Area.{termOf, sumTo, area2Of}
+use Rattle.measured.specs.Lent.{S, there, tolerance}
+use Rattle.measured.specs.Piece.{Piece, AllHold}
+use Rattle.measured.specs.Pieces.{roots, foot, starting, contacts, moves, path, ring, crossed, pieces}
+
+roots-hold : AllHold roots
+unfolding roots sqrtOf round neg
+roots-hold = (refl, (refl, (refl, (refl, record {}))))
+
+foot-holds : AllHold foot
+unfolding foot ofPoints3 coordinate toSegmentOf alongOf projectOf clampedFoot clampOf distanceOf lengthOf minusOf dotOf sqrtOf add sub mul div lt ofBits round
+foot-holds = (refl, (refl, record {}))
+
+starting-holds : AllHold starting
+unfolding starting ofTwoPolygons every coordinate startOf vertexOf over better lowerOf upperOf pointAt minusOf sub lt round neg
+starting-holds = (refl, record {})
+
+-- the contacts' numbers in the scan
+numbers : contactsOf S there tolerance ≡ 8 ∷ 12 ∷ 15 ∷ 18 ∷ 19 ∷ 34 ∷ []
+unfolding picks touching touchesBy edgesOf edgeEnd edgesTouch pairs.pairOf pointAt onSegmentOf toSegmentOf alongOf projectOf clampedFoot clampOf parallelOf absOf crossOf minusOf dotOf lengthOf distanceOf sqrtOf add sub mul div lt neg ofBits round movedOf points plusOf
+numbers = refl
+
+contacts-hold : AllHold contacts
+unfolding contacts findRefusal ofTwoPolygons every coordinate lt le eq neg ofBits round movedOf points plusOf add whichOf pairs.pairOf pointsOf contactPoint pointBy edgesOf edgeEnd pointAt div
+contacts-hold = (rw numbers refl, (rw numbers refl, (rw numbers refl, record {})))
+
+moves-hold : AllHold moves
+unfolding moves collisionRefusal every coordinate finite collisionOf sweepOf bothOf backOf scanOf pairOf nest over better nearer countedOf edgeRay rayOf rayWithin pairAt rayAt largerOf orNumber ahead minusZero absOf pointAt minusOf crossOf lengthOf dotOf sqrtOf add sub mul div lt le eq neg ofBits round movedOf points plusOf
+moves-hold = (refl, (refl, (refl, (refl, (refl, (refl, record {}))))))
+
+path-holds : AllHold path
+unfolding path simplifyRefusal every finite simplified survivors piece staysOf prevOf pointAt turnOf toSegmentOf alongOf projectOf clampedFoot clampOf distanceOf lengthOf minusOf dotOf crossOf sqrtOf add sub mul div lt le eq ofBits round
+path-holds = (refl, (refl, (refl, record {})))
+
+ring-holds : AllHold ring
+unfolding ring leastReading bestOf best less ord kept toBits round
+ring-holds = (refl, record {})
+
+crossed-holds : AllHold crossed
+unfolding crossed ofRing every coordinate isSimple clearRow clearPair adjacentOf each intersectOf touchesOf crossesOf straddlesOf segments.onSegmentOf betweenOf orientationOf signOf pointAt turnOf crossOf minusOf smallerOf largerOf orNumber ahead minusZero area2Of sumTo termOf add sub mul lt le neg ofBits round
+crossed-holds = (refl, (refl, record {}))
+
+-- a list made of two
+join : (ps qs : List Piece) → AllHold ps → AllHold qs → AllHold (ps ++ qs)
+join [] qs first rest = rest
+join (p ∷ ps) qs first rest = (first .0, join ps qs (first .1) rest)
+
+pub measured : AllHold pieces
+unfolding pieces
+measured =
+    join roots _ roots-hold
+    (join foot _ foot-holds
+    (join starting _ starting-holds
+    (join contacts _ contacts-hold
+    (join moves _ moves-hold
+    (join path _ path-holds
+    (join ring _ ring-holds crossed-holds))))))
