@@ -2,4 +2,5 @@
 pub mod answer;
 pub mod calls;
 pub mod run;
+mod still;
 pub mod trace;

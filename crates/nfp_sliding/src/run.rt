@@ -1,4 +1,5 @@
 // The run of the passes: `trace_nfp_boundary` of `nfp_sliding.rs`, the path stored in a room that the caller lends.
+use crate::still::same_pose;
 use moved::put;
 use pass::Pose;
 use pass::Step;
@@ -12,6 +13,7 @@ ghost use Rattle.ring.specs.Ring.{count};
 ghost use Rattle.pairs.specs.Pairs.{Sides};
 ghost use Rattle.pass.specs.Pass.{scene};
 ghost use Rattle.nfp_sliding.specs.Run.{turnOf, runOf, InRoom};
+ghost use Rattle.nfp_sliding.specs.Still.{Same};
 
 // Where the trace is, and how many points it has stored.
 pub struct State {
@@ -79,6 +81,19 @@ fn one_turn(
     }
 }
 
+// Whether a turn came to nothing new, so that all that follow it come to nothing new either.
+fn is_still(next: State, state: State) -> bool
+    ensures { λ r. ⌜ Same r next state ⌝ }
+{
+    if next.stored == state.stored {
+        let p = next.pose;
+        let q = state.pose;
+        same_pose(p, q)
+    } else {
+        false
+    }
+}
+
 // The passes from a state on, as many as the settings allow.
 pub fn run(
     stationary: &[f64],
@@ -118,6 +133,14 @@ pub fn run(
                 };
             }
             Turn::Go(next) => {
+                if is_still(next, state) {
+                    return End {
+                        full: false,
+                        reason: 5,
+                        passes: limit,
+                        stored: state.stored,
+                    };
+                }
                 state = next;
                 passes += 1;
             }

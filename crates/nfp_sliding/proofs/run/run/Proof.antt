@@ -7,6 +7,7 @@ use mathlib.Core.Path.{_≡_, refl, sym, ap, _∙_}
 use lib.ListN.{length}
 use native.Mathlib.Nat.{sub-zero}
 use Rattle.nfp_sliding.proofs.Turns.{run-go, run-stop, run-full, run-out}
+use Rattle.nfp_sliding.proofs.Standstill.{run-stays}
 use Rattle.nfp_sliding.specs.Run.{runOf, Done}
 use Rattle.pass.specs.Pass.{scene}
 use Rattle.nfp_sliding.proofs.run.run.Statement.{statement}
@@ -67,28 +68,43 @@ returns-2 c =
 enum-known-next : tie.Need-enum-known-next Inv-loop μ-loop
 enum-known-next c = search needs
 
+is-still-requires : tie.Need-is-still-requires Inv-loop μ-loop
+is-still-requires c κs = search needs
+
+same-length-3 : tie.Need-same-length-3 Inv-loop μ-loop
+same-length-3 c = omega (arith, c .before .before .before .before .before .before .before .one-turn .kept .1 .1 .1 .1 .1 .1 .0)
+
+returns-3 : tie.Need-returns-3 Inv-loop μ-loop
+returns-3 c =
+    let t = c .before .before .before .before .before .before .before .one-turn in
+    let i = c .before .before .before .before .before .before .before .before .before in
+    let h =
+    i .before .loop .inv .3
+    ∙ run-stays _ _ _ _ _ _ _ _ (omega (arith, i .loop-test .taken)) (t .ensures .0) (t .ensures .1) (c .before .before .before .next .given .1) (c .before .is-still .ensures (c .if1 .taken)) in
+    (sym (ap (λ (d : Done). d .end) h), sym (ap (λ (d : Done). d .room) h))
+
 add-passes : tie.Need-add-passes Inv-loop μ-loop
-add-passes c = omega (arith, c .before .before .before .before .before .before .before .before .before .before .before .before .pre .1 .1 .1 .1)
+add-passes c = omega (arith, c .before .before .before .before .before .before .before .before .before .before .before .before .before .before .pre .1 .1 .1 .1)
 
 loop-less : tie.Need-loop-less Inv-loop μ-loop
 loop-less c = omega arith
 
 loop-again : tie.Need-loop-again Inv-loop μ-loop
 loop-again c =
-    let t = c .before .before .before .before .before .one-turn in
-    let i = c .before .before .before .before .before .before .before in
-    let q = c .before .next .given .1 in (
+    let t = c .before .before .before .before .before .before .before .one-turn in
+    let i = c .before .before .before .before .before .before .before .before .before in
+    let q = c .before .before .before .next .given .1 in (
       omega arith,
       omega (arith, t .kept .1 .1 .1 .1 .1 .1 .0),
       omega (arith, rw q at (t .ensures .2), t .kept .1 .1 .1 .1 .1 .1 .0),
       i .before .loop .inv .3 ∙ run-go _ _ _ _ _ _ _ (i .loop-test .taken) (t .ensures .0) (t .ensures .1) _ q,
     )
 
-same-length-3 : tie.Need-same-length-3 Inv-loop μ-loop
-same-length-3 c = omega arith
+same-length-4 : tie.Need-same-length-4 Inv-loop μ-loop
+same-length-4 c = omega arith
 
-returns-3 : tie.Need-returns-3 Inv-loop μ-loop
-returns-3 c =
+returns-4 : tie.Need-returns-4 Inv-loop μ-loop
+returns-4 c =
     let h = c .before .loop .inv .3 ∙ run-out _ _ _ _ _ (c .loop-test .left) in
     (sym (ap (λ (d : Done). d .end) h), sym (ap (λ (d : Done). d .room) h))
 
@@ -109,8 +125,11 @@ run-spec =
     same-length-2
     returns-2
     enum-known-next
+    is-still-requires
+    same-length-3
+    returns-3
     add-passes
     loop-less
     loop-again
-    same-length-3
-    returns-3)
+    same-length-4
+    returns-4)
