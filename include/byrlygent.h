@@ -1,6 +1,6 @@
 /*
  * Byrlygent: the sliding no-fit polygon, ring predicates and the outline book.
- * Link libbyrlygent.a; it needs no other library.
+ * Link libbyrlygent.a; of other libraries it needs only C's memcpy and memset.
  *
  * Every function is total: whatever is lent, it answers or refuses, and writes
  * only what its comment says. Nothing is allocated, kept or shared, so calls may
