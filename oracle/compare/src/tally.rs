@@ -77,15 +77,23 @@ impl Tally {
         }
     }
 
-    /// All calls compared, and those that agree.
-    pub fn totals(&self) -> (u64, u64) {
-        let cases = |row: &Row| row.numbers.iter().sum::<u64>();
-        (self.rows.iter().map(cases).sum(), self.rows.iter().map(|row| row.agree).sum())
+    /// The counts of all calls together.
+    fn all(&self) -> Row {
+        let numbers = std::array::from_fn(|place| {
+            self.rows.iter().map(|row| row.numbers[place]).sum::<u64>()
+        });
+        Row { call: "all", agree: self.rows.iter().map(|row| row.agree).sum(), numbers }
     }
 
-    /// The calls that were compared.
-    pub fn calls(&self) -> usize {
-        self.rows.len()
+    /// All calls compared, and those that agree.
+    pub fn totals(&self) -> (u64, u64) {
+        let all = self.all();
+        (all.numbers.iter().sum(), all.agree)
+    }
+
+    /// Whether this call was compared.
+    pub fn has(&self, call: &str) -> bool {
+        self.rows.iter().any(|row| row.call == call)
     }
 }
 
@@ -94,7 +102,7 @@ impl fmt::Display for Tally {
         write!(f, "{:31} {:>8} {:>8} {:>8}", "call", "cases", "agree", "answered")?;
         (1..NUMBERS).try_for_each(|number| write!(f, " {:>8}", format!("ref. {number}")))?;
         writeln!(f)?;
-        for Row { call, agree, numbers } in &self.rows {
+        for Row { call, agree, numbers } in self.rows.iter().chain([&self.all()]) {
             write!(f, "{call:31} {:>8} {agree:>8}", numbers.iter().sum::<u64>())?;
             numbers.iter().try_for_each(|count| write!(f, " {count:>8}"))?;
             writeln!(f)?;
@@ -105,6 +113,6 @@ impl fmt::Display for Tally {
         }
         self.differences.iter().try_for_each(|told| writeln!(f, "DIFFERENCE {told}"))?;
         let (cases, agree) = self.totals();
-        write!(f, "{} calls, {cases} cases, {agree} agree", self.calls())
+        write!(f, "{} calls, {cases} cases, {agree} agree", self.rows.len())
     }
 }

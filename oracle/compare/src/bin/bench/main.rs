@@ -20,9 +20,9 @@ fn table(title: &str, rows: Vec<Row>, part: &str) {
     }
     println!("## {title}\n\n| call | the Rust | the library | Rust / library |\n|---|---|---|---|");
     for row in wanted {
-        let (name, mut sides) = (row.name, (row.sides)());
+        let (mut sides, note) = (row.sides)();
         let [rust, ours] = measured(&mut sides);
-        println!("| {name} | {} | {} | {:.3} |", shown(rust), shown(ours), rust / ours);
+        println!("| {}{note} | {} | {} | {:.3} |", row.name, shown(rust), shown(ours), rust / ours);
     }
     println!();
 }

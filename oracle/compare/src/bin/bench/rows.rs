@@ -13,16 +13,16 @@ use std::hint::black_box;
 /// The usual tolerance.
 pub const TOLERANCE: f64 = 1e-6;
 
-/// A row: its name, and how its sides are made.
+/// A row: its name, and how its sides are made, with a word on what they answer.
 pub struct Row {
     pub name: String,
-    pub sides: Box<dyn FnOnce() -> Sides>,
+    pub sides: Box<dyn FnOnce() -> (Sides, String)>,
 }
 
 impl Row {
-    /// The row with this name and these sides.
-    pub fn new(name: impl Into<String>, sides: impl FnOnce() -> Sides + 'static) -> Self {
-        Self { name: name.into(), sides: Box::new(sides) }
+    /// The row with this name and these sides, and nothing to be said of them.
+    fn new(name: &str, sides: impl FnOnce() -> Sides + 'static) -> Self {
+        Self { name: name.to_string(), sides: Box::new(|| (sides(), String::new())) }
     }
 }
 

@@ -79,22 +79,26 @@ fn told(answer: &Result<Nfp>) -> Told {
     }
 }
 
-/// The trace of this pair with this pass limit.
-fn sides(pair: [Lent; 2], passes: usize) -> Sides {
+/// The trace of this pair with this pass limit, and what comes of it.
+fn sides(pair: [Lent; 2], passes: usize) -> (Sides, String) {
     let rust_pair = [0, 1].map(|i: usize| Lent::new(pair[i].list.clone()));
     let (mut work, mut result) = (vec![0.0; ROOM], vec![0.0; ROOM]);
-    assert_eq!(told(&by_rust(&pair, passes)), by_library(&pair, passes, &mut work, &mut result));
-    [
+    let answer = told(&by_rust(&pair, passes));
+    assert_eq!(answer, by_library(&pair, passes, &mut work, &mut result));
+    let (_, _, stored, begun, stop) = answer;
+    let sides = [
         side(move || by_rust(&rust_pair, black_box(passes))),
         side(move || by_library(&pair, black_box(passes), &mut work, &mut result)),
-    ]
+    ];
+    (sides, format!(": {stored} points stored, {begun} passes, reason {stop}"))
 }
 
-/// The row of a trace, named with what comes of it.
+/// The row of a trace.
 fn row(name: &str, stationary: Vec<f64>, orbiting: Vec<f64>, passes: usize) -> Row {
     let pair = [stationary, orbiting].map(Lent::new);
     let (n, m) = (pair[0].points.len(), pair[1].points.len());
-    Row::new(format!("trace, {name}, {n} x {m}, limit {passes}"), move || sides(pair, passes))
+    let name = format!("trace, {name}, {n} x {m}, limit {passes}");
+    Row { name, sides: Box::new(move || sides(pair, passes)) }
 }
 
 /// Traces of shapes, by shape and size, and those of document 01.
