@@ -43,8 +43,8 @@ fn entries(call: u64, lent: &mut Lent) -> (&'static str, Told) {
     let (name, number) = unsafe {
         match call {
             sliding::FIND_CONTACTS => {
+                let tolerance = n(0);
                 let (which, points) = (lent.one.room(), lent.two.room());
-                let tolerance = f64::from_bits(lent.extra[0]);
                 let number = ffi::byr_find_contacts(
                     a, an, b, bn, tolerance, which, one_n, points, two_n, &mut count,
                 );
