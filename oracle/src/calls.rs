@@ -288,7 +288,7 @@ pub fn select_translation_vector(
     centroid: Point,
     position: Point,
 ) -> Answer<Option<u64>> {
-    if vectors.len() % 3 != 0 {
+    if !vectors.len().is_multiple_of(3) {
         return Err(1);
     }
     // The text answers the vector itself; its place rides along in the contact.

@@ -7,6 +7,8 @@
 //! other order. `calls` gives document 01's answers over `fixed`; `book` is no
 //! text of theirs, but the outline book written down from document 01.
 
+#![allow(clippy::duplicate_mod)] // The text is compiled three times on purpose.
+
 pub mod answers;
 pub mod book;
 pub mod calls;

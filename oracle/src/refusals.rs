@@ -35,7 +35,7 @@ pub fn unless(test: bool, number: u32) -> Answer<()> {
 /// 1 unless the list holds whole points, from `least` to `most` of them.
 pub fn points_between(list: &[f64], least: usize, most: usize) -> Answer<()> {
     let points = list.len() / 2;
-    unless(list.len() % 2 == 0 && least <= points && points <= most, 1)
+    unless(list.len().is_multiple_of(2) && least <= points && points <= most, 1)
 }
 
 /// 1 unless the list can be a ring.
@@ -79,7 +79,7 @@ pub fn settings(settings: &Settings) -> Answer<()> {
 /// 4 unless the work room holds whole points, at least one, and the result room
 /// is at least as long.
 pub fn trace_rooms(work: &[f64], result: &[f64]) -> Answer<()> {
-    unless(work.len() % 2 == 0 && work.len() >= 2, 4)?;
+    unless(work.len().is_multiple_of(2) && work.len() >= 2, 4)?;
     unless(result.len() >= work.len(), 4)
 }
 

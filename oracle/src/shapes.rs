@@ -54,7 +54,7 @@ pub fn disc(n: usize, radius: f64) -> Vec<f64> {
 /// A star with this many points: every other vertex of a disc drawn in.
 pub fn star(points: usize, radius: f64, inner: f64) -> Vec<f64> {
     let n = 2 * points;
-    let reach = |i: usize| if i % 2 == 0 { radius } else { inner };
+    let reach = |i: usize| if i.is_multiple_of(2) { radius } else { inner };
     let corner = |i: usize| round(i as f64 / n as f64).map(|x| reach(i) * x);
     (0..n).flat_map(corner).collect()
 }

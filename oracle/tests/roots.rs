@@ -1,7 +1,7 @@
 //! The machine's square root, and the limit of a tolerance, against whole
 //! numbers: over every such record of the replay list.
 
-use oracle::replay::scalars::{words, LIMIT, SQRT};
+use oracle::replay::scalars::{records, LIMIT, SQRT};
 
 /// The whole part of the square root.
 fn whole_root(n: u128) -> u128 {
@@ -34,7 +34,7 @@ fn root_bits(bits: u64) -> u64 {
 #[test]
 fn the_root_is_the_nearest_float() {
     let mut tried = 0;
-    for record in words().chunks_exact(5).filter(|record| record[0] == SQRT) {
+    for record in records().into_iter().filter(|record| record[0] == SQRT) {
         let (x, root) = (f64::from_bits(record[1]), record[4]);
         if x.is_finite() && x > 0.0 {
             assert_eq!(root, root_bits(record[1]), "root of {x:e}");
@@ -50,7 +50,7 @@ fn the_root_is_the_nearest_float() {
 
 #[test]
 fn the_limit_is_the_least_that_reaches_the_tolerance() {
-    for record in words().chunks_exact(5).filter(|record| record[0] == LIMIT) {
+    for record in records().into_iter().filter(|record| record[0] == LIMIT) {
         let (tolerance, limit) = (f64::from_bits(record[1]), record[4]);
         assert!(f64::from_bits(root_bits(limit)) >= tolerance);
         assert!(limit == 1 || f64::from_bits(root_bits(limit - 1)) < tolerance);

@@ -1,16 +1,16 @@
 //! Writes a replay list to standard output: `replay NAME` the list that the
 //! repository stores, `replay NAME long COUNT SEED` so many seeded records of
 //! the same form, one after the other. What they hold is counted on standard
-//! error. `scalars` and `rings` have no long form and are not counted.
+//! error.
 
-use oracle::replay::{bytes, list, rings, scalars, List};
+use oracle::replay::{bytes, list, List};
 use oracle::seeded::Seeded;
 use std::collections::BTreeMap;
 use std::io::{BufWriter, Result, Write};
 use std::process::ExitCode;
 
 const USAGE: &str = "give the name of a list: scalars, rings, book, sliding or traces;
-after one of the last three, `long COUNT SEED` for so many seeded records";
+after it, `long COUNT SEED` for so many seeded records";
 
 /// Writes records and counts what they hold.
 struct Writer<W> {
@@ -64,10 +64,8 @@ fn long(list: &List, count: u64, seed: u64, out: impl Write) -> Result<()> {
 
 /// Writes what the arguments ask for; nothing if they ask for nothing there is.
 fn run(arguments: &[&str]) -> Option<Result<()>> {
-    let mut out = BufWriter::new(std::io::stdout().lock());
+    let out = BufWriter::new(std::io::stdout().lock());
     match *arguments {
-        ["scalars"] => Some(out.write_all(&bytes(&scalars::words()))),
-        ["rings"] => Some(out.write_all(&bytes(&rings::words()))),
         [name] => Some(stored(&list(name)?, out)),
         [name, "long", count, seed] => {
             Some(long(&list(name)?, count.parse().ok()?, seed.parse().ok()?, out))

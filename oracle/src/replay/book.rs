@@ -60,7 +60,7 @@ fn costly(last: f64, place: u64) -> Vec<u64> {
     let mut ring = vec![1.0; 512];
     ring[510] = last;
     let rings = vec![ring; 8];
-    record(&if place % 2 == 0 {
+    record(&if place.is_multiple_of(2) {
         Case::writing(&rings)
     } else {
         Case::reading(&book_of(&rings), 4_096, 8)
@@ -161,7 +161,7 @@ pub fn records() -> Vec<Vec<u64>> {
 fn long(seeded: &mut Seeded, place: u64) -> Vec<u64> {
     let ring = if place % 4 < 2 { lent::grid_ring(place / 4) } else { None };
     record(&match ring {
-        Some(ring) if place % 4 == 0 => Case::writing(&[ring]),
+        Some(ring) if place.is_multiple_of(4) => Case::writing(&[ring]),
         Some(ring) => Case::reading(&file_of(std::slice::from_ref(&ring)), ring.len(), 1),
         None => sample::case(seeded),
     })

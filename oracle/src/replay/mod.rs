@@ -55,9 +55,11 @@ pub struct List {
     pub counted: fn(&[u64]) -> Vec<String>,
 }
 
-/// The list with this name, if there is one that has both forms.
+/// The list with this name, if there is one.
 pub fn list(name: &str) -> Option<List> {
     match name {
+        "scalars" => Some(scalars::LIST),
+        "rings" => Some(rings::LIST),
         "book" => Some(book::LIST),
         "book_equal" => Some(book::EQUAL),
         "book_one" => Some(book::ONE),

@@ -12,8 +12,9 @@
 
 mod corners;
 mod lists;
+mod sample;
 
-use super::{answer_bits, once};
+use super::{answer_bits, once, List};
 use crate::calls;
 use crate::refusals::Answer;
 use crate::seeded::Seeded;
@@ -31,6 +32,29 @@ pub const SIGNED_AREA_ROBUST: u64 = 9;
 pub const PROJECT_POINT_TO_SEGMENT: u64 = 10;
 pub const POINT_TO_SEGMENT_DISTANCE: u64 = 11;
 pub const POINT_ON_SEGMENT: u64 = 12;
+
+/// The names of the calls, by their number.
+const NAMES: [&str; 13] = [
+    "orientation",
+    "on_segment",
+    "segments_intersect",
+    "point_segment_distance",
+    "mirror_polygon",
+    "open_ring",
+    "is_simple_polygon",
+    "ring_distance",
+    "signed_area2",
+    "signed_area_robust",
+    "project_point_to_segment",
+    "point_to_segment_distance",
+    "point_on_segment",
+];
+
+/// Words of the header.
+pub const HEADER: usize = 6;
+
+/// The list with both its forms.
+pub const LIST: List = List { stored: records, long, counted };
 
 /// A call with what is lent to it.
 struct Case {
@@ -95,7 +119,14 @@ pub fn records() -> Vec<Vec<u64>> {
     once(cases.iter().map(record).collect())
 }
 
-/// The list, word by word.
-pub fn words() -> Vec<u64> {
-    records().concat()
+/// A record of a long run: the calls by turns.
+fn long(seeded: &mut Seeded, place: u64) -> Vec<u64> {
+    record(&sample::case(seeded, place % NAMES.len() as u64))
+}
+
+/// The call, with its refusal number.
+fn counted(record: &[u64]) -> Vec<String> {
+    let (call, number) = (record[0], record[4]);
+    let name = NAMES[call as usize];
+    vec![format!("{call:2} {name}: all"), format!("{call:2} {name}: refusal {number}")]
 }

@@ -2,7 +2,7 @@
 //! 1 smaller, 2 larger, 3 clamp, 4 square root, 5 limit), the bits of up to
 //! three operands (0 where unused) and the bits of the answer.
 
-use super::{answer_bits, NANS};
+use super::{answer_bits, List, NANS};
 use crate::calls;
 use crate::seeded::Seeded;
 
@@ -12,6 +12,12 @@ pub const LARGER: u64 = 2;
 pub const CLAMP: u64 = 3;
 pub const SQRT: u64 = 4;
 pub const LIMIT: u64 = 5;
+
+/// The names of the operations, by their number.
+const NAMES: [&str; 6] = ["abs", "smaller", "larger", "clamp", "sqrt", "limit"];
+
+/// The list with both its forms.
+pub const LIST: List = List { stored: records, long, counted };
 
 /// An operation and the bits of its operands.
 type Case = (u64, [u64; 3]);
@@ -240,11 +246,61 @@ fn answer((operation, operands): Case) -> f64 {
     }
 }
 
-/// The list, word by word.
-pub fn words() -> Vec<u64> {
-    let record = |case: Case| {
-        let (operation, [x, y, z]) = case;
-        [operation, x, y, z, answer_bits(answer(case))]
+/// The record of a case.
+fn record(case: Case) -> Vec<u64> {
+    let (operation, [x, y, z]) = case;
+    vec![operation, x, y, z, answer_bits(answer(case))]
+}
+
+/// The list, record by record.
+pub fn records() -> Vec<Vec<u64>> {
+    cases().into_iter().map(record).collect()
+}
+
+/// A seeded operand: at an edge, awkward, a square or beside one, of ordinary
+/// size, or any bits at all.
+fn operand(seeded: &mut Seeded) -> u64 {
+    match seeded.below(12) {
+        0 => seeded.pick(&EDGES),
+        1 => seeded.pick(&AWKWARD),
+        2 => seeded.pick(&NANS),
+        3 => seeded.whole(4).to_bits(),
+        4 | 5 => seeded.spread(1e3).to_bits(),
+        6..9 => {
+            let root = positive(seeded, -536, 511);
+            seeded.pick(&with_neighbours((root * root).to_bits()))
+        }
+        9 => (seeded.bits() >> 12 >> seeded.below(52)) + 1,
+        _ => seeded.bits(),
+    }
+}
+
+/// Operands, of which a later one is at times the first, its negative, or the
+/// float beside it.
+fn operands(seeded: &mut Seeded) -> [u64; 3] {
+    let first = operand(seeded);
+    let mut other = |_| match seeded.below(8) {
+        0 => first,
+        1 => first ^ 1 << 63,
+        2 => first.wrapping_add(1),
+        _ => operand(seeded),
     };
-    cases().into_iter().flat_map(record).collect()
+    [first, other(1), other(2)]
+}
+
+/// A record of a long run: the operations by turns.
+fn long(seeded: &mut Seeded, place: u64) -> Vec<u64> {
+    let operation = place % NAMES.len() as u64;
+    let [x, y, z] = operands(seeded);
+    record(match operation {
+        SMALLER | LARGER => (operation, [x, y, 0]),
+        CLAMP => (operation, [x, y, z]),
+        LIMIT => (operation, [positive(seeded, -1022, 0).to_bits(), 0, 0]),
+        _ => (operation, [x, 0, 0]),
+    })
+}
+
+/// The operation.
+fn counted(record: &[u64]) -> Vec<String> {
+    vec![NAMES[record[0] as usize].to_string()]
 }

@@ -3,6 +3,7 @@
 
 pub mod helpers;
 #[rustfmt::skip]
+#[allow(clippy::redundant_closure)]
 #[path = "../text/nfp_sliding.rs"]
 pub mod nfp_sliding;
 #[rustfmt::skip]

@@ -89,7 +89,7 @@ fn long_rings() -> Vec<Case> {
 pub fn longest() -> Vec<Vec<f64>> {
     let seeded = &mut Seeded::new(0xb00c);
     let mut ring = |i: usize| -> Vec<f64> {
-        let number = |_| if i % 2 == 0 { seeded.whole(1) } else { seeded.spread(1e6) };
+        let number = |_| if i.is_multiple_of(2) { seeded.whole(1) } else { seeded.spread(1e6) };
         (0..512).map(number).collect()
     };
     (0..MOST_RINGS).map(&mut ring).collect()

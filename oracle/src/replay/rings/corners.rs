@@ -85,7 +85,7 @@ fn feet() -> Vec<Vec<f64>> {
 }
 
 /// Seeded numbers of one size, whole, fractional, large or tiny.
-fn seeded_list(seeded: &mut Seeded, kind: usize, length: usize) -> Vec<f64> {
+pub fn seeded_list(seeded: &mut Seeded, kind: usize, length: usize) -> Vec<f64> {
     let number = |seeded: &mut Seeded| match kind % 6 {
         0 => seeded.whole(3),
         1 => seeded.whole(1_000_000),
@@ -98,7 +98,7 @@ fn seeded_list(seeded: &mut Seeded, kind: usize, length: usize) -> Vec<f64> {
 }
 
 /// Three points nearly in line, of seeded size and place.
-fn seeded_in_line(seeded: &mut Seeded, kind: usize) -> Vec<f64> {
+pub fn seeded_in_line(seeded: &mut Seeded, kind: usize) -> Vec<f64> {
     let ends = seeded_list(seeded, kind, 4);
     let t = seeded.pick(&[0.0, 0.25, 0.5, 0.3, 0.7, 1.0]);
     let on = |i: usize| ends[i] + t * (ends[i + 2] - ends[i]);

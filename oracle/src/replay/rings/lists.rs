@@ -120,7 +120,7 @@ fn seeded_rings(seeded: &mut Seeded) -> Vec<Vec<f64>> {
     let one = |i: usize| {
         let n = 3 + seeded.below(7);
         let ring = seeded_ring(seeded, n);
-        if i % 8 == 0 {
+        if i.is_multiple_of(8) {
             closed(&ring)
         } else {
             ring

@@ -89,7 +89,7 @@ fn polygons(call: u64) -> Vec<Case> {
     all.push(on(call, &of_s[5], q, 0.0));
     all.push(on(call, s, &of_q[6], f64::NAN));
     for (i, number) in EDGES.into_iter().enumerate() {
-        if (i as u64 + call) % 2 == 0 {
+        if (i as u64 + call).is_multiple_of(2) {
             all.push(on(call, &with(s, i % 8, number), q, TOLERANCE));
         } else {
             all.push(on(call, s, &with(q, (i + 3) % 8, number), TOLERANCE));
@@ -102,7 +102,7 @@ fn polygons(call: u64) -> Vec<Case> {
 fn long(call: u64) -> Vec<Case> {
     let scene = squares();
     let (s, q) = (&scene.stationary, &scene.moved());
-    let mut all = vec![if call % 2 == 0 {
+    let mut all = vec![if call.is_multiple_of(2) {
         on(call, &parabola(257), q, TOLERANCE)
     } else {
         on(call, s, &parabola(257), TOLERANCE)

@@ -107,7 +107,7 @@ fn scenes(pair: &[Vec<f64>; 2]) -> Vec<Scene> {
     let path = path(pair);
     let start = path[0];
     let mut places = vec![start, path[path.len() / 2], path[path.len() - 1]];
-    places.push(if path.len() % 2 == 0 {
+    places.push(if path.len().is_multiple_of(2) {
         (start.0, start.1 - 5e-7)
     } else {
         (start.0 + 0.5, start.1 - 2e-6)

@@ -363,7 +363,7 @@ fn small() -> Vec<Case> {
     let one = |i: usize| {
         let mut ring = |most: usize| -> Vec<f64> {
             let n = 3 + seeded.below(most);
-            let number = |_| if i % 3 == 0 { seeded.spread(3.0) } else { seeded.whole(3) };
+            let number = |_| if i.is_multiple_of(3) { seeded.spread(3.0) } else { seeded.whole(3) };
             (0..2 * n).map(number).collect()
         };
         let (a, b) = (ring(4), ring(3));

@@ -1,0 +1,250 @@
+/*
+ * Byrlygent: the sliding no-fit polygon, ring predicates and the outline book.
+ * Link libbyrlygent.a; of other libraries it needs only C's memcpy and memset.
+ *
+ * Every function is total: whatever is lent, it answers or refuses, and writes
+ * only what its comment says. Nothing is allocated, kept or shared, so calls may
+ * run beside each other.
+ *
+ * Lent lists. A polygon, ring or list of points is x, y alternating. Its length
+ * is counted in elements of the pointed type, so a polygon of 4 vertices has
+ * length 8. A list of length 0 may be NULL. Lent memory must be as long as is
+ * said, aligned for its type, and no two lent pieces may overlap; a book's bytes
+ * may stand at any address.
+ *
+ * Answers. All functions but the scalars return 0, or the number of a refusal,
+ * BYR_REFUSED_. Answers are written through the last pointers, and to rooms, on
+ * success only; the exceptions are told where they arise. What is not written is
+ * as it was. A room may be longer than its answer, and part of an entry may be
+ * left over at its end.
+ *
+ * Bounds. A polygon has 3 to 256 vertices, a ring 0 to 256. A coordinate, of a
+ * single point or segment end too, is finite and at most 1000000 in size. Moves,
+ * positions, visited positions and the points of a list to simplify are finite. A
+ * tolerance is above 0 and at most 1.
+ *
+ * Refusals are tested in the order of their numbers, and in each the lists in the
+ * order in which they are lent. byr_read_book alone tests 7 before 4.
+ */
+#ifndef BYRLYGENT_H
+#define BYRLYGENT_H
+
+#include <stddef.h>
+#include <stdint.h>
+
+#ifdef __cplusplus
+extern "C" {
+#endif
+
+/* Why a call was refused. */
+enum {
+    BYR_REFUSED_LENGTH = 1,     /* a list is odd, too short or too long, or the lists of a book do not add up */
+    BYR_REFUSED_NUMBER = 2,     /* a lent number is out of its bounds */
+    BYR_REFUSED_SETTING = 3,    /* a tolerance or another setting is out of its bounds */
+    BYR_REFUSED_ROOM = 4,       /* the rooms of a trace or of a book are too short, or not of the form asked */
+    BYR_REFUSED_FIT = 5,        /* the answer has more entries than its room */
+    BYR_REFUSED_SHORT_PATH = 6, /* the path of a trace has under three points */
+    BYR_REFUSED_BOOK = 7        /* a book is wrong */
+};
+
+/* Why a trace stopped. */
+enum {
+    BYR_STOP_NO_CONTACT = 1, /* no contact, and none recovered */
+    BYR_STOP_NO_VECTOR = 2,  /* no vector left */
+    BYR_STOP_SHORT_MOVE = 3, /* the move is below the smallest one */
+    BYR_STOP_CLOSED = 4,     /* back at the start */
+    BYR_STOP_PASSES = 5      /* passes used up */
+};
+
+/* What touches, or is hit: the orbiting polygon's part is named first, and the
+ * stationary one's last. */
+enum {
+    BYR_KIND_VERTEX_EDGE = 0,
+    BYR_KIND_EDGE_VERTEX = 1,
+    BYR_KIND_EDGE_EDGE = 2
+};
+
+/* ---- Scalars: every bit pattern is taken, and nothing refused. ---- */
+
+/* The same number without its sign. */
+double byr_abs(double x);
+
+/* The smaller of two: of a NaN and a number the number; -0.0 is below +0.0. */
+double byr_smaller(double a, double b);
+
+/* The larger of two: of a NaN and a number the number; -0.0 is below +0.0. */
+double byr_larger(double a, double b);
+
+/* lo if x < lo, else hi if x > hi, else x itself, a -0.0 or NaN too. */
+double byr_clamp(double x, double lo, double hi);
+
+/* The square root, correctly rounded; NaN for NaN and negatives, each zero and
+ * +infinity give themselves. */
+double byr_sqrt(double x);
+
+/* ---- Points and segments. Refusal: 2. ---- */
+
+/* turn: 1 if a, b, c turn counter-clockwise, -1 if clockwise, 0 if the
+ * determinant is within 1e-9 of 0. */
+uint32_t byr_orientation(double ax, double ay, double bx, double by, double cx, double cy, int32_t *turn);
+
+/* on: 1 if p lies in the box of a and b, widened by 1e-9, else 0. It is meant for
+ * a p in line with a and b. */
+uint32_t byr_on_segment(double ax, double ay, double bx, double by, double px, double py, uint32_t *on);
+
+/* meet: 1 if the closed segments (x1,y1)-(x2,y2) and (x3,y3)-(x4,y4) meet, else 0. */
+uint32_t byr_segments_intersect(double x1, double y1, double x2, double y2, double x3, double y3, double x4,
+                                double y4, uint32_t *meet);
+
+/* distance: of p from the segment a-b, as byr_ring_distance measures it. */
+uint32_t byr_point_segment_distance(double px, double py, double ax, double ay, double bx, double by,
+                                    double *distance);
+
+/* parameter: where on the segment a-b the point nearest to p lies, 0 at a, 1 at b;
+ * 0 for a segment shorter than 1e-10. */
+uint32_t byr_project_point_to_segment(double px, double py, double ax, double ay, double bx, double by,
+                                      double *parameter);
+
+/* distance: of p from the segment a-b, as the sliding measures it. */
+uint32_t byr_point_to_segment_distance(double px, double py, double ax, double ay, double bx, double by,
+                                       double *distance);
+
+/* on: 1 if that distance is below the tolerance, else 0. Refusals: 2, 3. */
+uint32_t byr_point_on_segment(double px, double py, double ax, double ay, double bx, double by,
+                              double tolerance, uint32_t *on);
+
+/* ---- Rings of 0 to 256 vertices. Refusals: 1, 2, and 5 where there is a room. ---- */
+
+/* Writes the ring mirrored at x = 0, in the other order. vertices: how many. */
+uint32_t byr_mirror_polygon(const double *ring, size_t n, double *room, size_t room_n, uint64_t *vertices);
+
+/* Writes the ring without its last vertex if there are more than three and the
+ * last equals the first, else the ring. vertices: how many are written. */
+uint32_t byr_open_ring(const double *ring, size_t n, double *room, size_t room_n, uint64_t *vertices);
+
+/* simple: 1 if there are three vertices or more, and no two edges meet but
+ * neighbours; else 0. */
+uint32_t byr_is_simple_polygon(const double *ring, size_t n, uint32_t *simple);
+
+/* distance: the least from a vertex of one ring to an edge of the other; +infinity
+ * if a ring has no vertex. It is the rings' distance if they do not cross. */
+uint32_t byr_ring_distance(const double *a, size_t an, const double *b, size_t bn, double *distance);
+
+/* area2: twice the signed area, above 0 for counter-clockwise order. */
+uint32_t byr_signed_area2(const double *ring, size_t n, double *area2);
+
+/* area: the signed area by a compensated sum, 0.0 below three vertices. */
+uint32_t byr_signed_area_robust(const double *ring, size_t n, double *area);
+
+/* ---- Sliding: polygons of 3 to 256 vertices. ----
+ * The orbiting polygon is lent where it stands, already moved; only
+ * byr_detect_interlocking_opportunity, byr_find_start_position and
+ * byr_compute_nfp_sliding take it as drawn, with its position apart. */
+
+/* Every contact of the two polygons, nearer than the tolerance. Per contact,
+ * which: kind, stationary index, orbiting index; points: x, y. count: how many.
+ * Refusals: 1, 2, 3, 5 (then both rooms are as they were). */
+uint32_t byr_find_contacts(const double *stationary, size_t sn, const double *orbiting, size_t on,
+                           double tolerance, uint64_t *which, size_t which_n, double *points, size_t points_n,
+                           uint64_t *count);
+
+/* The two directions in which each contact lets the orbiting polygon slide. Per
+ * vector, vectors: direction x, y and distance; sources: the place of its contact
+ * among those of byr_find_contacts. count: how many. Refusals: 1, 2, 3, 5 (then
+ * both rooms are as they were). */
+uint32_t byr_compute_translation_vectors(const double *stationary, size_t sn, const double *orbiting, size_t on,
+                                         double tolerance, double *vectors, size_t vectors_n,
+                                         uint64_t *sources, size_t sources_n, uint64_t *count);
+
+/* The same without those that lead from (rx,ry) to a visited position, of which
+ * there may be 0 to 10001. Refusals: 1, 2, 3, 5 (then both rooms are as they were). */
+uint32_t byr_handle_perfect_fit(const double *stationary, size_t sn, const double *orbiting, size_t on, double rx,
+                                double ry, const double *visited, size_t visited_n, double tolerance,
+                                double *vectors, size_t vectors_n, uint64_t *sources, size_t sources_n,
+                                uint64_t *count);
+
+/* Which of the vectors, three numbers each, the sliding takes: found is 0 for an
+ * empty list, else 1, and then index is that of the first with the greatest
+ * score. has_previous is 0 for no previous direction. All bit patterns are taken.
+ * Refusal: 1 if the length is no multiple of three. */
+uint32_t byr_select_translation_vector(const double *vectors, size_t n, uint32_t has_previous, double previous_x,
+                                       double previous_y, double centroid_x, double centroid_y,
+                                       double position_x, double position_y, uint32_t *found, uint64_t *index);
+
+/* What the orbiting polygon runs into when it moves by (dx,dy): found is 0 for
+ * nothing, else 1, and then distance, kind (0 or 1) and both indices are those of
+ * the nearest hit, the first in scan order. Refusals: 1, 2, 3. */
+uint32_t byr_check_translation_collision(const double *stationary, size_t sn, const double *orbiting, size_t on,
+                                         double dx, double dy, double tolerance, uint32_t *found,
+                                         double *distance, uint32_t *kind, uint64_t *stationary_i,
+                                         uint64_t *orbiting_i);
+
+/* A position one tolerance nearer to a concave vertex, from (x,y), at which the
+ * polygons do not overlap: found is 0 for none, else 1, and then (to_x,to_y).
+ * Refusals: 1, 2, 3. */
+uint32_t byr_detect_interlocking_opportunity(const double *stationary, size_t sn, const double *orbiting,
+                                             size_t on, double x, double y, double tolerance,
+                                             uint32_t *found, double *to_x, double *to_y);
+
+/* Where to go from (x,y) to bring the orbiting polygon, lent where it stands, back
+ * to the stationary one: found is 0 if it is no farther than the tolerance, else
+ * 1, and then (to_x,to_y). Refusals: 1, 2, 3. */
+uint32_t byr_recover_contact(const double *stationary, size_t sn, const double *orbiting, size_t on, double x,
+                             double y, double tolerance, uint32_t *found, double *to_x, double *to_y);
+
+/* overlap: 0 if an axis parts the polygons by more than 1e-6, else 1; touching
+ * polygons count as overlapping. Refusals: 1, 2. */
+uint32_t byr_polygons_overlap(const double *a, size_t an, const double *b, size_t bn, uint32_t *overlap);
+
+/* The same by more than the tolerance. Refusals: 1, 2, 3. */
+uint32_t byr_polygons_overlap_with_tolerance(const double *a, size_t an, const double *b, size_t bn,
+                                             double tolerance, uint32_t *overlap);
+
+/* x, y: where the orbiting polygon's highest vertex meets the stationary one's
+ * lowest. Refusals: 1, 2. */
+uint32_t byr_find_start_position(const double *stationary, size_t sn, const double *orbiting, size_t on, double *x,
+                                 double *y);
+
+/* Writes a list of 0 to 10001 points without those in line with their neighbours;
+ * all of them if fewer than three would be left. points: how many are written.
+ * Refusals: 1, 2, 3, 5. */
+uint32_t byr_simplify_polygon(const double *list, size_t n, double tolerance, double *room, size_t room_n,
+                              uint64_t *points);
+
+/* Traces the orbiting polygon round the stationary one. min_translation is finite
+ * and not negative, max_iterations at most 10000; the Rust's defaults are 1e-6,
+ * 1e-8 and 10000. The work room has an even length of 2 or more, the result room
+ * is at least as long; 20002 always suffices for both.
+ *
+ * Success: the work room holds the path, stored points, and the result room the
+ * path simplified, points points; passes are those begun, stop is a BYR_STOP_.
+ * Refusals 1, 2, 3, 4: nothing is written.
+ * Refusal 5, a point was to be stored and the work room is full: it holds the
+ * stored points; passes is written.
+ * Refusal 6, fewer than three points at the end: the work room holds the path;
+ * passes and stop are written. */
+uint32_t byr_compute_nfp_sliding(const double *stationary, size_t sn, const double *orbiting, size_t on,
+                                 double contact_tolerance, double min_translation, uint64_t max_iterations,
+                                 double *work, size_t work_n, double *result, size_t result_n,
+                                 uint64_t *points, uint64_t *stored, uint64_t *passes, uint32_t *stop);
+
+/* ---- The outline book ---- */
+
+/* Writes the book of 1 to 8 rings of 3 to 256 vertices: coordinates has them one
+ * after the other, counts the vertices of each. However a ring was begun and
+ * whichever way it went, its book is the same. length: the book's bytes, 16 a
+ * vertex, 8 a ring and 8; 32840 at most. Refusals: 1, 2, 4. */
+uint32_t byr_write_book(const double *coordinates, size_t n, const uint32_t *counts, size_t rings, uint8_t *room,
+                        size_t room_n, uint64_t *length);
+
+/* Hands out the rings of a book as stored: their coordinates one after the other
+ * and the vertices of each; rings: how many. 4096 coordinates and 8 counts always
+ * suffice. Refusals: 7, with place the byte of the first fault; then 4. */
+uint32_t byr_read_book(const uint8_t *book, size_t n, double *coordinates, size_t coordinates_n, uint32_t *counts,
+                       size_t counts_n, uint64_t *rings, uint64_t *place);
+
+#ifdef __cplusplus
+}
+#endif
+
+#endif

@@ -1,0 +1,46 @@
+//! Times the Rust and the library beside each other: the oracle's text over the
+//! fixed helpers, called straight, against the exported function with its
+//! refusals. `bench [PART]` measures the rows whose name has this part, all of
+//! them without it, and prints tables of them.
+
+mod memory;
+mod plain_book;
+mod rows;
+mod timing;
+mod traces;
+
+use rows::Row;
+use timing::{measured, shown};
+
+/// Prints a table of these rows, as they are measured.
+fn table(title: &str, rows: Vec<Row>, part: &str) {
+    let wanted: Vec<Row> = rows.into_iter().filter(|row| row.name.contains(part)).collect();
+    if wanted.is_empty() {
+        return;
+    }
+    println!("## {title}\n\n| call | the Rust | the library | Rust / library |\n|---|---|---|---|");
+    for row in wanted {
+        let (mut sides, note) = (row.sides)();
+        let [rust, ours] = measured(&mut sides);
+        println!("| {}{note} | {} | {} | {:.3} |", row.name, shown(rust), shown(ours), rust / ours);
+    }
+    println!();
+}
+
+fn main() {
+    let arguments: Vec<String> = std::env::args().skip(1).collect();
+    let words: Vec<&str> = arguments.iter().map(|word| &word[..]).collect();
+    if let ["memory", name, side] = words[..] {
+        println!("{}", memory::peak(name, side));
+        return;
+    }
+    let part = words.first().copied().unwrap_or("");
+    println!("Median of {} runs by turns, one process, time of one call.\n", timing::RUNS);
+    table("Calls", rows::calls(), part);
+    table("Traces", traces::traces(), part);
+    table("Growth of a trace with vertices, 50 passes", traces::by_vertices(), part);
+    table("Growth of a trace with passes, a point stored in each", traces::by_passes(), part);
+    if "memory".contains(part) {
+        memory::table();
+    }
+}

@@ -1,0 +1,239 @@
+//! Single calls, each side of which is first seen to answer the same.
+
+use crate::plain_book;
+use crate::timing::{side, Sides};
+use compare::ffi;
+use oracle::answers::Point;
+use oracle::calls::{self, points_of};
+use oracle::fixed::{nfp_sliding as text, polygon_ops};
+use oracle::seeded::Seeded;
+use oracle::shapes::{disc, placed};
+use std::hint::black_box;
+
+/// The usual tolerance.
+pub const TOLERANCE: f64 = 1e-6;
+
+/// A row: its name, and how its sides are made, with a word on what they answer.
+pub struct Row {
+    pub name: String,
+    pub sides: Box<dyn FnOnce() -> (Sides, String)>,
+}
+
+impl Row {
+    /// The row with this name and these sides, and nothing to be said of them.
+    fn new(name: &str, sides: impl FnOnce() -> Sides + 'static) -> Self {
+        Self { name: name.to_string(), sides: Box::new(|| (sides(), String::new())) }
+    }
+}
+
+/// A list as the library takes it and as the Rust does.
+pub struct Lent {
+    pub list: Vec<f64>,
+    pub points: Vec<Point>,
+}
+
+impl Lent {
+    /// The ring in both forms.
+    pub fn new(list: Vec<f64>) -> Self {
+        let points = points_of(&list);
+        Self { list, points }
+    }
+}
+
+/// Two discs of n vertices where they first touch.
+fn touching(n: usize) -> [Lent; 2] {
+    let (a, b) = (disc(n, 10.0), disc(n, 4.0));
+    let start = calls::find_start_position(&a, &b).expect("both are polygons");
+    [Lent::new(a), Lent::new(placed(&b, 1.0, start.0, start.1))]
+}
+
+/// `find_contacts` of two discs of n vertices.
+fn contacts(n: usize) -> Sides {
+    let [a, b] = touching(n);
+    let (mut which, mut points) = (vec![0_u64; 3 * 64], vec![0.0; 2 * 64]);
+    let (an, bn) = (a.points.clone(), b.points.clone());
+    let mut ours = move || {
+        let mut count = 0;
+        // SAFETY: all lists are as long as is said, and the answer has a place.
+        let number = unsafe {
+            ffi::byr_find_contacts(
+                a.list.as_ptr(),
+                a.list.len(),
+                b.list.as_ptr(),
+                b.list.len(),
+                black_box(TOLERANCE),
+                which.as_mut_ptr(),
+                which.len(),
+                points.as_mut_ptr(),
+                points.len(),
+                &mut count,
+            )
+        };
+        (number, count)
+    };
+    let rust = move || text::find_contacts(&an, &bn, black_box(TOLERANCE));
+    assert_eq!(ours(), (0, rust().len() as u64));
+    [side(rust), side(ours)]
+}
+
+/// `check_translation_collision` of two discs of n vertices.
+fn collision(n: usize) -> Sides {
+    let [a, b] = touching(n);
+    let (an, bn) = (a.points.clone(), b.points.clone());
+    let by = (3.0, 9.0);
+    let ours = move || {
+        let (mut found, mut distance, mut kind) = (0, 0.0, 0);
+        let (mut stationary, mut orbiting) = (0, 0);
+        // SAFETY: both lists are as long as is said, and every answer has a place.
+        let number = unsafe {
+            ffi::byr_check_translation_collision(
+                a.list.as_ptr(),
+                a.list.len(),
+                b.list.as_ptr(),
+                b.list.len(),
+                by.0,
+                by.1,
+                black_box(TOLERANCE),
+                &mut found,
+                &mut distance,
+                &mut kind,
+                &mut stationary,
+                &mut orbiting,
+            )
+        };
+        (number, found, distance)
+    };
+    let rust = move || text::check_translation_collision(&an, &bn, by, black_box(TOLERANCE));
+    assert_eq!(ours(), (0, 1, rust().expect("the discs collide").distance));
+    [side(rust), side(ours)]
+}
+
+/// `is_simple_polygon` of a disc of n vertices.
+fn simple(n: usize) -> Sides {
+    let ring = Lent::new(disc(n, 10.0));
+    let points = ring.points.clone();
+    let ours = move || {
+        let mut simple = 0;
+        // SAFETY: the list is as long as is said, and the answer has a place.
+        let number = unsafe {
+            ffi::byr_is_simple_polygon(black_box(ring.list.as_ptr()), ring.list.len(), &mut simple)
+        };
+        (number, simple)
+    };
+    let rust = move || polygon_ops::is_simple_polygon(black_box(&points));
+    assert!(ours() == (0, 1) && rust());
+    [side(rust), side(ours)]
+}
+
+/// `ring_distance` of two discs of n vertices.
+fn distance(n: usize) -> Sides {
+    let [a, b] = [Lent::new(disc(n, 10.0)), Lent::new(placed(&disc(n, 4.0), 1.0, 20.0, 3.0))];
+    let (an, bn) = (a.points.clone(), b.points.clone());
+    let ours = move || {
+        let mut distance = 0.0;
+        let (list, other) = (black_box(a.list.as_ptr()), b.list.as_ptr());
+        // SAFETY: both lists are as long as is said, and the answer has a place.
+        let number = unsafe {
+            ffi::byr_ring_distance(list, a.list.len(), other, b.list.len(), &mut distance)
+        };
+        (number, distance)
+    };
+    let rust = move || polygon_ops::ring_distance(black_box(&an), &bn);
+    assert_eq!(ours(), (0, rust()));
+    [side(rust), side(ours)]
+}
+
+/// A thousand roots of seeded positive numbers, summed.
+fn roots() -> Sides {
+    let seeded = &mut Seeded::new(1);
+    let numbers: Vec<f64> = (0..1000).map(|_| seeded.unit() * 1e6).collect();
+    let same = numbers.clone();
+    let rust = move || numbers.iter().map(|&x| black_box(x).sqrt()).sum::<f64>();
+    // SAFETY: the function takes every float.
+    let ours = move || same.iter().map(|&x| unsafe { ffi::byr_sqrt(black_box(x)) }).sum::<f64>();
+    assert_eq!(ours(), rust());
+    [side(rust), side(ours)]
+}
+
+/// The coordinates of eight rings of 256 vertices: seeded, or all vertices equal,
+/// which costs the least reading most.
+fn eight_rings(equal: bool) -> Vec<f64> {
+    let seeded = &mut Seeded::new(2);
+    (0..8 * 512).map(|_| if equal { 1.0 } else { seeded.spread(1e6) }).collect()
+}
+
+/// `write_book` of eight rings.
+fn writing(equal: bool) -> Sides {
+    let (list, counts) = (eight_rings(equal), [256_u32; 8]);
+    let (mut room, mut plain) = (vec![0; 32_840], vec![0; 32_840]);
+    let same = list.clone();
+    let write = move |room: &mut [u8]| {
+        let mut length = 0;
+        // SAFETY: all lists are as long as is said, and the answer has a place.
+        let number = unsafe {
+            ffi::byr_write_book(
+                list.as_ptr(),
+                list.len(),
+                counts.as_ptr(),
+                counts.len(),
+                room.as_mut_ptr(),
+                room.len(),
+                &mut length,
+            )
+        };
+        (number, length)
+    };
+    assert_eq!(write(&mut room), (0, 32_840));
+    assert_eq!(plain_book::write(&same, &counts, &mut plain), 32_840);
+    assert!(room == plain);
+    [side(move || plain_book::write(&same, &counts, &mut plain)), side(move || write(&mut room))]
+}
+
+/// `read_book` of eight rings.
+fn reading(equal: bool) -> Sides {
+    let mut book = vec![0; 32_840];
+    plain_book::write(&eight_rings(equal), &[256; 8], &mut book);
+    let same = book.clone();
+    let read = move |coordinates: &mut [f64], counts: &mut [u32]| {
+        let (mut rings, mut place) = (0, 0);
+        // SAFETY: all lists are as long as is said, and both answers have a place.
+        let number = unsafe {
+            ffi::byr_read_book(
+                book.as_ptr(),
+                book.len(),
+                coordinates.as_mut_ptr(),
+                coordinates.len(),
+                counts.as_mut_ptr(),
+                counts.len(),
+                &mut rings,
+                &mut place,
+            )
+        };
+        (number, rings)
+    };
+    let (mut one, mut other) = ((vec![0.0; 4096], [0; 8]), (vec![0.0; 4096], [0; 8]));
+    assert_eq!(read(&mut one.0, &mut one.1), (0, 8));
+    assert_eq!(plain_book::read(&same, &mut other.0, &mut other.1), Some(8));
+    assert!(one == other);
+    [
+        side(move || plain_book::read(&same, &mut other.0, &mut other.1)),
+        side(move || read(&mut one.0, &mut one.1)),
+    ]
+}
+
+/// All single calls.
+pub fn calls() -> Vec<Row> {
+    vec![
+        Row::new("find_contacts, discs 64 x 64", || contacts(64)),
+        Row::new("find_contacts, discs 256 x 256", || contacts(256)),
+        Row::new("check_translation_collision, discs 64 x 64", || collision(64)),
+        Row::new("check_translation_collision, discs 256 x 256", || collision(256)),
+        Row::new("is_simple_polygon, disc 256", || simple(256)),
+        Row::new("ring_distance, discs 256 x 256", || distance(256)),
+        Row::new("sqrt, a thousand", roots),
+        Row::new("write_book, 8 seeded rings of 256", || writing(false)),
+        Row::new("write_book, 8 rings of 256 equal vertices", || writing(true)),
+        Row::new("read_book, 8 seeded rings of 256", || reading(false)),
+        Row::new("read_book, 8 rings of 256 equal vertices", || reading(true)),
+    ]
+}

@@ -1,0 +1,44 @@
+//! The replay lists, each with the check of one of its records.
+
+mod book;
+mod rings;
+mod scalars;
+mod sliding;
+mod traces;
+
+use crate::tally::Compared;
+
+/// A list: its name, how large a share of a run it gets, and the check of a
+/// record; nothing for a record of a function that is not exported.
+pub struct Checked {
+    pub name: &'static str,
+    pub share: u64,
+    pub check: fn(&[u64]) -> Option<Compared>,
+}
+
+/// All lists; the shares add up to a hundred.
+pub const LISTS: [Checked; 5] = [
+    Checked { name: "scalars", share: 18, check: scalars::check },
+    Checked { name: "rings", share: 33, check: |record| Some(rings::check(record)) },
+    Checked { name: "sliding", share: 33, check: |record| Some(sliding::check(record)) },
+    Checked { name: "book", share: 10, check: |record| Some(book::check(record)) },
+    Checked { name: "traces", share: 6, check: |record| Some(traces::check(record)) },
+];
+
+/// The words of a record after its header, taken list by list.
+struct Words<'a>(&'a [u64]);
+
+impl<'a> Words<'a> {
+    /// The next list, of so many words.
+    fn take(&mut self, length: u64) -> &'a [u64] {
+        let (list, rest) = self.0.split_at(length as usize);
+        self.0 = rest;
+        list
+    }
+}
+
+/// The answer where the number is 0, in the first so many of these values; else
+/// nothing told in any of them.
+fn on_success<const N: usize>(number: u64, values: [u64; N]) -> [Option<u64>; N] {
+    values.map(|value| (number == 0).then_some(value))
+}

@@ -1,0 +1,96 @@
+//! The outline book, through the library.
+
+use super::Words;
+use crate::ffi;
+use crate::lent::{words, Cell, Room};
+use crate::tally::Compared;
+use oracle::replay::book::{HEADER, WRITE};
+
+/// What margins of bytes and of counts hold.
+const BYTE: u8 = 0xa5;
+const COUNT: u32 = 0xdead_beef;
+
+/// So many bytes, packed eight to a word.
+fn bytes(rest: &mut Words, length: u64) -> Vec<u8> {
+    let words = rest.take(length.div_ceil(8));
+    let mut bytes: Vec<u8> = words.iter().flat_map(|word| word.to_le_bytes()).collect();
+    bytes.truncate(length as usize);
+    bytes
+}
+
+/// So many counts, a word each.
+fn counts(rest: &mut Words, length: u64) -> Vec<u32> {
+    rest.take(length).iter().map(|&word| word as u32).collect()
+}
+
+/// A call to write, through the library.
+fn writing(record: &[u64]) -> Compared {
+    let (number, value) = (record[5], record[6]);
+    let mut rest = Words(&record[HEADER..]);
+    let (coordinates, vertices) = (rest.take(record[1]), counts(&mut rest, record[2]));
+    let [before, after] = [0, 1].map(|_| bytes(&mut rest, record[3]));
+    let (list, lent) = (words(coordinates), Room::new(&vertices, COUNT));
+    let mut room = Room::new(&before, BYTE);
+    let (room_n, mut length) = (room.len(), u64::HELD);
+    // SAFETY: all lists are as long as is said, and the answer has a place.
+    let returned = unsafe {
+        ffi::byr_write_book(
+            list.list(),
+            list.len(),
+            lent.list(),
+            lent.len(),
+            room.room(),
+            room_n,
+            &mut length,
+        )
+    };
+    let told = (number == 0).then_some(value);
+    let oracle = (number, told, Some(&after[..]), Some(coordinates), Some(&vertices[..]));
+    let read = (list.contents(), lent.contents());
+    let library = (u64::from(returned), length.told(), room.contents(), read.0, read.1);
+    Compared::of("write_book", number, oracle, library)
+}
+
+/// A call to read, through the library.
+fn reading(record: &[u64]) -> Compared {
+    let (number, value, fault) = (record[5], record[6], record[7]);
+    let mut rest = Words(&record[HEADER..]);
+    let file = bytes(&mut rest, record[1]);
+    let [before, after] = [0, 1].map(|_| (rest.take(record[3]), counts(&mut rest, record[4])));
+    let book = Room::new(&file, BYTE);
+    let (mut numbers, mut vertices) = (words(before.0), Room::new(&before.1, COUNT));
+    let (numbers_n, vertices_n) = (numbers.len(), vertices.len());
+    let (mut rings, mut place) = (u64::HELD, u64::HELD);
+    // SAFETY: all lists are as long as is said, and both answers have a place.
+    let returned = unsafe {
+        ffi::byr_read_book(
+            book.list(),
+            book.len(),
+            numbers.room(),
+            numbers_n,
+            vertices.room(),
+            vertices_n,
+            &mut rings,
+            &mut place,
+        )
+    };
+    let told = [(number == 0).then_some(value), (number == 7).then_some(fault)];
+    let oracle = (number, told, Some(after.0), Some(&after.1[..]), Some(&file[..]));
+    let library = (
+        u64::from(returned),
+        [rings.told(), place.told()],
+        numbers.contents(),
+        vertices.contents(),
+        book.contents(),
+    );
+    Compared::of("read_book", number, oracle, library)
+}
+
+/// The record's call through the library.
+pub fn check(record: &[u64]) -> Compared {
+    if record[0] == WRITE {
+        writing(record)
+    } else {
+        reading(record)
+    }
+}

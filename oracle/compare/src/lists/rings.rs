@@ -1,0 +1,106 @@
+//! Segments and rings, through the library.
+
+use super::Words;
+use crate::ffi;
+use crate::lent::{floats, words, Cell, Room};
+use crate::tally::Compared;
+use oracle::replay::rings::{self, HEADER};
+
+/// What a function returned and what it told through its pointer.
+type Told = (u32, Option<u64>);
+
+/// What this answers with a place for its answer.
+fn with_cell<T: Cell>(call: impl FnOnce(&mut T) -> u32) -> Told {
+    let mut cell = T::HELD;
+    let number = call(&mut cell);
+    (number, cell.told())
+}
+
+/// The name of the call and what the library answers; writes the room.
+fn answer(call: u64, a: &Room<u64>, b: &Room<u64>, room: &mut Room<u64>) -> (&'static str, Told) {
+    if matches!(call, rings::MIRROR_POLYGON..=rings::SIGNED_AREA_ROBUST) {
+        on_rings(call, a, b, room)
+    } else {
+        on_points(call, a)
+    }
+}
+
+/// A call that takes single points: the first so many numbers of the list.
+fn on_points(call: u64, list: &Room<u64>) -> (&'static str, Told) {
+    let contents = list.contents().expect("no call was made yet");
+    let n = |place: usize| f64::from_bits(contents[place]);
+    let [a, b, c, d, e, f] = [0, 1, 2, 3, 4, 5].map(n);
+    // SAFETY: the answer has a place.
+    unsafe {
+        match call {
+            rings::ORIENTATION => {
+                ("orientation", with_cell(|turn| ffi::byr_orientation(a, b, c, d, e, f, turn)))
+            }
+            rings::ON_SEGMENT => {
+                ("on_segment", with_cell(|on| ffi::byr_on_segment(a, b, c, d, e, f, on)))
+            }
+            rings::SEGMENTS_INTERSECT => (
+                "segments_intersect",
+                with_cell(|meet| ffi::byr_segments_intersect(a, b, c, d, e, f, n(6), n(7), meet)),
+            ),
+            rings::POINT_SEGMENT_DISTANCE => (
+                "point_segment_distance",
+                with_cell(|to| ffi::byr_point_segment_distance(a, b, c, d, e, f, to)),
+            ),
+            rings::PROJECT_POINT_TO_SEGMENT => (
+                "project_point_to_segment",
+                with_cell(|to| ffi::byr_project_point_to_segment(a, b, c, d, e, f, to)),
+            ),
+            rings::POINT_TO_SEGMENT_DISTANCE => (
+                "point_to_segment_distance",
+                with_cell(|to| ffi::byr_point_to_segment_distance(a, b, c, d, e, f, to)),
+            ),
+            _ => (
+                "point_on_segment",
+                with_cell(|on| ffi::byr_point_on_segment(a, b, c, d, e, f, n(6), on)),
+            ),
+        }
+    }
+}
+
+/// A call that takes rings.
+fn on_rings(call: u64, a: &Room<u64>, b: &Room<u64>, room: &mut Room<u64>) -> (&'static str, Told) {
+    let (ring, n, room_n) = (a.list(), a.len(), room.len());
+    // SAFETY: all lists are as long as is said, and the answer has a place.
+    unsafe {
+        match call {
+            rings::MIRROR_POLYGON => (
+                "mirror_polygon",
+                with_cell(|to| ffi::byr_mirror_polygon(ring, n, room.room(), room_n, to)),
+            ),
+            rings::OPEN_RING => {
+                ("open_ring", with_cell(|to| ffi::byr_open_ring(ring, n, room.room(), room_n, to)))
+            }
+            rings::IS_SIMPLE_POLYGON => {
+                ("is_simple_polygon", with_cell(|to| ffi::byr_is_simple_polygon(ring, n, to)))
+            }
+            rings::RING_DISTANCE => (
+                "ring_distance",
+                with_cell(|to| ffi::byr_ring_distance(ring, n, b.list(), b.len(), to)),
+            ),
+            rings::SIGNED_AREA2 => {
+                ("signed_area2", with_cell(|to| ffi::byr_signed_area2(ring, n, to)))
+            }
+            _ => ("signed_area_robust", with_cell(|to| ffi::byr_signed_area_robust(ring, n, to))),
+        }
+    }
+}
+
+/// The record's call through the library.
+pub fn check(record: &[u64]) -> Compared {
+    let (number, value) = (record[4], record[5]);
+    let mut rest = Words(&record[HEADER..]);
+    let lists = [1, 2].map(|place| rest.take(record[place]));
+    let [before, after] = [0, 1].map(|_| rest.take(record[3]));
+    let [a, b] = lists.map(words);
+    let mut room = words(before);
+    let (call, (returned, told)) = answer(record[0], &a, &b, &mut room);
+    let oracle = (number, (number == 0).then_some(value), Some(after.to_vec()), lists.map(Some));
+    let library = (u64::from(returned), told, floats(&room), [a.contents(), b.contents()]);
+    Compared::of(call, number, oracle, library)
+}

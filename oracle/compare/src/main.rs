@@ -1,0 +1,66 @@
+//! Compares the static library with the oracle: `compare COUNT SEED` makes every
+//! call of the stored replay lists, and COUNT seeded ones besides, through both. The table counts cases by call, refusal and stop reason; it ends in how
+//! many agree. The status is 1 unless all do and every exported call was made.
+
+use compare::lists::LISTS;
+use compare::tally::Tally;
+use oracle::replay::list;
+use oracle::seeded::Seeded;
+use std::collections::BTreeSet;
+use std::process::ExitCode;
+
+/// The declarations of the exported functions.
+const HEADER: &str = include_str!("../../../include/byrlygent.h");
+
+/// The exported functions that were not compared, without their prefix.
+fn missing(tally: &Tally) -> BTreeSet<&'static str> {
+    let names = HEADER.split("byr_").skip(1).filter_map(|rest| Some(rest.split_once('(')?.0));
+    let is_name = |name: &&str| name.chars().all(|c| c.is_ascii_alphanumeric() || c == '_');
+    names.filter(is_name).filter(|name| !tally.has(name)).collect()
+}
+
+/// Compares the stored records of each list, and its share of so many seeded ones.
+fn run(count: u64, seed: u64) -> Tally {
+    let mut tally = Tally::default();
+    for checked in LISTS {
+        let list = list(checked.name).expect("each of these is a list");
+        for (place, record) in (list.stored)().iter().enumerate() {
+            if let Some(compared) = (checked.check)(record) {
+                tally.add(compared, || format!("{}, stored record {place}", checked.name));
+            }
+        }
+        let seeded = &mut Seeded::new(seed);
+        let records = (0..).map(|place| (place, (list.long)(seeded, place)));
+        let compared =
+            records.filter_map(|(place, record)| Some((place, (checked.check)(&record)?)));
+        for (place, compared) in compared.take((count * checked.share / 100) as usize) {
+            tally.add(compared, || format!("{}, seed {seed}, record {place}", checked.name));
+        }
+    }
+    tally
+}
+
+/// The count and the seed that the arguments give.
+fn arguments() -> Option<(u64, u64)> {
+    let mut words = std::env::args().skip(1);
+    let (count, seed) = (words.next()?.parse().ok()?, words.next()?.parse().ok()?);
+    words.next().is_none().then_some((count, seed))
+}
+
+fn main() -> ExitCode {
+    let Some((count, seed)) = arguments() else {
+        eprintln!("give how many seeded cases to compare, and a seed");
+        return ExitCode::FAILURE;
+    };
+    println!("seed {seed}");
+    let tally = run(count, seed);
+    println!("{tally}");
+    let missing = missing(&tally);
+    missing.iter().for_each(|name| println!("{name} was not compared"));
+    let (cases, agree) = tally.totals();
+    if agree == cases && missing.is_empty() {
+        ExitCode::SUCCESS
+    } else {
+        ExitCode::FAILURE
+    }
+}

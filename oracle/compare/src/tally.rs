@@ -1,0 +1,118 @@
+//! What was compared, and how it came out.
+
+use std::fmt;
+
+/// Most characters that are told of either side of a difference.
+const MOST: usize = 400;
+
+/// A call as the oracle answers it, and as the library does.
+pub struct Compared {
+    /// The call's name.
+    pub call: &'static str,
+    /// The refusal's number, 0 for an answer.
+    pub number: u32,
+    /// Why the trace stopped, where that is answered.
+    pub stop: Option<u64>,
+    /// What differs, if anything does.
+    pub difference: Option<String>,
+}
+
+impl Compared {
+    /// The comparison of a call that is no trace.
+    pub fn of<T: PartialEq + fmt::Debug>(
+        call: &'static str,
+        number: u64,
+        oracle: T,
+        library: T,
+    ) -> Self {
+        let number = u32::try_from(number).expect("a refusal's number is small");
+        let difference = (oracle != library).then(|| {
+            let [oracle, library] = [format!("{oracle:x?}"), format!("{library:x?}")];
+            format!("{call}: the oracle has {oracle:.MOST$}, the library {library:.MOST$}")
+        });
+        Self { call, number, stop: None, difference }
+    }
+}
+
+/// How many numbers a call's answer can have: 0 and the refusals 1 to 7.
+const NUMBERS: usize = 8;
+/// How many stop reasons there are, from 1 on.
+const STOPS: usize = 5;
+/// How many differences are told in full.
+const TOLD: usize = 5;
+
+/// The counts of one call.
+struct Row {
+    call: &'static str,
+    agree: u64,
+    numbers: [u64; NUMBERS],
+}
+
+/// The counts of all calls.
+#[derive(Default)]
+pub struct Tally {
+    rows: Vec<Row>,
+    stops: [u64; STOPS],
+    differences: Vec<String>,
+}
+
+impl Tally {
+    /// Counts a comparison; `origin` says where its record comes from.
+    pub fn add(&mut self, compared: Compared, origin: impl Fn() -> String) {
+        let place = self.rows.iter().position(|row| row.call == compared.call);
+        let place = place.unwrap_or_else(|| {
+            self.rows.push(Row { call: compared.call, agree: 0, numbers: [0; NUMBERS] });
+            self.rows.len() - 1
+        });
+        self.rows[place].numbers[compared.number as usize] += 1;
+        if let Some(stop) = compared.stop {
+            self.stops[stop as usize - 1] += 1;
+        }
+        match compared.difference {
+            None => self.rows[place].agree += 1,
+            Some(told) if self.differences.len() < TOLD => {
+                self.differences.push(format!("{}: {told}", origin()))
+            }
+            Some(_) => {}
+        }
+    }
+
+    /// The counts of all calls together.
+    fn all(&self) -> Row {
+        let numbers = std::array::from_fn(|place| {
+            self.rows.iter().map(|row| row.numbers[place]).sum::<u64>()
+        });
+        Row { call: "all", agree: self.rows.iter().map(|row| row.agree).sum(), numbers }
+    }
+
+    /// All calls compared, and those that agree.
+    pub fn totals(&self) -> (u64, u64) {
+        let all = self.all();
+        (all.numbers.iter().sum(), all.agree)
+    }
+
+    /// Whether this call was compared.
+    pub fn has(&self, call: &str) -> bool {
+        self.rows.iter().any(|row| row.call == call)
+    }
+}
+
+impl fmt::Display for Tally {
+    fn fmt(&self, f: &mut fmt::Formatter<'_>) -> fmt::Result {
+        write!(f, "{:31} {:>8} {:>8} {:>8}", "call", "cases", "agree", "answered")?;
+        (1..NUMBERS).try_for_each(|number| write!(f, " {:>8}", format!("ref. {number}")))?;
+        writeln!(f)?;
+        for Row { call, agree, numbers } in self.rows.iter().chain([&self.all()]) {
+            write!(f, "{call:31} {:>8} {agree:>8}", numbers.iter().sum::<u64>())?;
+            numbers.iter().try_for_each(|count| write!(f, " {count:>8}"))?;
+            writeln!(f)?;
+        }
+        write!(f, "stop reasons of traces:")?;
+        for (place, count) in self.stops.iter().enumerate() {
+            write!(f, " {}: {count}{}", place + 1, if place + 1 < STOPS { "," } else { "\n" })?;
+        }
+        self.differences.iter().try_for_each(|told| writeln!(f, "DIFFERENCE {told}"))?;
+        let (cases, agree) = self.totals();
+        write!(f, "{} calls, {cases} cases, {agree} agree", self.rows.len())
+    }
+}

@@ -1,0 +1,258 @@
+//! The exported functions of the static library, as `include/byrlygent.h` has
+//! them.
+
+extern "C" {
+    pub fn byr_abs(x: f64) -> f64;
+    pub fn byr_smaller(a: f64, b: f64) -> f64;
+    pub fn byr_larger(a: f64, b: f64) -> f64;
+    pub fn byr_clamp(x: f64, lo: f64, hi: f64) -> f64;
+    pub fn byr_sqrt(x: f64) -> f64;
+    pub fn byr_orientation(
+        ax: f64,
+        ay: f64,
+        bx: f64,
+        by: f64,
+        cx: f64,
+        cy: f64,
+        turn: *mut i32,
+    ) -> u32;
+    pub fn byr_on_segment(
+        ax: f64,
+        ay: f64,
+        bx: f64,
+        by: f64,
+        px: f64,
+        py: f64,
+        on: *mut u32,
+    ) -> u32;
+    pub fn byr_segments_intersect(
+        x1: f64,
+        y1: f64,
+        x2: f64,
+        y2: f64,
+        x3: f64,
+        y3: f64,
+        x4: f64,
+        y4: f64,
+        meet: *mut u32,
+    ) -> u32;
+    pub fn byr_point_segment_distance(
+        px: f64,
+        py: f64,
+        ax: f64,
+        ay: f64,
+        bx: f64,
+        by: f64,
+        distance: *mut f64,
+    ) -> u32;
+    pub fn byr_project_point_to_segment(
+        px: f64,
+        py: f64,
+        ax: f64,
+        ay: f64,
+        bx: f64,
+        by: f64,
+        parameter: *mut f64,
+    ) -> u32;
+    pub fn byr_point_to_segment_distance(
+        px: f64,
+        py: f64,
+        ax: f64,
+        ay: f64,
+        bx: f64,
+        by: f64,
+        distance: *mut f64,
+    ) -> u32;
+    pub fn byr_point_on_segment(
+        px: f64,
+        py: f64,
+        ax: f64,
+        ay: f64,
+        bx: f64,
+        by: f64,
+        tolerance: f64,
+        on: *mut u32,
+    ) -> u32;
+    pub fn byr_mirror_polygon(
+        ring: *const f64,
+        n: usize,
+        room: *mut f64,
+        room_n: usize,
+        vertices: *mut u64,
+    ) -> u32;
+    pub fn byr_open_ring(
+        ring: *const f64,
+        n: usize,
+        room: *mut f64,
+        room_n: usize,
+        vertices: *mut u64,
+    ) -> u32;
+    pub fn byr_is_simple_polygon(ring: *const f64, n: usize, simple: *mut u32) -> u32;
+    pub fn byr_ring_distance(
+        a: *const f64,
+        an: usize,
+        b: *const f64,
+        bn: usize,
+        distance: *mut f64,
+    ) -> u32;
+    pub fn byr_signed_area2(ring: *const f64, n: usize, area2: *mut f64) -> u32;
+    pub fn byr_signed_area_robust(ring: *const f64, n: usize, area: *mut f64) -> u32;
+    pub fn byr_find_contacts(
+        stationary: *const f64,
+        sn: usize,
+        orbiting: *const f64,
+        on: usize,
+        tolerance: f64,
+        which: *mut u64,
+        which_n: usize,
+        points: *mut f64,
+        points_n: usize,
+        count: *mut u64,
+    ) -> u32;
+    pub fn byr_compute_translation_vectors(
+        stationary: *const f64,
+        sn: usize,
+        orbiting: *const f64,
+        on: usize,
+        tolerance: f64,
+        vectors: *mut f64,
+        vectors_n: usize,
+        sources: *mut u64,
+        sources_n: usize,
+        count: *mut u64,
+    ) -> u32;
+    pub fn byr_handle_perfect_fit(
+        stationary: *const f64,
+        sn: usize,
+        orbiting: *const f64,
+        on: usize,
+        rx: f64,
+        ry: f64,
+        visited: *const f64,
+        visited_n: usize,
+        tolerance: f64,
+        vectors: *mut f64,
+        vectors_n: usize,
+        sources: *mut u64,
+        sources_n: usize,
+        count: *mut u64,
+    ) -> u32;
+    pub fn byr_select_translation_vector(
+        vectors: *const f64,
+        n: usize,
+        has_previous: u32,
+        previous_x: f64,
+        previous_y: f64,
+        centroid_x: f64,
+        centroid_y: f64,
+        position_x: f64,
+        position_y: f64,
+        found: *mut u32,
+        index: *mut u64,
+    ) -> u32;
+    pub fn byr_check_translation_collision(
+        stationary: *const f64,
+        sn: usize,
+        orbiting: *const f64,
+        on: usize,
+        dx: f64,
+        dy: f64,
+        tolerance: f64,
+        found: *mut u32,
+        distance: *mut f64,
+        kind: *mut u32,
+        stationary_i: *mut u64,
+        orbiting_i: *mut u64,
+    ) -> u32;
+    pub fn byr_detect_interlocking_opportunity(
+        stationary: *const f64,
+        sn: usize,
+        orbiting: *const f64,
+        on: usize,
+        x: f64,
+        y: f64,
+        tolerance: f64,
+        found: *mut u32,
+        to_x: *mut f64,
+        to_y: *mut f64,
+    ) -> u32;
+    pub fn byr_recover_contact(
+        stationary: *const f64,
+        sn: usize,
+        orbiting: *const f64,
+        on: usize,
+        x: f64,
+        y: f64,
+        tolerance: f64,
+        found: *mut u32,
+        to_x: *mut f64,
+        to_y: *mut f64,
+    ) -> u32;
+    pub fn byr_polygons_overlap(
+        a: *const f64,
+        an: usize,
+        b: *const f64,
+        bn: usize,
+        overlap: *mut u32,
+    ) -> u32;
+    pub fn byr_polygons_overlap_with_tolerance(
+        a: *const f64,
+        an: usize,
+        b: *const f64,
+        bn: usize,
+        tolerance: f64,
+        overlap: *mut u32,
+    ) -> u32;
+    pub fn byr_find_start_position(
+        stationary: *const f64,
+        sn: usize,
+        orbiting: *const f64,
+        on: usize,
+        x: *mut f64,
+        y: *mut f64,
+    ) -> u32;
+    pub fn byr_simplify_polygon(
+        list: *const f64,
+        n: usize,
+        tolerance: f64,
+        room: *mut f64,
+        room_n: usize,
+        points: *mut u64,
+    ) -> u32;
+    pub fn byr_compute_nfp_sliding(
+        stationary: *const f64,
+        sn: usize,
+        orbiting: *const f64,
+        on: usize,
+        contact_tolerance: f64,
+        min_translation: f64,
+        max_iterations: u64,
+        work: *mut f64,
+        work_n: usize,
+        result: *mut f64,
+        result_n: usize,
+        points: *mut u64,
+        stored: *mut u64,
+        passes: *mut u64,
+        stop: *mut u32,
+    ) -> u32;
+    pub fn byr_write_book(
+        coordinates: *const f64,
+        n: usize,
+        counts: *const u32,
+        rings: usize,
+        room: *mut u8,
+        room_n: usize,
+        length: *mut u64,
+    ) -> u32;
+    pub fn byr_read_book(
+        book: *const u8,
+        n: usize,
+        coordinates: *mut f64,
+        coordinates_n: usize,
+        counts: *mut u32,
+        counts_n: usize,
+        rings: *mut u64,
+        place: *mut u64,
+    ) -> u32;
+}

@@ -1,0 +1,32 @@
+//! Byrlygent for Rust: the sliding no-fit polygon and the ring predicates of
+//! u-nesting, and the outline book, over the static library that is proved in
+//! Rattle. What each call answers and refuses is proved there, for all inputs;
+//! here points are copied to plain lists of numbers and back, and nothing else.
+//!
+//! Modules and names are u-nesting's. A program that traced with
+//! `u_nesting_d2::nfp_sliding` changes that import, and gets a [`Refusal`] where
+//! it got an error:
+//!
+//! ```
+//! use byrlygent::nfp_sliding::{compute_nfp_sliding, SlidingNfpConfig, StopReason};
+//!
+//! let square = [(0.0, 0.0), (4.0, 0.0), (4.0, 4.0), (0.0, 4.0)];
+//! let nfp = compute_nfp_sliding(&square, &square, &SlidingNfpConfig::default())?;
+//! assert_eq!(nfp.polygons, [[(4.0, -4.0), (4.0, 4.0), (-4.0, 4.0), (-4.0, -4.0)]]);
+//! assert_eq!((nfp.passes, nfp.stop), (8, StopReason::Closed));
+//! # Ok::<(), byrlygent::Refusal>(())
+//! ```
+
+mod ffi;
+mod lent;
+pub mod nfp_sliding;
+pub mod outline_book;
+pub mod polygon_ops;
+mod refusal;
+pub mod robust;
+pub mod scalar;
+
+pub use refusal::{Refusal, Result};
+
+/// A point, or a vector.
+pub type Point = (f64, f64);

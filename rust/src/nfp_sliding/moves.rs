@@ -1,0 +1,162 @@
+//! What a move runs into, where else to go, and whether polygons overlap.
+
+use super::contacts::ContactType;
+use crate::lent::flat;
+use crate::refusal::plain;
+use crate::{ffi, Point, Result};
+
+/// Represents a potential collision during translation.
+#[derive(Debug, Clone, Copy, PartialEq)]
+pub struct CollisionEvent {
+    /// Distance along translation at which collision occurs.
+    pub distance: f64,
+    /// Type of contact formed at collision.
+    pub contact_type: ContactType,
+    /// Index on stationary polygon.
+    pub stationary_idx: usize,
+    /// Index on orbiting polygon.
+    pub orbiting_idx: usize,
+}
+
+/// What the orbiting polygon, lent where it stands, runs into when it moves by
+/// this translation: the first of the nearest hits, or nothing.
+///
+/// ```
+/// use byrlygent::nfp_sliding::check_translation_collision;
+///
+/// let stationary = [(0.0, 0.0), (4.0, 0.0), (4.0, 4.0), (0.0, 4.0)];
+/// let orbiting = [(-5.0, 1.0), (-3.0, 1.0), (-3.0, 3.0), (-5.0, 3.0)];
+/// let hit = check_translation_collision(&stationary, &orbiting, (10.0, 0.0), 1e-6)?.unwrap();
+/// assert_eq!((hit.distance, hit.stationary_idx, hit.orbiting_idx), (3.0, 3, 1));
+/// assert!(check_translation_collision(&stationary, &orbiting, (3.0, 0.0), 1e-6)?.is_none());
+/// # Ok::<(), byrlygent::Refusal>(())
+/// ```
+pub fn check_translation_collision(
+    stationary: &[Point],
+    orbiting: &[Point],
+    translation: Point,
+    tolerance: f64,
+) -> Result<Option<CollisionEvent>> {
+    let (stationary, orbiting) = (flat(stationary), flat(orbiting));
+    let (mut found, mut distance, mut kind) = (0, 0.0, 0);
+    let (mut stationary_i, mut orbiting_i) = (0, 0);
+    // SAFETY: both lists are as long as is said, and every answer has a place.
+    plain(unsafe {
+        ffi::byr_check_translation_collision(
+            stationary.as_ptr(),
+            stationary.len(),
+            orbiting.as_ptr(),
+            orbiting.len(),
+            translation.0,
+            translation.1,
+            tolerance,
+            &mut found,
+            &mut distance,
+            &mut kind,
+            &mut stationary_i,
+            &mut orbiting_i,
+        )
+    })?;
+    Ok((found != 0).then(|| CollisionEvent {
+        distance,
+        contact_type: ContactType::numbered(u64::from(kind)),
+        stationary_idx: stationary_i as usize,
+        orbiting_idx: orbiting_i as usize,
+    }))
+}
+
+/// A function of the library that may find a position.
+type Finding = unsafe extern "C" fn(
+    *const f64,
+    usize,
+    *const f64,
+    usize,
+    f64,
+    f64,
+    f64,
+    *mut u32,
+    *mut f64,
+    *mut f64,
+) -> u32;
+
+/// What a function that may find a position finds.
+fn found_by(
+    finding: Finding,
+    stationary: &[Point],
+    orbiting: &[Point],
+    current_pos: Point,
+    tolerance: f64,
+) -> Result<Option<Point>> {
+    let (stationary, orbiting) = (flat(stationary), flat(orbiting));
+    let (mut found, mut to) = (0, (0.0, 0.0));
+    // SAFETY: both lists are as long as is said, and every answer has a place.
+    plain(unsafe {
+        finding(
+            stationary.as_ptr(),
+            stationary.len(),
+            orbiting.as_ptr(),
+            orbiting.len(),
+            current_pos.0,
+            current_pos.1,
+            tolerance,
+            &mut found,
+            &mut to.0,
+            &mut to.1,
+        )
+    })?;
+    Ok((found != 0).then_some(to))
+}
+
+/// A position one tolerance nearer to a concave vertex at which the polygons do
+/// not overlap, or nothing. The orbiting polygon is lent as drawn.
+pub fn detect_interlocking_opportunity(
+    stationary: &[Point],
+    orbiting: &[Point],
+    current_pos: Point,
+    tolerance: f64,
+) -> Result<Option<Point>> {
+    let finding = ffi::byr_detect_interlocking_opportunity;
+    found_by(finding, stationary, orbiting, current_pos, tolerance)
+}
+
+/// Where to go to bring the orbiting polygon, lent where it stands, back to the
+/// stationary one; nothing if it is no farther than the tolerance.
+pub fn recover_contact(
+    stationary: &[Point],
+    orbiting: &[Point],
+    current_pos: Point,
+    tolerance: f64,
+) -> Result<Option<Point>> {
+    found_by(ffi::byr_recover_contact, stationary, orbiting, current_pos, tolerance)
+}
+
+/// Whether no axis parts the polygons by more than 1e-6; touching ones overlap.
+pub fn polygons_overlap(poly_a: &[Point], poly_b: &[Point]) -> Result<bool> {
+    let (a, b, mut overlap) = (flat(poly_a), flat(poly_b), 0);
+    // SAFETY: both lists are as long as is said, and the answer has a place.
+    plain(unsafe {
+        ffi::byr_polygons_overlap(a.as_ptr(), a.len(), b.as_ptr(), b.len(), &mut overlap)
+    })?;
+    Ok(overlap != 0)
+}
+
+/// Whether no axis parts the polygons by more than the tolerance.
+pub fn polygons_overlap_with_tolerance(
+    poly_a: &[Point],
+    poly_b: &[Point],
+    tolerance: f64,
+) -> Result<bool> {
+    let (a, b, mut overlap) = (flat(poly_a), flat(poly_b), 0);
+    // SAFETY: both lists are as long as is said, and the answer has a place.
+    plain(unsafe {
+        ffi::byr_polygons_overlap_with_tolerance(
+            a.as_ptr(),
+            a.len(),
+            b.as_ptr(),
+            b.len(),
+            tolerance,
+            &mut overlap,
+        )
+    })?;
+    Ok(overlap != 0)
+}

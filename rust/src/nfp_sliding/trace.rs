@@ -1,0 +1,188 @@
+//! The trace of one polygon round another.
+
+use crate::lent::{flat, points};
+use crate::refusal::plain;
+use crate::{ffi, Point, Refusal, Result};
+use std::fmt;
+
+/// Most passes that a trace may be allowed; each stores a point at most.
+const MOST_PASSES: usize = 10_000;
+
+/// Configuration for the sliding NFP algorithm.
+#[derive(Debug, Clone, Copy, PartialEq)]
+pub struct SlidingNfpConfig {
+    /// Tolerance for contact detection: above 0, at most 1.
+    pub contact_tolerance: f64,
+    /// Maximum number of iterations: at most 10,000.
+    pub max_iterations: usize,
+    /// Minimum translation distance before stopping: finite, not negative.
+    pub min_translation: f64,
+}
+
+impl Default for SlidingNfpConfig {
+    fn default() -> Self {
+        Self { contact_tolerance: 1e-6, max_iterations: 10_000, min_translation: 1e-8 }
+    }
+}
+
+/// Why a trace stopped.
+#[derive(Debug, Clone, Copy, PartialEq, Eq)]
+pub enum StopReason {
+    /// No contact, and none recovered.
+    NoContact,
+    /// No vector left.
+    NoVector,
+    /// The move is below the smallest one.
+    ShortMove,
+    /// Back at the start.
+    Closed,
+    /// Passes used up.
+    Passes,
+}
+
+impl StopReason {
+    /// The reason that the library gives this number.
+    fn numbered(stop: u32) -> Self {
+        match stop {
+            1 => Self::NoContact,
+            2 => Self::NoVector,
+            3 => Self::ShortMove,
+            4 => Self::Closed,
+            _ => Self::Passes,
+        }
+    }
+}
+
+impl fmt::Display for StopReason {
+    fn fmt(&self, f: &mut fmt::Formatter<'_>) -> fmt::Result {
+        f.write_str(match self {
+            Self::NoContact => "having lost contact",
+            Self::NoVector => "with no vector left",
+            Self::ShortMove => "as the move was too short",
+            Self::Closed => "back at the start",
+            Self::Passes => "with all passes used up",
+        })
+    }
+}
+
+/// Result of a trace.
+#[derive(Debug, Clone, PartialEq)]
+pub struct Nfp {
+    /// The computed NFP polygon(s): the path simplified, one polygon.
+    pub polygons: Vec<Vec<Point>>,
+    /// The path before simplification.
+    pub path: Vec<Point>,
+    /// The passes begun.
+    pub passes: u64,
+    /// Why the trace stopped. Only [`StopReason::Closed`] came round.
+    pub stop: StopReason,
+}
+
+impl Nfp {
+    /// Returns true if the NFP is empty.
+    pub fn is_empty(&self) -> bool {
+        self.polygons.is_empty()
+    }
+
+    /// Returns the total vertex count across all polygons.
+    pub fn vertex_count(&self) -> usize {
+        self.polygons.iter().map(|p| p.len()).sum()
+    }
+}
+
+/// Traces the orbiting polygon, lent as drawn, round the stationary one. A path
+/// of fewer than three points is refused with its passes and why it stopped.
+///
+/// ```
+/// use byrlygent::nfp_sliding::{compute_nfp_sliding, SlidingNfpConfig, StopReason};
+/// use byrlygent::Refusal;
+///
+/// let square = [(0.0, 0.0), (4.0, 0.0), (4.0, 4.0), (0.0, 4.0)];
+/// let config = SlidingNfpConfig { max_iterations: 0, ..Default::default() };
+/// let refused = Refusal::ShortPath { passes: 0, stop: StopReason::Passes };
+/// assert_eq!(compute_nfp_sliding(&square, &square, &config), Err(refused));
+/// ```
+pub fn compute_nfp_sliding(
+    stationary: &[Point],
+    orbiting: &[Point],
+    config: &SlidingNfpConfig,
+) -> Result<Nfp> {
+    let (stationary, orbiting) = (flat(stationary), flat(orbiting));
+    let room = 2 * (config.max_iterations.min(MOST_PASSES) + 1);
+    let (mut work, mut result) = (vec![0.0; room], vec![0.0; room]);
+    let (mut count, mut stored, mut passes, mut stop) = (0, 0, 0, 0);
+    // SAFETY: all lists are as long as is said, and every answer has a place.
+    let number = unsafe {
+        ffi::byr_compute_nfp_sliding(
+            stationary.as_ptr(),
+            stationary.len(),
+            orbiting.as_ptr(),
+            orbiting.len(),
+            config.contact_tolerance,
+            config.min_translation,
+            config.max_iterations as u64,
+            work.as_mut_ptr(),
+            work.len(),
+            result.as_mut_ptr(),
+            result.len(),
+            &mut count,
+            &mut stored,
+            &mut passes,
+            &mut stop,
+        )
+    };
+    let stop = StopReason::numbered(stop);
+    if number == 6 {
+        return Err(Refusal::ShortPath { passes, stop });
+    }
+    plain(number)?;
+    let polygons = vec![points(&result, count)];
+    Ok(Nfp { polygons, path: points(&work, stored), passes, stop })
+}
+
+/// Where the orbiting polygon's highest vertex, lent as drawn, meets the
+/// stationary one's lowest.
+///
+/// ```
+/// use byrlygent::nfp_sliding::find_start_position;
+///
+/// let stationary = [(0.0, 0.0), (4.0, 0.0), (4.0, 4.0), (0.0, 4.0)];
+/// let orbiting = [(0.0, 0.0), (2.0, 0.0), (2.0, 2.0), (0.0, 2.0)];
+/// assert_eq!(find_start_position(&stationary, &orbiting)?, (0.0, -2.0));
+/// # Ok::<(), byrlygent::Refusal>(())
+/// ```
+pub fn find_start_position(stationary: &[Point], orbiting: &[Point]) -> Result<Point> {
+    let (stationary, orbiting) = (flat(stationary), flat(orbiting));
+    let mut start = (0.0, 0.0);
+    // SAFETY: both lists are as long as is said, and both answers have a place.
+    plain(unsafe {
+        ffi::byr_find_start_position(
+            stationary.as_ptr(),
+            stationary.len(),
+            orbiting.as_ptr(),
+            orbiting.len(),
+            &mut start.0,
+            &mut start.1,
+        )
+    })?;
+    Ok(start)
+}
+
+/// At most 10,001 points without those in line with their neighbours; all of them
+/// if fewer than three would be left.
+pub fn simplify_polygon(polygon: &[Point], tolerance: f64) -> Result<Vec<Point>> {
+    let list = flat(polygon);
+    let (mut room, mut count) = (vec![0.0; list.len()], 0);
+    // SAFETY: both lists are as long as is said, and the answer has a place.
+    plain(unsafe {
+        ffi::byr_simplify_polygon(
+            list.as_ptr(),
+            list.len(),
+            tolerance,
+            room.as_mut_ptr(),
+            room.len(),
+            &mut count,
+        )
+    })?;
+    Ok(points(&room, count))
+}

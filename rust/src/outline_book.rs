@@ -1,0 +1,80 @@
+//! The outline book: rings in a form that does not depend on where a drawing
+//! began or which way round it went.
+
+use crate::lent::{flat, points};
+use crate::refusal::plain;
+use crate::{ffi, Point, Refusal, Result};
+
+/// Most coordinates and most rings of a book.
+const MOST_COORDINATES: usize = 4096;
+const MOST_RINGS: usize = 8;
+
+/// The book of 1 to 8 rings of 3 to 256 vertices. A closing repeat is kept as a
+/// vertex: open the ring first.
+///
+/// ```
+/// use byrlygent::outline_book::{read_book, write_book};
+///
+/// let monday = write_book(&[[(4.0, 0.0), (0.0, 3.0), (0.0, 0.0)]])?;
+/// let thursday = write_book(&[[(0.0, 0.0), (0.0, 3.0), (4.0, 0.0)]])?;
+/// assert_eq!(monday, thursday);
+/// assert_eq!(read_book(&monday)?, [[(0.0, 0.0), (0.0, 3.0), (4.0, 0.0)]]);
+/// # Ok::<(), byrlygent::Refusal>(())
+/// ```
+pub fn write_book<R: AsRef<[Point]>>(rings: &[R]) -> Result<Vec<u8>> {
+    let coordinates: Vec<f64> = rings.iter().flat_map(|ring| flat(ring.as_ref())).collect();
+    // A ring that u32 cannot count is too long in any case.
+    let count = |ring: &R| u32::try_from(ring.as_ref().len()).unwrap_or(u32::MAX);
+    let counts: Vec<u32> = rings.iter().map(count).collect();
+    let mut room = vec![0; 8 * coordinates.len() + 8 * counts.len() + 8];
+    let mut length = 0;
+    // SAFETY: all lists are as long as is said, and the answer has a place.
+    plain(unsafe {
+        ffi::byr_write_book(
+            coordinates.as_ptr(),
+            coordinates.len(),
+            counts.as_ptr(),
+            counts.len(),
+            room.as_mut_ptr(),
+            room.len(),
+            &mut length,
+        )
+    })?;
+    room.truncate(length as usize);
+    Ok(room)
+}
+
+/// The rings of a book as stored, in order and bit for bit.
+pub fn read_book(book: &[u8]) -> Result<Vec<Vec<Point>>> {
+    let (mut coordinates, mut counts) = (vec![0.0; MOST_COORDINATES], [0; MOST_RINGS]);
+    let (mut rings, mut place) = (0, 0);
+    // SAFETY: all lists are as long as is said, and both answers have a place.
+    let number = unsafe {
+        ffi::byr_read_book(
+            book.as_ptr(),
+            book.len(),
+            coordinates.as_mut_ptr(),
+            coordinates.len(),
+            counts.as_mut_ptr(),
+            counts.len(),
+            &mut rings,
+            &mut place,
+        )
+    };
+    if number == 7 {
+        return Err(Refusal::Book { place: place as usize });
+    }
+    plain(number)?;
+    Ok(cut(&coordinates, &counts[..rings as usize]))
+}
+
+/// The coordinates as rings of so many vertices each.
+fn cut(coordinates: &[f64], counts: &[u32]) -> Vec<Vec<Point>> {
+    let mut rest = coordinates;
+    let mut rings = Vec::new();
+    for &count in counts {
+        rings.push(points(rest, u64::from(count)));
+        rest = &rest[2 * count as usize..];
+    }
+    rings
+}

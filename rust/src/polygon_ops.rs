@@ -1,0 +1,118 @@
+//! Predicates on points, segments and rings of at most 256 vertices. Coordinates
+//! are finite and at most 1,000,000 in size.
+
+use crate::lent::{flat, measured, points};
+use crate::refusal::plain;
+use crate::{ffi, Point, Result};
+
+/// 1 if a, b, c turn counter-clockwise, -1 if clockwise, 0 if the determinant is
+/// within 1e-9 of 0.
+pub fn orientation(a: Point, b: Point, c: Point) -> Result<i32> {
+    let mut turn = 0;
+    // SAFETY: the answer has a place.
+    plain(unsafe { ffi::byr_orientation(a.0, a.1, b.0, b.1, c.0, c.1, &mut turn) })?;
+    Ok(turn)
+}
+
+/// Whether p, in line with a and b, lies between them: in their box, widened by
+/// 1e-9.
+pub fn on_segment(a: Point, b: Point, p: Point) -> Result<bool> {
+    let mut on = 0;
+    // SAFETY: the answer has a place.
+    plain(unsafe { ffi::byr_on_segment(a.0, a.1, b.0, b.1, p.0, p.1, &mut on) })?;
+    Ok(on != 0)
+}
+
+/// Whether the closed segments p1-p2 and p3-p4 meet.
+///
+/// ```
+/// use byrlygent::polygon_ops::segments_intersect;
+///
+/// assert!(segments_intersect((0.0, 0.0), (4.0, 4.0), (0.0, 4.0), (4.0, 0.0))?);
+/// assert!(!segments_intersect((0.0, 0.0), (1.0, 1.0), (0.0, 4.0), (4.0, 0.0))?);
+/// # Ok::<(), byrlygent::Refusal>(())
+/// ```
+pub fn segments_intersect(p1: Point, p2: Point, p3: Point, p4: Point) -> Result<bool> {
+    let mut meet = 0;
+    // SAFETY: the answer has a place.
+    plain(unsafe {
+        ffi::byr_segments_intersect(p1.0, p1.1, p2.0, p2.1, p3.0, p3.1, p4.0, p4.1, &mut meet)
+    })?;
+    Ok(meet != 0)
+}
+
+/// The distance of p from the segment a-b.
+pub fn point_segment_distance(p: Point, a: Point, b: Point) -> Result<f64> {
+    measured(ffi::byr_point_segment_distance, p, a, b)
+}
+
+/// The ring mirrored at x = 0, in the other order.
+///
+/// ```
+/// let mirrored = byrlygent::polygon_ops::mirror_polygon(&[(0.0, 0.0), (4.0, 0.0), (0.0, 3.0)])?;
+/// assert_eq!(mirrored, [(-0.0, 3.0), (-4.0, 0.0), (-0.0, 0.0)]);
+/// # Ok::<(), byrlygent::Refusal>(())
+/// ```
+pub fn mirror_polygon(vertices: &[Point]) -> Result<Vec<Point>> {
+    copied(vertices, ffi::byr_mirror_polygon)
+}
+
+/// The ring without its last vertex if there are more than three and the last
+/// equals the first, else the ring.
+///
+/// ```
+/// let ring = [(0.0, 0.0), (4.0, 0.0), (0.0, 3.0), (0.0, 0.0)];
+/// assert_eq!(byrlygent::polygon_ops::open_ring(&ring)?, ring[..3]);
+/// # Ok::<(), byrlygent::Refusal>(())
+/// ```
+pub fn open_ring(vertices: &[Point]) -> Result<Vec<Point>> {
+    copied(vertices, ffi::byr_open_ring)
+}
+
+/// A function of the library that writes some of a ring's vertices to a room.
+type Copying = unsafe extern "C" fn(*const f64, usize, *mut f64, usize, *mut u64) -> u32;
+
+/// What a function that copies a ring writes.
+fn copied(vertices: &[Point], copying: Copying) -> Result<Vec<Point>> {
+    let ring = flat(vertices);
+    let (mut room, mut count) = (vec![0.0; ring.len()], 0);
+    // SAFETY: both lists are as long as is said, and the answer has a place.
+    plain(unsafe {
+        copying(ring.as_ptr(), ring.len(), room.as_mut_ptr(), room.len(), &mut count)
+    })?;
+    Ok(points(&room, count))
+}
+
+/// Whether the ring has three vertices or more, and no two edges meet but
+/// neighbours.
+///
+/// ```
+/// let bow = [(0.0, 0.0), (2.0, 2.0), (2.0, 0.0), (0.0, 2.0)];
+/// assert!(!byrlygent::polygon_ops::is_simple_polygon(&bow)?);
+/// # Ok::<(), byrlygent::Refusal>(())
+/// ```
+pub fn is_simple_polygon(vertices: &[Point]) -> Result<bool> {
+    let (ring, mut simple) = (flat(vertices), 0);
+    // SAFETY: the list is as long as is said, and the answer has a place.
+    plain(unsafe { ffi::byr_is_simple_polygon(ring.as_ptr(), ring.len(), &mut simple) })?;
+    Ok(simple != 0)
+}
+
+/// The least distance from a vertex of one ring to an edge of the other, +infinity
+/// if a ring has no vertex; the rings' distance if they do not cross.
+pub fn ring_distance(a: &[Point], b: &[Point]) -> Result<f64> {
+    let (a, b, mut distance) = (flat(a), flat(b), 0.0);
+    // SAFETY: both lists are as long as is said, and the answer has a place.
+    plain(unsafe {
+        ffi::byr_ring_distance(a.as_ptr(), a.len(), b.as_ptr(), b.len(), &mut distance)
+    })?;
+    Ok(distance)
+}
+
+/// Twice the signed area, above 0 for counter-clockwise order.
+pub fn signed_area2(vertices: &[Point]) -> Result<f64> {
+    let (ring, mut area2) = (flat(vertices), 0.0);
+    // SAFETY: the list is as long as is said, and the answer has a place.
+    plain(unsafe { ffi::byr_signed_area2(ring.as_ptr(), ring.len(), &mut area2) })?;
+    Ok(area2)
+}
