@@ -40,26 +40,26 @@ abbrev pub flag : Bool → ℕ
 flag b = cond b 1 0
 
 -- 1 where something was found, 0 where nothing was
-unfoldable pub found : {A : Type 0} → Option A → ℕ
-found none = 0
-found (some a) = 1
+unfoldable pub isFound : {A : Type 0} → Option A → ℕ
+isFound none = 0
+isFound (some a) = 1
 
 -- a point's coordinates
-abbrev pub across : Point → Float
-across p = p .x
+abbrev pub xOf : Point → Float
+xOf p = p .x
 
-abbrev pub up : Point → Float
-up p = p .y
+abbrev pub yOf : Point → Float
+yOf p = p .y
 
 -- a hit's values
-abbrev pub distance : Values → Float
-distance v = v .distance
+abbrev pub hitDistance : Values → Float
+hitDistance v = v .distance
 
-abbrev pub kind : Values → ℕ
-kind v = v .kind
+abbrev pub hitKind : Values → ℕ
+hitKind v = v .kind
 
-abbrev pub stationary : Values → ℕ
-stationary v = v .stationary
+abbrev pub hitStationary : Values → ℕ
+hitStationary v = v .stationary
 
-abbrev pub orbiting : Values → ℕ
-orbiting v = v .orbiting
+abbrev pub hitOrbiting : Values → ℕ
+hitOrbiting v = v .orbiting

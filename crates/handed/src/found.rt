@@ -9,19 +9,19 @@ ghost use mathlib.Core.Path.{_≡_};
 ghost use Rattle.collision.specs.Calls.{checked};
 ghost use Rattle.moved.specs.Answers.{position};
 ghost use Rattle.selection.specs.Calls.{selected};
-ghost use Rattle.handed.specs.Handed.{returned, told, toldFound, itself, found, across, up, distance, kind, stationary, orbiting};
+ghost use Rattle.handed.specs.Handed.{returned, told, toldFound, itself, isFound, xOf, yOf, hitDistance, hitKind, hitStationary, hitOrbiting};
 
 // The index of a vector, or nothing.
-pub fn hand_selected(answer: Selected, any: &mut u32, index: &mut u64) -> u32
-    ensures { λ r. ⌜ (r ≡ returned (selected answer)) × (now (any .exit) ≡ told found (selected answer) (now (any .entry))) × (now (index .exit) ≡ toldFound itself (selected answer) (now (index .entry))) ⌝ }
+pub fn hand_selected(answer: Selected, found: &mut u32, index: &mut u64) -> u32
+    ensures { λ r. ⌜ (r ≡ returned (selected answer)) × (now (found .exit) ≡ told isFound (selected answer) (now (found .entry))) × (now (index .exit) ≡ toldFound itself (selected answer) (now (index .entry))) ⌝ }
 {
     match answer {
         Selected::Nothing => {
-            *any = 0;
+            *found = 0;
             0
         }
         Selected::Index(i) => {
-            *any = 1;
+            *found = 1;
             *index = i as u64;
             0
         }
@@ -30,17 +30,17 @@ pub fn hand_selected(answer: Selected, any: &mut u32, index: &mut u64) -> u32
 }
 
 // A position, or nothing.
-pub fn hand_position(answer: Position, any: &mut u32, x: &mut f64, y: &mut f64) -> u32
-    ensures { λ r. ⌜ (r ≡ returned (position answer)) × (now (any .exit) ≡ told found (position answer) (now (any .entry))) × (now (x .exit) ≡ toldFound across (position answer) (now (x .entry))) × (now (y .exit) ≡ toldFound up (position answer) (now (y .entry))) ⌝ }
+pub fn hand_position(answer: Position, found: &mut u32, x: &mut f64, y: &mut f64) -> u32
+    ensures { λ r. ⌜ (r ≡ returned (position answer)) × (now (found .exit) ≡ told isFound (position answer) (now (found .entry))) × (now (x .exit) ≡ toldFound xOf (position answer) (now (x .entry))) × (now (y .exit) ≡ toldFound yOf (position answer) (now (y .entry))) ⌝ }
 {
     match answer {
         Position::Is(f) => match f {
             Found::Nothing => {
-                *any = 0;
+                *found = 0;
                 0
             }
             Found::At(p) => {
-                *any = 1;
+                *found = 1;
                 *x = p.x;
                 *y = p.y;
                 0
@@ -53,18 +53,18 @@ pub fn hand_position(answer: Position, any: &mut u32, x: &mut f64, y: &mut f64) 
 // What a move runs into, or nothing: the hit's distance, its kind and both indices.
 pub fn hand_checked(
     answer: Checked,
-    any: &mut u32,
-    length: &mut f64,
-    code: &mut u32,
-    first: &mut u64,
-    second: &mut u64,
+    found: &mut u32,
+    distance: &mut f64,
+    kind: &mut u32,
+    si: &mut u64,
+    oi: &mut u64,
 ) -> u32
-    ensures { λ r. ⌜ (r ≡ returned (checked answer)) × (now (any .exit) ≡ told found (checked answer) (now (any .entry))) × (now (length .exit) ≡ toldFound distance (checked answer) (now (length .entry))) × (now (code .exit) ≡ toldFound kind (checked answer) (now (code .entry))) × (now (first .exit) ≡ toldFound stationary (checked answer) (now (first .entry))) × (now (second .exit) ≡ toldFound orbiting (checked answer) (now (second .entry))) ⌝ }
+    ensures { λ r. ⌜ (r ≡ returned (checked answer)) × (now (found .exit) ≡ told isFound (checked answer) (now (found .entry))) × (now (distance .exit) ≡ toldFound hitDistance (checked answer) (now (distance .entry))) × (now (kind .exit) ≡ toldFound hitKind (checked answer) (now (kind .entry))) × (now (si .exit) ≡ toldFound hitStationary (checked answer) (now (si .entry))) × (now (oi .exit) ≡ toldFound hitOrbiting (checked answer) (now (oi .entry))) ⌝ }
 {
     match answer {
         Checked::Is(c) => match c {
             Collision::Nothing => {
-                *any = 0;
+                *found = 0;
                 0
             }
             Collision::Hit {
@@ -73,11 +73,11 @@ pub fn hand_checked(
                 stationary: s,
                 orbiting: o,
             } => {
-                *any = 1;
-                *length = d;
-                *code = k as u32;
-                *first = s as u64;
-                *second = o as u64;
+                *found = 1;
+                *distance = d;
+                *kind = k as u32;
+                *si = s as u64;
+                *oi = o as u64;
                 0
             }
         },

@@ -9,7 +9,7 @@ ghost use mathlib.Core.Path.{_≡_};
 ghost use Rattle.plane.specs.Orientation.{turnNumber};
 ghost use Rattle.refusals.specs.Answers.{truth, turn, number, count};
 ghost use Rattle.start_position.specs.Calls.{started};
-ghost use Rattle.handed.specs.Handed.{returned, told, toldPlace, itself, flag, across, up};
+ghost use Rattle.handed.specs.Handed.{returned, told, toldPlace, itself, flag, xOf, yOf};
 
 // The number of the refusal that tells a place in a book.
 const WRONG_BOOK: u32 = 7;
@@ -97,7 +97,7 @@ pub fn hand_count_or_place(answer: Count, out: &mut u64, place: &mut u64) -> u32
 
 // A position.
 pub fn hand_start(answer: Start, x: &mut f64, y: &mut f64) -> u32
-    ensures { λ r. ⌜ (r ≡ returned (started answer)) × (now (x .exit) ≡ told across (started answer) (now (x .entry))) × (now (y .exit) ≡ told up (started answer) (now (y .entry))) ⌝ }
+    ensures { λ r. ⌜ (r ≡ returned (started answer)) × (now (x .exit) ≡ told xOf (started answer) (now (x .entry))) × (now (y .exit) ≡ told yOf (started answer) (now (y .entry))) ⌝ }
 {
     match answer {
         Start::Is(p) => {

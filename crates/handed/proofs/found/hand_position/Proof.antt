@@ -1,7 +1,7 @@
 -- `handed::found::hand_position` meets its contract: nothing, something, a refusal. Assumes nothing.
 use borrow.Author.Needs.{needs}
 use mathlib.Core.Path.{refl}
-use Rattle.handed.specs.Handed.{returned, told, toldFound, found}
+use Rattle.handed.specs.Handed.{returned, told, toldFound, isFound}
 use Rattle.handed.proofs.found.hand_position.Statement.{statement}
 use Rattle.handed.proofs.found.hand_position.Tie as tie
 
@@ -18,15 +18,15 @@ enum-known-answer-2 : tie.Need-enum-known-answer-2
 enum-known-answer-2 c = search needs
 
 returns : tie.Need-returns
-unfolding returned told toldFound found
+unfolding returned told toldFound isFound
 returns c = rw (c .before .before .before .answer .given .1, c .enum-told .given .1) (refl, refl, refl, refl)
 
 returns-2 : tie.Need-returns-2
-unfolding returned told toldFound found
+unfolding returned told toldFound isFound
 returns-2 c = rw (c .before .before .before .before .answer .given .1, c .before .f .given .1) (refl, refl, refl, refl)
 
 returns-3 : tie.Need-returns-3
-unfolding returned told toldFound found
+unfolding returned told toldFound isFound
 returns-3 c = rw (c .before .answer2 .given .1) (refl, refl, refl, refl)
 
 pub hand-position-spec : {M : Type 1} → statement M

@@ -1,0 +1,20 @@
+-- `byrlygent::sliding::byr_simplify_polygon` meets its contract: the call's answer, handed over. Assumes nothing.
+use borrow.Author.Needs.{needs}
+use Rattle.byrlygent.proofs.sliding.byr_simplify_polygon.Statement.{statement}
+use Rattle.byrlygent.proofs.sliding.byr_simplify_polygon.Tie as tie
+
+simplify-polygon-requires : tie.Need-simplify-polygon-requires
+simplify-polygon-requires c κs = search needs
+
+hand-count-requires : tie.Need-hand-count-requires
+hand-count-requires c κs = search needs
+
+same-length : tie.Need-same-length
+same-length c = search needs
+
+returns : tie.Need-returns
+returns c = (cc, (cc, cc))
+
+pub byr-simplify-polygon-spec : {M : Type 1} → statement M
+byr-simplify-polygon-spec =
+    tie.close (tie.spec simplify-polygon-requires hand-count-requires same-length returns)
