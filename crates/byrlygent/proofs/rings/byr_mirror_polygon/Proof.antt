@@ -13,7 +13,10 @@ same-length : tie.Need-same-length
 same-length c = search needs
 
 returns : tie.Need-returns
-returns c = (cc, (cc, cc))
+returns c =
+    let e = c .before .before .before .before .mirror-polygon .ensures in
+    let h = c .hand-count .ensures in
+    (rw (← e .0) (h .0), (rw (← e .0) (h .1), e .1))
 
 pub byr-mirror-polygon-spec : {M : Type 1} → statement M
 byr-mirror-polygon-spec =

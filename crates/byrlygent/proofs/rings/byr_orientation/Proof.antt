@@ -10,7 +10,10 @@ hand-turn-requires : tie.Need-hand-turn-requires
 hand-turn-requires c κs = search needs
 
 returns : tie.Need-returns
-returns c = (cc, cc)
+returns c =
+    let e = c .before .before .orientation .ensures in
+    let h = c .hand-turn .ensures in
+    (rw (← e) (h .0), rw (← e) (h .1))
 
 pub byr-orientation-spec : {M : Type 1} → statement M
 byr-orientation-spec = tie.close (tie.spec orientation-requires hand-turn-requires returns)

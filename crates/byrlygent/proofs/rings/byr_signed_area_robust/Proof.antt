@@ -10,7 +10,10 @@ hand-number-requires : tie.Need-hand-number-requires
 hand-number-requires c κs = search needs
 
 returns : tie.Need-returns
-returns c = (cc, cc)
+returns c =
+    let e = c .before .before .signed-area-robust .ensures in
+    let h = c .hand-number .ensures in
+    (rw (← e) (h .0), rw (← e) (h .1))
 
 pub byr-signed-area-robust-spec : {M : Type 1} → statement M
 byr-signed-area-robust-spec =

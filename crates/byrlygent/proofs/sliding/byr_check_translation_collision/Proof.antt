@@ -10,7 +10,10 @@ hand-checked-requires : tie.Need-hand-checked-requires
 hand-checked-requires c κs = search needs
 
 returns : tie.Need-returns
-returns c = (cc, (cc, (cc, (cc, (cc, cc)))))
+returns c =
+    let e = c .before .before .before .before .before .before .check-translation-collision .ensures in
+    let h = c .hand-checked .ensures in
+    (rw (← e) (h .0), (rw (← e) (h .1), (rw (← e) (h .2), (rw (← e) (h .3), (rw (← e) (h .4), rw (← e) (h .5))))))
 
 pub byr-check-translation-collision-spec : {M : Type 1} → statement M
 byr-check-translation-collision-spec =

@@ -12,7 +12,10 @@ hand-position-requires : tie.Need-hand-position-requires
 hand-position-requires c κs = search needs
 
 returns : tie.Need-returns
-returns c = (cc, (cc, (cc, cc)))
+returns c =
+    let e = c .before .before .before .before .detect-interlocking-opportunity .ensures in
+    let h = c .hand-position .ensures in
+    (rw (← e) (h .0), (rw (← e) (h .1), (rw (← e) (h .2), rw (← e) (h .3))))
 
 pub byr-detect-interlocking-opportunity-spec : {M : Type 1} → statement M
 byr-detect-interlocking-opportunity-spec =

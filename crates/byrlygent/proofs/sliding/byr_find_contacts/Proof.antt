@@ -16,7 +16,10 @@ same-length-2 : tie.Need-same-length-2
 same-length-2 c = search needs
 
 returns : tie.Need-returns
-returns c = (cc, (cc, (cc, cc)))
+returns c =
+    let e = c .before .before .before .before .before .before .find-contacts .ensures in
+    let h = c .hand-count .ensures in
+    (rw (← e .0) (h .0), (rw (← e .0) (h .1), (e .1, e .2)))
 
 pub byr-find-contacts-spec : {M : Type 1} → statement M
 byr-find-contacts-spec =

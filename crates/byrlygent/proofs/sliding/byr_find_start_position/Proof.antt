@@ -10,7 +10,10 @@ hand-start-requires : tie.Need-hand-start-requires
 hand-start-requires c κs = search needs
 
 returns : tie.Need-returns
-returns c = (cc, (cc, cc))
+returns c =
+    let e = c .before .before .before .find-start-position .ensures in
+    let h = c .hand-start .ensures in
+    (rw (← e) (h .0), (rw (← e) (h .1), rw (← e) (h .2)))
 
 pub byr-find-start-position-spec : {M : Type 1} → statement M
 byr-find-start-position-spec =

@@ -10,7 +10,10 @@ hand-truth-requires : tie.Need-hand-truth-requires
 hand-truth-requires c κs = search needs
 
 returns : tie.Need-returns
-returns c = (cc, cc)
+returns c =
+    let e = c .before .before .point-on-segment .ensures in
+    let h = c .hand-truth .ensures in
+    (rw (← e) (h .0), rw (← e) (h .1))
 
 pub byr-point-on-segment-spec : {M : Type 1} → statement M
 byr-point-on-segment-spec =

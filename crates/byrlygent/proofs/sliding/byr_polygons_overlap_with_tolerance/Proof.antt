@@ -12,7 +12,10 @@ hand-truth-requires : tie.Need-hand-truth-requires
 hand-truth-requires c κs = search needs
 
 returns : tie.Need-returns
-returns c = (cc, cc)
+returns c =
+    let e = c .before .before .polygons-overlap-with-tolerance .ensures in
+    let h = c .hand-truth .ensures in
+    (rw (← e) (h .0), rw (← e) (h .1))
 
 pub byr-polygons-overlap-with-tolerance-spec : {M : Type 1} → statement M
 byr-polygons-overlap-with-tolerance-spec =

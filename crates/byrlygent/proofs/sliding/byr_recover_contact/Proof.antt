@@ -10,7 +10,10 @@ hand-position-requires : tie.Need-hand-position-requires
 hand-position-requires c κs = search needs
 
 returns : tie.Need-returns
-returns c = (cc, (cc, (cc, cc)))
+returns c =
+    let e = c .before .before .before .before .recover-contact .ensures in
+    let h = c .hand-position .ensures in
+    (rw (← e) (h .0), (rw (← e) (h .1), (rw (← e) (h .2), rw (← e) (h .3))))
 
 pub byr-recover-contact-spec : {M : Type 1} → statement M
 byr-recover-contact-spec =

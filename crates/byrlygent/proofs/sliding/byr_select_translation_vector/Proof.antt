@@ -13,7 +13,11 @@ hand-selected-requires : tie.Need-hand-selected-requires
 hand-selected-requires c κs = search needs
 
 returns : tie.Need-returns
-returns c = (cc, (cc, cc))
+returns c =
+    let b = c .before .before .before .before .previous .ensures in
+    let e = c .before .before .before .select-translation-vector .ensures in
+    let h = c .hand-selected .ensures in
+    (rw (← b, ← e) (h .0), (rw (← b, ← e) (h .1), rw (← b, ← e) (h .2)))
 
 pub byr-select-translation-vector-spec : {M : Type 1} → statement M
 byr-select-translation-vector-spec =
