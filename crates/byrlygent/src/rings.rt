@@ -6,13 +6,13 @@ use handed::value::hand_turn;
 use plane::Point;
 ghost use mathlib.Core.Path.{_≡_};
 ghost use lib.ListN.{length};
+ghost use Rattle.plane.specs.Vector.{point};
 ghost use Rattle.handed.specs.Handed.{returned, told, itself, flag};
 ghost use Rattle.segments.specs.Calls.{orientationCall, onSegmentCall, intersectCall};
 ghost use Rattle.ring_copies.specs.Calls.{mirrorCall, mirrorRoom, openCall, openRoom};
 ghost use Rattle.simple_polygon.specs.Calls.{isSimpleCall};
 ghost use Rattle.ring_distance.specs.Calls.{segmentDistanceCall, ringDistanceCall};
 ghost use Rattle.signed_area.specs.Calls.{area2Call, robustCall};
-ghost use Rattle.byrlygent.specs.Lent.{at};
 
 // The turn of a, b, c: 1 counter-clockwise, -1 clockwise, 0 collinear.
 #[no_mangle]
@@ -25,8 +25,8 @@ pub extern "C" fn byr_orientation(
     cy: f64,
     turn: &mut i32,
 ) -> u32
-    ensures { λ r. ⌜ r ≡ returned (orientationCall (at ax ay) (at bx by) (at cx cy)) ⌝ }
-    ensures { λ _. ⌜ now (turn .exit) ≡ told itself (orientationCall (at ax ay) (at bx by) (at cx cy)) (now (turn .entry)) ⌝ }
+    ensures { λ r. ⌜ r ≡ returned (orientationCall (point ax ay) (point bx by) (point cx cy)) ⌝ }
+    ensures { λ _. ⌜ now (turn .exit) ≡ told itself (orientationCall (point ax ay) (point bx by) (point cx cy)) (now (turn .entry)) ⌝ }
 {
     let a = Point { x: ax, y: ay };
     let b = Point { x: bx, y: by };
@@ -45,8 +45,8 @@ pub extern "C" fn byr_on_segment(
     py: f64,
     on: &mut u32,
 ) -> u32
-    ensures { λ r. ⌜ r ≡ returned (onSegmentCall (at ax ay) (at bx by) (at px py)) ⌝ }
-    ensures { λ _. ⌜ now (on .exit) ≡ told flag (onSegmentCall (at ax ay) (at bx by) (at px py)) (now (on .entry)) ⌝ }
+    ensures { λ r. ⌜ r ≡ returned (onSegmentCall (point ax ay) (point bx by) (point px py)) ⌝ }
+    ensures { λ _. ⌜ now (on .exit) ≡ told flag (onSegmentCall (point ax ay) (point bx by) (point px py)) (now (on .entry)) ⌝ }
 {
     let a = Point { x: ax, y: ay };
     let b = Point { x: bx, y: by };
@@ -67,8 +67,8 @@ pub extern "C" fn byr_segments_intersect(
     y4: f64,
     meet: &mut u32,
 ) -> u32
-    ensures { λ r. ⌜ r ≡ returned (intersectCall (at x1 y1) (at x2 y2) (at x3 y3) (at x4 y4)) ⌝ }
-    ensures { λ _. ⌜ now (meet .exit) ≡ told flag (intersectCall (at x1 y1) (at x2 y2) (at x3 y3) (at x4 y4)) (now (meet .entry)) ⌝ }
+    ensures { λ r. ⌜ r ≡ returned (intersectCall (point x1 y1) (point x2 y2) (point x3 y3) (point x4 y4)) ⌝ }
+    ensures { λ _. ⌜ now (meet .exit) ≡ told flag (intersectCall (point x1 y1) (point x2 y2) (point x3 y3) (point x4 y4)) (now (meet .entry)) ⌝ }
 {
     let p1 = Point { x: x1, y: y1 };
     let p2 = Point { x: x2, y: y2 };
@@ -88,8 +88,8 @@ pub extern "C" fn byr_point_segment_distance(
     by: f64,
     distance: &mut f64,
 ) -> u32
-    ensures { λ r. ⌜ r ≡ returned (segmentDistanceCall (at px py) (at ax ay) (at bx by)) ⌝ }
-    ensures { λ _. ⌜ now (distance .exit) ≡ told itself (segmentDistanceCall (at px py) (at ax ay) (at bx by)) (now (distance .entry)) ⌝ }
+    ensures { λ r. ⌜ r ≡ returned (segmentDistanceCall (point px py) (point ax ay) (point bx by)) ⌝ }
+    ensures { λ _. ⌜ now (distance .exit) ≡ told itself (segmentDistanceCall (point px py) (point ax ay) (point bx by)) (now (distance .entry)) ⌝ }
 {
     let p = Point { x: px, y: py };
     let a = Point { x: ax, y: ay };

@@ -10,6 +10,7 @@ use plane::Point;
 use selection::Previous;
 ghost use mathlib.Core.Path.{_≡_};
 ghost use lib.ListN.{length};
+ghost use Rattle.plane.specs.Vector.{point};
 ghost use Rattle.handed.specs.Handed.{returned, told, toldFound, itself, flag, isFound, xOf, yOf, hitDistance, hitKind, hitStationary, hitOrbiting};
 ghost use Rattle.projection.specs.Calls.{projectCall, distanceCall, nearCall};
 ghost use Rattle.contacts.specs.Calls.{findCall, findWhich, findPoints};
@@ -21,7 +22,7 @@ ghost use Rattle.recovery.specs.Calls.{recoverCall};
 ghost use Rattle.overlap.specs.Calls.{overlapCall, overlapWithCall};
 ghost use Rattle.start_position.specs.Calls.{startCall};
 ghost use Rattle.simplify.specs.Calls.{simplifyCall, simplifyRoom};
-ghost use Rattle.byrlygent.specs.Lent.{at, previousOf};
+ghost use Rattle.byrlygent.specs.Lent.{previousOf};
 
 // The parameter of the foot of p on the segment a b: 0 at a, 1 at b.
 #[no_mangle]
@@ -34,8 +35,8 @@ pub extern "C" fn byr_project_point_to_segment(
     by: f64,
     parameter: &mut f64,
 ) -> u32
-    ensures { λ r. ⌜ r ≡ returned (projectCall (at px py) (at ax ay) (at bx by)) ⌝ }
-    ensures { λ _. ⌜ now (parameter .exit) ≡ told itself (projectCall (at px py) (at ax ay) (at bx by)) (now (parameter .entry)) ⌝ }
+    ensures { λ r. ⌜ r ≡ returned (projectCall (point px py) (point ax ay) (point bx by)) ⌝ }
+    ensures { λ _. ⌜ now (parameter .exit) ≡ told itself (projectCall (point px py) (point ax ay) (point bx by)) (now (parameter .entry)) ⌝ }
 {
     let p = Point { x: px, y: py };
     let a = Point { x: ax, y: ay };
@@ -57,8 +58,8 @@ pub extern "C" fn byr_point_to_segment_distance(
     by: f64,
     distance: &mut f64,
 ) -> u32
-    ensures { λ r. ⌜ r ≡ returned (distanceCall (at px py) (at ax ay) (at bx by)) ⌝ }
-    ensures { λ _. ⌜ now (distance .exit) ≡ told itself (distanceCall (at px py) (at ax ay) (at bx by)) (now (distance .entry)) ⌝ }
+    ensures { λ r. ⌜ r ≡ returned (distanceCall (point px py) (point ax ay) (point bx by)) ⌝ }
+    ensures { λ _. ⌜ now (distance .exit) ≡ told itself (distanceCall (point px py) (point ax ay) (point bx by)) (now (distance .entry)) ⌝ }
 {
     let p = Point { x: px, y: py };
     let a = Point { x: ax, y: ay };
@@ -81,8 +82,8 @@ pub extern "C" fn byr_point_on_segment(
     tolerance: f64,
     on: &mut u32,
 ) -> u32
-    ensures { λ r. ⌜ r ≡ returned (nearCall (at px py) (at ax ay) (at bx by) tolerance) ⌝ }
-    ensures { λ _. ⌜ now (on .exit) ≡ told flag (nearCall (at px py) (at ax ay) (at bx by) tolerance) (now (on .entry)) ⌝ }
+    ensures { λ r. ⌜ r ≡ returned (nearCall (point px py) (point ax ay) (point bx by) tolerance) ⌝ }
+    ensures { λ _. ⌜ now (on .exit) ≡ told flag (nearCall (point px py) (point ax ay) (point bx by) tolerance) (now (on .entry)) ⌝ }
 {
     let p = Point { x: px, y: py };
     let a = Point { x: ax, y: ay };
@@ -151,10 +152,10 @@ pub extern "C" fn byr_handle_perfect_fit(
     sources: &mut [u64],
     count: &mut u64,
 ) -> u32
-    ensures { λ r. ⌜ r ≡ returned (fitCall (now (stationary .entry)) (now (orbiting .entry)) (at rx ry) (now (visited .entry)) tolerance (length (now (vectors .entry))) (length (now (sources .entry)))) ⌝ }
-    ensures { λ _. ⌜ now (count .exit) ≡ told itself (fitCall (now (stationary .entry)) (now (orbiting .entry)) (at rx ry) (now (visited .entry)) tolerance (length (now (vectors .entry))) (length (now (sources .entry)))) (now (count .entry)) ⌝ }
-    ensures { λ _. ⌜ now (vectors .exit) ≡ fitRoom (now (stationary .entry)) (now (orbiting .entry)) (at rx ry) (now (visited .entry)) tolerance (now (vectors .entry)) (now (sources .entry)) ⌝ }
-    ensures { λ _. ⌜ now (sources .exit) ≡ fitSources (now (stationary .entry)) (now (orbiting .entry)) (at rx ry) (now (visited .entry)) tolerance (now (vectors .entry)) (now (sources .entry)) ⌝ }
+    ensures { λ r. ⌜ r ≡ returned (fitCall (now (stationary .entry)) (now (orbiting .entry)) (point rx ry) (now (visited .entry)) tolerance (length (now (vectors .entry))) (length (now (sources .entry)))) ⌝ }
+    ensures { λ _. ⌜ now (count .exit) ≡ told itself (fitCall (now (stationary .entry)) (now (orbiting .entry)) (point rx ry) (now (visited .entry)) tolerance (length (now (vectors .entry))) (length (now (sources .entry)))) (now (count .entry)) ⌝ }
+    ensures { λ _. ⌜ now (vectors .exit) ≡ fitRoom (now (stationary .entry)) (now (orbiting .entry)) (point rx ry) (now (visited .entry)) tolerance (now (vectors .entry)) (now (sources .entry)) ⌝ }
+    ensures { λ _. ⌜ now (sources .exit) ≡ fitSources (now (stationary .entry)) (now (orbiting .entry)) (point rx ry) (now (visited .entry)) tolerance (now (vectors .entry)) (now (sources .entry)) ⌝ }
 {
     let reference = Point { x: rx, y: ry };
     hand_count(
@@ -197,9 +198,9 @@ pub extern "C" fn byr_select_translation_vector(
     found: &mut u32,
     index: &mut u64,
 ) -> u32
-    ensures { λ r. ⌜ r ≡ returned (selectCall (now (vectors .entry)) (previousOf has px py) (at cx cy) (at x y)) ⌝ }
-    ensures { λ _. ⌜ now (found .exit) ≡ told isFound (selectCall (now (vectors .entry)) (previousOf has px py) (at cx cy) (at x y)) (now (found .entry)) ⌝ }
-    ensures { λ _. ⌜ now (index .exit) ≡ toldFound itself (selectCall (now (vectors .entry)) (previousOf has px py) (at cx cy) (at x y)) (now (index .entry)) ⌝ }
+    ensures { λ r. ⌜ r ≡ returned (selectCall (now (vectors .entry)) (previousOf has px py) (point cx cy) (point x y)) ⌝ }
+    ensures { λ _. ⌜ now (found .exit) ≡ told isFound (selectCall (now (vectors .entry)) (previousOf has px py) (point cx cy) (point x y)) (now (found .entry)) ⌝ }
+    ensures { λ _. ⌜ now (index .exit) ≡ toldFound itself (selectCall (now (vectors .entry)) (previousOf has px py) (point cx cy) (point x y)) (now (index .entry)) ⌝ }
 {
     let before = previous(has, px, py);
     let centroid = Point { x: cx, y: cy };
@@ -225,12 +226,12 @@ pub extern "C" fn byr_check_translation_collision(
     si: &mut u64,
     oi: &mut u64,
 ) -> u32
-    ensures { λ r. ⌜ r ≡ returned (collisionCall (now (stationary .entry)) (now (orbiting .entry)) (at dx dy) tolerance) ⌝ }
-    ensures { λ _. ⌜ now (found .exit) ≡ told isFound (collisionCall (now (stationary .entry)) (now (orbiting .entry)) (at dx dy) tolerance) (now (found .entry)) ⌝ }
-    ensures { λ _. ⌜ now (distance .exit) ≡ toldFound hitDistance (collisionCall (now (stationary .entry)) (now (orbiting .entry)) (at dx dy) tolerance) (now (distance .entry)) ⌝ }
-    ensures { λ _. ⌜ now (kind .exit) ≡ toldFound hitKind (collisionCall (now (stationary .entry)) (now (orbiting .entry)) (at dx dy) tolerance) (now (kind .entry)) ⌝ }
-    ensures { λ _. ⌜ now (si .exit) ≡ toldFound hitStationary (collisionCall (now (stationary .entry)) (now (orbiting .entry)) (at dx dy) tolerance) (now (si .entry)) ⌝ }
-    ensures { λ _. ⌜ now (oi .exit) ≡ toldFound hitOrbiting (collisionCall (now (stationary .entry)) (now (orbiting .entry)) (at dx dy) tolerance) (now (oi .entry)) ⌝ }
+    ensures { λ r. ⌜ r ≡ returned (collisionCall (now (stationary .entry)) (now (orbiting .entry)) (point dx dy) tolerance) ⌝ }
+    ensures { λ _. ⌜ now (found .exit) ≡ told isFound (collisionCall (now (stationary .entry)) (now (orbiting .entry)) (point dx dy) tolerance) (now (found .entry)) ⌝ }
+    ensures { λ _. ⌜ now (distance .exit) ≡ toldFound hitDistance (collisionCall (now (stationary .entry)) (now (orbiting .entry)) (point dx dy) tolerance) (now (distance .entry)) ⌝ }
+    ensures { λ _. ⌜ now (kind .exit) ≡ toldFound hitKind (collisionCall (now (stationary .entry)) (now (orbiting .entry)) (point dx dy) tolerance) (now (kind .entry)) ⌝ }
+    ensures { λ _. ⌜ now (si .exit) ≡ toldFound hitStationary (collisionCall (now (stationary .entry)) (now (orbiting .entry)) (point dx dy) tolerance) (now (si .entry)) ⌝ }
+    ensures { λ _. ⌜ now (oi .exit) ≡ toldFound hitOrbiting (collisionCall (now (stationary .entry)) (now (orbiting .entry)) (point dx dy) tolerance) (now (oi .entry)) ⌝ }
 {
     let translation = Point { x: dx, y: dy };
     let answer = collision::calls::check_translation_collision(
@@ -254,10 +255,10 @@ pub extern "C" fn byr_detect_interlocking_opportunity(
     tox: &mut f64,
     toy: &mut f64,
 ) -> u32
-    ensures { λ r. ⌜ r ≡ returned (interlockCall (now (stationary .entry)) (now (orbiting .entry)) (at x y) tolerance) ⌝ }
-    ensures { λ _. ⌜ now (found .exit) ≡ told isFound (interlockCall (now (stationary .entry)) (now (orbiting .entry)) (at x y) tolerance) (now (found .entry)) ⌝ }
-    ensures { λ _. ⌜ now (tox .exit) ≡ toldFound xOf (interlockCall (now (stationary .entry)) (now (orbiting .entry)) (at x y) tolerance) (now (tox .entry)) ⌝ }
-    ensures { λ _. ⌜ now (toy .exit) ≡ toldFound yOf (interlockCall (now (stationary .entry)) (now (orbiting .entry)) (at x y) tolerance) (now (toy .entry)) ⌝ }
+    ensures { λ r. ⌜ r ≡ returned (interlockCall (now (stationary .entry)) (now (orbiting .entry)) (point x y) tolerance) ⌝ }
+    ensures { λ _. ⌜ now (found .exit) ≡ told isFound (interlockCall (now (stationary .entry)) (now (orbiting .entry)) (point x y) tolerance) (now (found .entry)) ⌝ }
+    ensures { λ _. ⌜ now (tox .exit) ≡ toldFound xOf (interlockCall (now (stationary .entry)) (now (orbiting .entry)) (point x y) tolerance) (now (tox .entry)) ⌝ }
+    ensures { λ _. ⌜ now (toy .exit) ≡ toldFound yOf (interlockCall (now (stationary .entry)) (now (orbiting .entry)) (point x y) tolerance) (now (toy .entry)) ⌝ }
 {
     let current = Point { x, y };
     let answer = interlocking::calls::detect_interlocking_opportunity(
@@ -281,10 +282,10 @@ pub extern "C" fn byr_recover_contact(
     tox: &mut f64,
     toy: &mut f64,
 ) -> u32
-    ensures { λ r. ⌜ r ≡ returned (recoverCall (now (stationary .entry)) (now (orbiting .entry)) (at x y) tolerance) ⌝ }
-    ensures { λ _. ⌜ now (found .exit) ≡ told isFound (recoverCall (now (stationary .entry)) (now (orbiting .entry)) (at x y) tolerance) (now (found .entry)) ⌝ }
-    ensures { λ _. ⌜ now (tox .exit) ≡ toldFound xOf (recoverCall (now (stationary .entry)) (now (orbiting .entry)) (at x y) tolerance) (now (tox .entry)) ⌝ }
-    ensures { λ _. ⌜ now (toy .exit) ≡ toldFound yOf (recoverCall (now (stationary .entry)) (now (orbiting .entry)) (at x y) tolerance) (now (toy .entry)) ⌝ }
+    ensures { λ r. ⌜ r ≡ returned (recoverCall (now (stationary .entry)) (now (orbiting .entry)) (point x y) tolerance) ⌝ }
+    ensures { λ _. ⌜ now (found .exit) ≡ told isFound (recoverCall (now (stationary .entry)) (now (orbiting .entry)) (point x y) tolerance) (now (found .entry)) ⌝ }
+    ensures { λ _. ⌜ now (tox .exit) ≡ toldFound xOf (recoverCall (now (stationary .entry)) (now (orbiting .entry)) (point x y) tolerance) (now (tox .entry)) ⌝ }
+    ensures { λ _. ⌜ now (toy .exit) ≡ toldFound yOf (recoverCall (now (stationary .entry)) (now (orbiting .entry)) (point x y) tolerance) (now (toy .entry)) ⌝ }
 {
     let current = Point { x, y };
     let answer = recovery::calls::recover_contact(stationary, orbiting, current, tolerance);
