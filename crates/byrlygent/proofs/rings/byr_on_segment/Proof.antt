@@ -1,0 +1,19 @@
+-- `byrlygent::rings::byr_on_segment` meets its contract: the call's answer, handed over. Assumes nothing.
+use borrow.Author.Needs.{needs}
+use Rattle.byrlygent.proofs.rings.byr_on_segment.Statement.{statement}
+use Rattle.byrlygent.proofs.rings.byr_on_segment.Tie as tie
+
+on-segment-requires : tie.Need-on-segment-requires
+on-segment-requires c κs = search needs
+
+hand-truth-requires : tie.Need-hand-truth-requires
+hand-truth-requires c κs = search needs
+
+returns : tie.Need-returns
+returns c =
+    let e = c .before .before .on-segment .ensures in
+    let h = c .hand-truth .ensures in
+    (rw (← e) (h .0), rw (← e) (h .1))
+
+pub byr-on-segment-spec : {M : Type 1} → statement M
+byr-on-segment-spec = tie.close (tie.spec on-segment-requires hand-truth-requires returns)

@@ -1,0 +1,19 @@
+-- `byrlygent::rings::byr_signed_area2` meets its contract: the call's answer, handed over. Assumes nothing.
+use borrow.Author.Needs.{needs}
+use Rattle.byrlygent.proofs.rings.byr_signed_area2.Statement.{statement}
+use Rattle.byrlygent.proofs.rings.byr_signed_area2.Tie as tie
+
+signed-area2-requires : tie.Need-signed-area2-requires
+signed-area2-requires c κs = search needs
+
+hand-number-requires : tie.Need-hand-number-requires
+hand-number-requires c κs = search needs
+
+returns : tie.Need-returns
+returns c =
+    let e = c .before .before .signed-area2 .ensures in
+    let h = c .hand-number .ensures in
+    (rw (← e) (h .0), rw (← e) (h .1))
+
+pub byr-signed-area2-spec : {M : Type 1} → statement M
+byr-signed-area2-spec = tie.close (tie.spec signed-area2-requires hand-number-requires returns)

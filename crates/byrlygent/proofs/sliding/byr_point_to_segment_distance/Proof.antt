@@ -1,0 +1,20 @@
+-- `byrlygent::sliding::byr_point_to_segment_distance` meets its contract: the call's answer, handed over. Assumes nothing.
+use borrow.Author.Needs.{needs}
+use Rattle.byrlygent.proofs.sliding.byr_point_to_segment_distance.Statement.{statement}
+use Rattle.byrlygent.proofs.sliding.byr_point_to_segment_distance.Tie as tie
+
+point-to-segment-distance-requires : tie.Need-point-to-segment-distance-requires
+point-to-segment-distance-requires c κs = search needs
+
+hand-number-requires : tie.Need-hand-number-requires
+hand-number-requires c κs = search needs
+
+returns : tie.Need-returns
+returns c =
+    let e = c .before .before .point-to-segment-distance .ensures in
+    let h = c .hand-number .ensures in
+    (rw (← e) (h .0), rw (← e) (h .1))
+
+pub byr-point-to-segment-distance-spec : {M : Type 1} → statement M
+byr-point-to-segment-distance-spec =
+    tie.close (tie.spec point-to-segment-distance-requires hand-number-requires returns)

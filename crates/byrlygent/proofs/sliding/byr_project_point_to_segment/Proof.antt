@@ -1,0 +1,20 @@
+-- `byrlygent::sliding::byr_project_point_to_segment` meets its contract: the call's answer, handed over. Assumes nothing.
+use borrow.Author.Needs.{needs}
+use Rattle.byrlygent.proofs.sliding.byr_project_point_to_segment.Statement.{statement}
+use Rattle.byrlygent.proofs.sliding.byr_project_point_to_segment.Tie as tie
+
+project-point-to-segment-requires : tie.Need-project-point-to-segment-requires
+project-point-to-segment-requires c κs = search needs
+
+hand-number-requires : tie.Need-hand-number-requires
+hand-number-requires c κs = search needs
+
+returns : tie.Need-returns
+returns c =
+    let e = c .before .before .project-point-to-segment .ensures in
+    let h = c .hand-number .ensures in
+    (rw (← e) (h .0), rw (← e) (h .1))
+
+pub byr-project-point-to-segment-spec : {M : Type 1} → statement M
+byr-project-point-to-segment-spec =
+    tie.close (tie.spec project-point-to-segment-requires hand-number-requires returns)

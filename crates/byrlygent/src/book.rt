@@ -1,0 +1,49 @@
+// The outline book.
+use handed::value::hand_count;
+use handed::value::hand_count_or_place;
+ghost use mathlib.Core.Path.{_≡_};
+ghost use lib.ListN.{length};
+ghost use Rattle.book_layout.specs.Writer.{writeCall, writeRoom};
+ghost use Rattle.book_layout.specs.Reader.{readCall, readRoom, readCounts};
+ghost use Rattle.handed.specs.Handed.{returned, told, toldPlace, itself};
+
+// The book of the rings that the coordinates and the vertex counts are, at the front of the room: how many bytes it has.
+#[no_mangle]
+pub extern "C" fn byr_write_book(
+    coordinates: &[f64],
+    counts: &[u32],
+    room: &mut [u8],
+    bytes: &mut u64,
+) -> u32
+    ensures { λ r. ⌜ r ≡ returned (writeCall (now (coordinates .entry)) (now (counts .entry)) (length (now (room .entry)))) ⌝ }
+    ensures { λ _. ⌜ now (bytes .exit) ≡ told itself (writeCall (now (coordinates .entry)) (now (counts .entry)) (length (now (room .entry)))) (now (bytes .entry)) ⌝ }
+    ensures { λ _. ⌜ now (room .exit) ≡ writeRoom (now (coordinates .entry)) (now (counts .entry)) (now (room .entry)) ⌝ }
+{
+    hand_count(
+        book_writer::calls::write_book(coordinates, counts, room),
+        bytes,
+    )
+}
+
+// The rings of a book as stored, in the room for coordinates, and their vertex counts in the room for counts: how many rings there are, or the place of the
+// first fault.
+#[no_mangle]
+pub extern "C" fn byr_read_book(
+    book: &[u8],
+    coordinates: &mut [f64],
+    counts: &mut [u32],
+    rings: &mut u64,
+    place: &mut u64,
+) -> u32
+    ensures { λ r. ⌜ r ≡ returned (readCall (now (book .entry)) (length (now (coordinates .entry))) (length (now (counts .entry)))) ⌝ }
+    ensures { λ _. ⌜ now (rings .exit) ≡ told itself (readCall (now (book .entry)) (length (now (coordinates .entry))) (length (now (counts .entry)))) (now (rings .entry)) ⌝ }
+    ensures { λ _. ⌜ now (place .exit) ≡ toldPlace (readCall (now (book .entry)) (length (now (coordinates .entry))) (length (now (counts .entry)))) (now (place .entry)) ⌝ }
+    ensures { λ _. ⌜ now (coordinates .exit) ≡ readRoom (now (book .entry)) (now (coordinates .entry)) (length (now (counts .entry))) ⌝ }
+    ensures { λ _. ⌜ now (counts .exit) ≡ readCounts (now (book .entry)) (length (now (coordinates .entry))) (now (counts .entry)) ⌝ }
+{
+    hand_count_or_place(
+        book_reader::calls::read_book(book, coordinates, counts),
+        rings,
+        place,
+    )
+}

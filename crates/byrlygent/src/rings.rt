@@ -1,0 +1,157 @@
+// Segments and rings: the calls of `polygon_ops.rs` and `robust.rs`.
+use handed::value::hand_count;
+use handed::value::hand_number;
+use handed::value::hand_truth;
+use handed::value::hand_turn;
+use plane::Point;
+ghost use mathlib.Core.Path.{_≡_};
+ghost use lib.ListN.{length};
+ghost use Rattle.plane.specs.Vector.{point};
+ghost use Rattle.handed.specs.Handed.{returned, told, itself, flag};
+ghost use Rattle.segments.specs.Calls.{orientationCall, onSegmentCall, intersectCall};
+ghost use Rattle.ring_copies.specs.Calls.{mirrorCall, mirrorRoom, openCall, openRoom};
+ghost use Rattle.simple_polygon.specs.Calls.{isSimpleCall};
+ghost use Rattle.ring_distance.specs.Calls.{segmentDistanceCall, ringDistanceCall};
+ghost use Rattle.signed_area.specs.Calls.{area2Call, robustCall};
+
+// The turn of a, b, c: 1 counter-clockwise, -1 clockwise, 0 collinear.
+#[no_mangle]
+pub extern "C" fn byr_orientation(
+    ax: f64,
+    ay: f64,
+    bx: f64,
+    by: f64,
+    cx: f64,
+    cy: f64,
+    turn: &mut i32,
+) -> u32
+    ensures { λ r. ⌜ r ≡ returned (orientationCall (point ax ay) (point bx by) (point cx cy)) ⌝ }
+    ensures { λ _. ⌜ now (turn .exit) ≡ told itself (orientationCall (point ax ay) (point bx by) (point cx cy)) (now (turn .entry)) ⌝ }
+{
+    let a = Point { x: ax, y: ay };
+    let b = Point { x: bx, y: by };
+    let c = Point { x: cx, y: cy };
+    hand_turn(segments::calls::orientation(a, b, c), turn)
+}
+
+// Whether p, known to be collinear with the segment a b, lies on it.
+#[no_mangle]
+pub extern "C" fn byr_on_segment(
+    ax: f64,
+    ay: f64,
+    bx: f64,
+    by: f64,
+    px: f64,
+    py: f64,
+    on: &mut u32,
+) -> u32
+    ensures { λ r. ⌜ r ≡ returned (onSegmentCall (point ax ay) (point bx by) (point px py)) ⌝ }
+    ensures { λ _. ⌜ now (on .exit) ≡ told flag (onSegmentCall (point ax ay) (point bx by) (point px py)) (now (on .entry)) ⌝ }
+{
+    let a = Point { x: ax, y: ay };
+    let b = Point { x: bx, y: by };
+    let p = Point { x: px, y: py };
+    hand_truth(segments::calls::on_segment(a, b, p), on)
+}
+
+// Whether the closed segments 1 2 and 3 4 meet.
+#[no_mangle]
+pub extern "C" fn byr_segments_intersect(
+    x1: f64,
+    y1: f64,
+    x2: f64,
+    y2: f64,
+    x3: f64,
+    y3: f64,
+    x4: f64,
+    y4: f64,
+    meet: &mut u32,
+) -> u32
+    ensures { λ r. ⌜ r ≡ returned (intersectCall (point x1 y1) (point x2 y2) (point x3 y3) (point x4 y4)) ⌝ }
+    ensures { λ _. ⌜ now (meet .exit) ≡ told flag (intersectCall (point x1 y1) (point x2 y2) (point x3 y3) (point x4 y4)) (now (meet .entry)) ⌝ }
+{
+    let p1 = Point { x: x1, y: y1 };
+    let p2 = Point { x: x2, y: y2 };
+    let p3 = Point { x: x3, y: y3 };
+    let p4 = Point { x: x4, y: y4 };
+    hand_truth(segments::calls::segments_intersect(p1, p2, p3, p4), meet)
+}
+
+// The distance of p from the segment a b.
+#[no_mangle]
+pub extern "C" fn byr_point_segment_distance(
+    px: f64,
+    py: f64,
+    ax: f64,
+    ay: f64,
+    bx: f64,
+    by: f64,
+    distance: &mut f64,
+) -> u32
+    ensures { λ r. ⌜ r ≡ returned (segmentDistanceCall (point px py) (point ax ay) (point bx by)) ⌝ }
+    ensures { λ _. ⌜ now (distance .exit) ≡ told itself (segmentDistanceCall (point px py) (point ax ay) (point bx by)) (now (distance .entry)) ⌝ }
+{
+    let p = Point { x: px, y: py };
+    let a = Point { x: ax, y: ay };
+    let b = Point { x: bx, y: by };
+    hand_number(
+        ring_distance::calls::point_segment_distance(p, a, b),
+        distance,
+    )
+}
+
+// The ring mirrored in the y axis, its order reversed, in the room: how many vertices it has.
+#[no_mangle]
+pub extern "C" fn byr_mirror_polygon(ring: &[f64], room: &mut [f64], vertices: &mut u64) -> u32
+    ensures { λ r. ⌜ r ≡ returned (mirrorCall (now (ring .entry)) (length (now (room .entry)))) ⌝ }
+    ensures { λ _. ⌜ now (vertices .exit) ≡ told itself (mirrorCall (now (ring .entry)) (length (now (room .entry)))) (now (vertices .entry)) ⌝ }
+    ensures { λ _. ⌜ now (room .exit) ≡ mirrorRoom (now (ring .entry)) (now (room .entry)) ⌝ }
+{
+    hand_count(ring_copies::calls::mirror_polygon(ring, room), vertices)
+}
+
+// The ring without its closing repeat, in the room: how many vertices it has.
+#[no_mangle]
+pub extern "C" fn byr_open_ring(ring: &[f64], room: &mut [f64], vertices: &mut u64) -> u32
+    ensures { λ r. ⌜ r ≡ returned (openCall (now (ring .entry)) (length (now (room .entry)))) ⌝ }
+    ensures { λ _. ⌜ now (vertices .exit) ≡ told itself (openCall (now (ring .entry)) (length (now (room .entry)))) (now (vertices .entry)) ⌝ }
+    ensures { λ _. ⌜ now (room .exit) ≡ openRoom (now (ring .entry)) (now (room .entry)) ⌝ }
+{
+    hand_count(ring_copies::calls::open_ring(ring, room), vertices)
+}
+
+// Whether a ring is simple. Fewer than three vertices are not.
+#[no_mangle]
+pub extern "C" fn byr_is_simple_polygon(ring: &[f64], simple: &mut u32) -> u32
+    ensures { λ r. ⌜ r ≡ returned (isSimpleCall (now (ring .entry))) ⌝ }
+    ensures { λ _. ⌜ now (simple .exit) ≡ told flag (isSimpleCall (now (ring .entry))) (now (simple .entry)) ⌝ }
+{
+    hand_truth(simple_polygon::calls::is_simple_polygon(ring), simple)
+}
+
+// The shortest distance between the edges of two rings, +infinity where one has no vertex.
+#[no_mangle]
+pub extern "C" fn byr_ring_distance(a: &[f64], b: &[f64], distance: &mut f64) -> u32
+    ensures { λ r. ⌜ r ≡ returned (ringDistanceCall (now (a .entry)) (now (b .entry))) ⌝ }
+    ensures { λ _. ⌜ now (distance .exit) ≡ told itself (ringDistanceCall (now (a .entry)) (now (b .entry))) (now (distance .entry)) ⌝ }
+{
+    hand_number(ring_distance::calls::ring_distance(a, b), distance)
+}
+
+// Twice the signed area of a ring: above 0 where its order is counter-clockwise.
+#[no_mangle]
+pub extern "C" fn byr_signed_area2(ring: &[f64], area2: &mut f64) -> u32
+    ensures { λ r. ⌜ r ≡ returned (area2Call (now (ring .entry))) ⌝ }
+    ensures { λ _. ⌜ now (area2 .exit) ≡ told itself (area2Call (now (ring .entry))) (now (area2 .entry)) ⌝ }
+{
+    hand_number(signed_area::calls::signed_area2(ring), area2)
+}
+
+// The signed area of a ring by a compensated sum, 0.0 below three vertices.
+#[no_mangle]
+pub extern "C" fn byr_signed_area_robust(ring: &[f64], area: &mut f64) -> u32
+    ensures { λ r. ⌜ r ≡ returned (robustCall (now (ring .entry))) ⌝ }
+    ensures { λ _. ⌜ now (area .exit) ≡ told itself (robustCall (now (ring .entry))) (now (area .entry)) ⌝ }
+{
+    hand_number(signed_area::calls::signed_area_robust(ring), area)
+}

@@ -1,0 +1,65 @@
+-- What an exported function returns and what the cells behind its pointers hold afterwards, by the outcome of the call that it makes. Definitions only.
+use Prim.Native.Nat.{ℕ}
+use mathlib.Core.Bool.{Bool, cond}
+use mathlib.Core.Option.{Option, none, some}
+use lib.Dec.{eqb}
+use lib.Ieee.{Float}
+use Rattle.plane.specs.declared.Point.{Point}
+use Rattle.collision.specs.Calls.{Values}
+use Rattle.refusals.specs.Answers.{Outcome, answers, refuses}
+use Rattle.refusals.specs.Refusals as refusal
+use Rattle.book_layout.specs.Faults.{faultAt}
+
+-- the number of no refusal where the call answers, and else the refusal's
+unfoldable pub returned : {A : Type 0} → Outcome A → ℕ
+returned (answers a) = refusal.none .number
+returned (refuses r) = r .number
+
+-- a cell: what is said of the answer, and on a refusal what it held
+unfoldable pub told : {A B : Type 0} → (A → B) → Outcome A → B → B
+told say (answers a) held = say a
+told say (refuses r) held = held
+
+-- a cell for what was found: where nothing was, what it held
+unfoldable pub toldFound : {A B : Type 0} → (A → B) → Outcome (Option A) → B → B
+toldFound say (answers none) held = held
+toldFound say (answers (some a)) held = say a
+toldFound say (refuses r) held = held
+
+-- a cell for the place of a book's first fault
+unfoldable pub toldPlace : {A : Type 0} → Outcome A → ℕ → ℕ
+toldPlace (answers a) held = held
+toldPlace (refuses r) held = cond (eqb (r .number) (faultAt 0 .number)) (r .place) held
+
+-- an answer as it is
+abbrev pub itself : {A : Type 0} → A → A
+itself a = a
+
+-- 1 for true, 0 for false
+abbrev pub flag : Bool → ℕ
+flag b = cond b 1 0
+
+-- 1 where something was found, 0 where nothing was
+unfoldable pub isFound : {A : Type 0} → Option A → ℕ
+isFound none = 0
+isFound (some a) = 1
+
+-- a point's coordinates
+abbrev pub xOf : Point → Float
+xOf p = p .x
+
+abbrev pub yOf : Point → Float
+yOf p = p .y
+
+-- a hit's values
+abbrev pub hitDistance : Values → Float
+hitDistance v = v .distance
+
+abbrev pub hitKind : Values → ℕ
+hitKind v = v .kind
+
+abbrev pub hitStationary : Values → ℕ
+hitStationary v = v .stationary
+
+abbrev pub hitOrbiting : Values → ℕ
+hitOrbiting v = v .orbiting
