@@ -69,8 +69,8 @@ pub fn hand_count(answer: Count, out: &mut u64) -> u32
     ensures { λ r. ⌜ (r ≡ returned (count answer)) × (now (out .exit) ≡ told itself (count answer) (now (out .entry))) ⌝ }
 {
     match answer {
-        Count::Is(x) => {
-            *out = x as u64;
+        Count::Is(n) => {
+            *out = n as u64;
             0
         }
         Count::Refused(no) => no.number,
@@ -82,8 +82,8 @@ pub fn hand_count_or_place(answer: Count, out: &mut u64, place: &mut u64) -> u32
     ensures { λ r. ⌜ (r ≡ returned (count answer)) × (now (out .exit) ≡ told itself (count answer) (now (out .entry))) × (now (place .exit) ≡ toldPlace (count answer) (now (place .entry))) ⌝ }
 {
     match answer {
-        Count::Is(x) => {
-            *out = x as u64;
+        Count::Is(rings) => {
+            *out = rings as u64;
             0
         }
         Count::Refused(no) => {
