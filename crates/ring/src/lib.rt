@@ -20,5 +20,5 @@ pub fn next(i: usize, n: usize) -> usize
     requires { ⌜ i < n ⌝ }
     ensures { λ r. ⌜ (r ≡ nextOf i n) × (r < n) ⌝ }
 {
-    (i + 1) % n
+    if i + 1 < n { i + 1 } else { 0 }
 }
