@@ -46,14 +46,14 @@ pub enum Step {
 }
 
 // The vector turned round.
-fn opposite(v: Point) -> Point
+pub fn opposite(v: Point) -> Point
     ensures { λ r. ⌜ r ≡ oppositeOf v ⌝ }
 {
     Point { x: -v.x, y: -v.y }
 }
 
 // The unit vector from a to b.
-fn direction(a: Point, b: Point) -> Point
+pub fn direction(a: Point, b: Point) -> Point
     ensures { λ r. ⌜ r ≡ directionOf a b ⌝ }
 {
     normalize(minus(b, a))

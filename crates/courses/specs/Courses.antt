@@ -1,0 +1,19 @@
+-- The vector that a course is. Definitions only.
+use Prim.Native.Nat.{ℕ}
+use mathlib.Core.Bool.{cond}
+use lib.Dec.{eqb}
+use Rattle.plane.specs.Vector.{lengthOf}
+use Rattle.plane.specs.declared.Point.{Point}
+use Rattle.contacts.specs.declared.Edges.{Edges}
+use Rattle.translation_vectors.specs.Vectors.{vector, directionOf}
+use Rattle.translation_vectors.specs.declared.TranslationVector.{TranslationVector}
+use Rattle.courses.specs.declared.Course.{Course}
+use Rattle.courses.specs.declared.Course.the-variants.{Over, For}
+
+unfoldable pub vectorIs : Course → TranslationVector
+vectorIs (Over dir gap) = vector dir (lengthOf gap)
+vectorIs (For dir far) = vector dir far
+
+-- along the orbiting edge of kind 1, and else along the stationary one
+unfoldable pub alongBy : ℕ → Edges → Point
+alongBy kd e = cond (eqb kd 1) (directionOf (e .c) (e .d)) (directionOf (e .a) (e .b))

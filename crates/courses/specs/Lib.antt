@@ -1,0 +1,2 @@
+-- The definitions that the contracts of courses cite.
+pub mod Courses
