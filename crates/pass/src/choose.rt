@@ -1,18 +1,32 @@
 // The vector to slide along: of those that lead to no visited position the first with the greatest score.
+use contacts::Edges;
+use contacts::Next;
+use contacts::edges_of;
+use contacts::next_contact;
+use courses::Course;
+use courses::along_by;
+use courses::course_by;
+use courses::direction_of;
+use courses::is_below;
+use courses::reach;
+use courses::to_vector;
+use pairs::pair_at;
 use plane::Point;
+use plane::vector::dot;
 use selection::Previous;
-use selection::score;
+use selection::continued;
 use selection::start;
-use translation_vectors::Place;
-use translation_vectors::Step;
 use translation_vectors::TranslationVector;
-use translation_vectors::fit::next_kept;
+use translation_vectors::fit::is_visited;
 ghost use mathlib.Core.Path.{_≡_};
+ghost use Prim.Native.Nat.{_<_};
 ghost use Rattle.ring.specs.Ring.{count};
-ghost use Rattle.pairs.specs.Pairs.{Sides};
-ghost use Rattle.translation_vectors.specs.Places.{Ready, leftAt, keptLeft};
-ghost use Rattle.translation_vectors.specs.Fit.{fitOf};
-ghost use Rattle.pass.specs.Choose.{betterOf, climbOf, choiceOf};
+ghost use Rattle.pairs.specs.Pairs.{Sides, pairCount};
+ghost use Rattle.translation_vectors.specs.Vectors.{vectorBy, vectorOf};
+ghost use Rattle.translation_vectors.specs.Fit.{keeps, fitOf};
+ghost use Rattle.selection.specs.Score.{scoreOf};
+ghost use Rattle.courses.specs.Courses.{vectorIs};
+ghost use Rattle.pass.specs.Choose.{standing, raised, weighOf, unset, climbOf, choiceOf};
 
 // A vector, or nothing.
 pub enum Choice {
@@ -20,25 +34,119 @@ pub enum Choice {
     Vector(TranslationVector),
 }
 
-// A vector and its score.
+// The best vector so far and its score; where none is found yet, -infinity.
 pub struct Best {
+    pub found: bool,
     pub score: f64,
-    pub vector: TranslationVector,
+    pub course: Course,
 }
 
-// Of the best so far and a new vector: only a strictly greater score replaces.
-fn better(best: Best, vector: TranslationVector, previous: Previous, ccw: Point) -> Best
-    ensures { λ r. ⌜ r ≡ betterOf previous ccw best vector ⌝ }
+// Whether a vector leads to no visited position.
+fn is_kept(course: Course, from: Point, visited: &[f64], tol: f64) -> bool
+    ensures { λ r. ⌜ r ≡ keeps from (now (visited .entry)) tol (vectorIs course) ⌝ }
 {
-    let s = score(vector, previous, ccw);
+    let dir = direction_of(course);
+    let far = reach(course);
+    let at = Point {
+        x: from.x + dir.x * far,
+        y: from.y + dir.y * far,
+    };
+    !is_visited(at, visited, tol)
+}
+
+// The score of a vector.
+fn score(course: Course, previous: Previous, ccw: Point) -> f64
+    ensures { λ r. ⌜ r ≡ scoreOf (vectorIs course) previous ccw ⌝ }
+{
+    let dir = direction_of(course);
+    let s = continued(dot(dir, ccw), dir, previous);
+    if is_below(course, 1e-6) { s - 100.0 } else { s }
+}
+
+// Of the best so far and a new vector: only a strictly greater score replaces, but the first is always taken.
+fn raise(best: Best, course: Course, previous: Previous, ccw: Point) -> Best
+    ensures { λ r. ⌜ standing r ≡ raised previous ccw (standing best) (vectorIs course) ⌝ }
+{
+    let s = score(course, previous, ccw);
     if s > best.score {
-        Best { score: s, vector }
+        return Best {
+            found: true,
+            score: s,
+            course,
+        };
+    }
+    if best.found {
+        best
+    } else {
+        Best {
+            found: true,
+            score: best.score,
+            course,
+        }
+    }
+}
+
+// The same, where the vector leads to no visited position.
+fn weigh(
+    best: Best,
+    course: Course,
+    from: Point,
+    visited: &[f64],
+    tol: f64,
+    previous: Previous,
+    ccw: Point,
+) -> Best
+    ensures { λ r. ⌜ standing r ≡ weighOf (keeps from (now (visited .entry)) tol) previous ccw (standing best) (vectorIs course) ⌝ }
+{
+    if is_kept(course, from, visited, tol) {
+        raise(best, course, previous, ccw)
     } else {
         best
     }
 }
 
-// The best so far, and the vectors left from a place on.
+// Both vectors of a contact with these edges.
+fn weigh_both(
+    best: Best,
+    kind: u8,
+    e: Edges,
+    from: Point,
+    visited: &[f64],
+    tol: f64,
+    previous: Previous,
+    ccw: Point,
+) -> Best
+    ensures { λ r. ⌜ standing r ≡ weighOf (keeps from (now (visited .entry)) tol) previous ccw (weighOf (keeps from (now (visited .entry)) tol) previous ccw (standing best) (vectorBy kind e 0)) (vectorBy kind e 1) ⌝ }
+{
+    let along = along_by(kind, e);
+    let one = course_by(kind, e, along, 0);
+    let first = weigh(best, one, from, visited, tol, previous, ccw);
+    let two = course_by(kind, e, along, 1);
+    weigh(first, two, from, visited, tol, previous, ccw)
+}
+
+// Both vectors of the contact with the pair number k.
+fn weigh_contact(
+    stationary: &[f64],
+    orbiting: &[f64],
+    k: usize,
+    best: Best,
+    from: Point,
+    visited: &[f64],
+    tol: f64,
+    previous: Previous,
+    ccw: Point,
+) -> Best
+    requires { ⌜ Sides (count (now stationary)) (count (now orbiting)) ⌝ }
+    requires { ⌜ k < pairCount (count (now stationary)) (count (now orbiting)) ⌝ }
+    ensures { λ r. ⌜ standing r ≡ weighOf (keeps from (now (visited .entry)) tol) previous ccw (weighOf (keeps from (now (visited .entry)) tol) previous ccw (standing best) (vectorOf (now (stationary .entry)) (now (orbiting .entry)) k 0)) (vectorOf (now (stationary .entry)) (now (orbiting .entry)) k 1) ⌝ }
+{
+    let pair = pair_at(k, stationary.len() / 2, orbiting.len() / 2);
+    let e = edges_of(stationary, orbiting, pair);
+    weigh_both(best, pair.kind, e, from, visited, tol, previous, ccw)
+}
+
+// The best of all vectors.
 fn climb(
     stationary: &[f64],
     orbiting: &[f64],
@@ -47,25 +155,35 @@ fn climb(
     visited: &[f64],
     previous: Previous,
     ccw: Point,
-    place: Place,
-    begun: Best,
 ) -> Best
     requires { ⌜ Sides (count (now stationary)) (count (now orbiting)) ⌝ }
-    requires { ⌜ Ready (now stationary) (now orbiting) place ⌝ }
-    ensures { λ r. ⌜ r ≡ climbOf previous ccw begun (keptLeft from (now (visited .entry)) tol (leftAt (now (stationary .entry)) (now (orbiting .entry)) tol place)) ⌝ }
+    ensures { λ r. ⌜ standing r ≡ climbOf previous ccw unset (fitOf (now (stationary .entry)) (now (orbiting .entry)) from (now (visited .entry)) tol) ⌝ }
 {
-    let mut at = place;
-    let mut best = begun;
+    let mut best = Best {
+        found: false,
+        score: start().score,
+        course: Course::For {
+            direction: Point { x: 0.0, y: 0.0 },
+            distance: 0.0,
+        },
+    };
+    let mut k = 0;
     loop {
-        match next_kept(stationary, orbiting, tol, from, visited, at) {
-            Step::End => return best,
-            Step::Vector {
-                vector,
-                source: _,
-                rest,
-            } => {
-                best = better(best, vector, previous, ccw);
-                at = rest;
+        match next_contact(stationary, orbiting, tol, k) {
+            Next::Nothing => return best,
+            Next::At(j) => {
+                best = weigh_contact(
+                    stationary,
+                    orbiting,
+                    j,
+                    best,
+                    from,
+                    visited,
+                    tol,
+                    previous,
+                    ccw,
+                );
+                k = j + 1;
             }
         }
     }
@@ -84,36 +202,11 @@ pub fn choose(
     requires { ⌜ Sides (count (now stationary)) (count (now orbiting)) ⌝ }
     ensures { λ r. ⌜ r ≡ choiceOf (fitOf (now (stationary .entry)) (now (orbiting .entry)) from (now (visited .entry)) tol) previous ccw ⌝ }
 {
-    let front = Place {
-        contact: 0,
-        side: 0,
-        source: 0,
-    };
-    match next_kept(stationary, orbiting, tol, from, visited, front) {
-        Step::End => Choice::Nothing,
-        Step::Vector {
-            vector,
-            source: _,
-            rest,
-        } => {
-            let first = Best {
-                score: start().score,
-                vector,
-            };
-            let second = better(first, vector, previous, ccw);
-            let best = climb(
-                stationary,
-                orbiting,
-                tol,
-                from,
-                visited,
-                previous,
-                ccw,
-                rest,
-                second,
-            );
-            let chosen = best.vector;
-            Choice::Vector(chosen)
-        }
+    let best = climb(stationary, orbiting, tol, from, visited, previous, ccw);
+    if best.found {
+        let course = best.course;
+        Choice::Vector(to_vector(course))
+    } else {
+        Choice::Nothing
     }
 }

@@ -37,7 +37,7 @@ pub fn preferred(centroid: Point, position: Point) -> Point
 }
 
 // A score with the bonus for going on as before.
-fn continued(score: f64, direction: Point, previous: Previous) -> f64
+pub fn continued(score: f64, direction: Point, previous: Previous) -> f64
     ensures { λ r. ⌜ r ≡ continuedOf score direction previous ⌝ }
 {
     if let Previous::Direction(before) = previous {

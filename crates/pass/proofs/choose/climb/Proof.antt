@@ -1,31 +1,35 @@
--- `pass::choose::climb` meets its contract: `proofs/Climb.antt` has the invariant; the measure is how far the end is. Assumes nothing.
+-- `pass::choose::climb` meets its contract: `proofs/Climb.antt` has the invariant; the measure is what is left of the pairs. Assumes nothing.
+use native.Mathlib.Omega.{arith}
 use borrow.Author.Needs.{needs}
-use Prim.Native.Nat.{_*_, _-_}
-use Rattle.pass.proofs.Climb.{Climbing, begin, up, top}
+use Prim.Native.Nat.{_-_}
+use mathlib.Core.Path.{refl}
 use Rattle.ring.specs.Ring.{count}
 use Rattle.pairs.specs.Pairs.{pairCount}
-use Rattle.translation_vectors.specs.Vectors.{sourced}
-use Rattle.translation_vectors.specs.Fit.{kept, keeps}
-use Rattle.translation_vectors.specs.Places.{Behind, far}
-use Rattle.translation_vectors.proofs.Steps.{nearer}
+use Rattle.pairs.proofs.Numbers.{most}
+use Rattle.contacts.proofs.Counting.{next-at, next-none}
+use Rattle.translation_vectors.specs.Fit.{keeps}
+use Rattle.selection.specs.Select.{startOf}
+use Rattle.courses.specs.Courses.{vectorIs}
+use Rattle.pass.specs.Choose.{standing, unset}
+use Rattle.pass.proofs.Climb.{Climbing, at-first, up, top}
 use Rattle.pass.proofs.choose.climb.Statement.{statement}
 use Rattle.pass.proofs.choose.climb.Tie as tie
 
 abbrev Inv-loop : tie.InvT-loop
-Inv-loop stationary orbiting tol from visited previous ccw at₀ best₀ at best = Climbing stationary orbiting tol (keeps from visited tol) previous ccw at₀ best₀ at best
+Inv-loop stationary orbiting tol from visited previous ccw best₀ k₀ best k = Climbing stationary orbiting tol (keeps from visited tol) previous ccw (standing best) k
 
 abbrev μ-loop : tie.MeasureT-loop
-μ-loop stationary orbiting tol from visited previous ccw at₀ best₀ at best = 2 * pairCount (count stationary) (count orbiting) - far at
+μ-loop stationary orbiting tol from visited previous ccw best₀ k₀ best k = pairCount (count stationary) (count orbiting) - k
 
--- the vector found
-behind : (c : tie.After-known-told Inv-loop μ-loop) → Behind (c .before .before .before .before .before .before .before .before .args .stationary .now) (c .before .before .before .before .before .before .before .before .args .orbiting .now) (c .before .before .before .before .before .before .before .before .args .tol) (kept (keeps (c .before .before .before .before .before .before .before .before .args .from) (c .before .before .before .before .before .before .before .before .args .visited .now) (c .before .before .before .before .before .before .before .before .args .tol))) (c .before .before .before .before .loop .at) (sourced (c .before .vector .given .0 .0) (c .before .vector .given .0 .1 .0)) (c .before .vector .given .0 .1 .1 .0)
-behind c = rw (c .before .vector .given .1) at (c .before .before .before .next-kept .ensures)
+start-requires : tie.Need-start-requires Inv-loop μ-loop
+start-requires c κs = search needs
 
 loop-holds : tie.Need-loop-holds Inv-loop μ-loop
-loop-holds c = begin _ _ _ _ _ _ _ _ (c .before .before .before .pre .1)
+unfolding unset vectorIs startOf
+loop-holds c = at-first _ _ _ _ _ _ (rw (c .start .ensures) refl)
 
-next-kept-requires : tie.Need-next-kept-requires Inv-loop μ-loop
-next-kept-requires c κs = (c .before .before .before .before .pre .0, c .loop .inv .ready)
+next-contact-requires : tie.Need-next-contact-requires Inv-loop μ-loop
+next-contact-requires c κs = (c .before .before .before .before .before .pre, c .loop .inv .most)
 
 enum-told : tie.Need-enum-told Inv-loop μ-loop
 enum-told c = search needs
@@ -33,19 +37,31 @@ enum-told c = search needs
 returns : tie.Need-returns Inv-loop μ-loop
 returns c =
     let n = c .before .before in
-    top _ _ _ _ _ _ _ _ (n .before .loop .inv) (rw (c .enum-told .given .1) at (n .next-kept .ensures))
+    top _ _ _ _ _ _ (n .before .loop .inv) (next-none _ _ _ _ (n .next-contact .ensures) (c .enum-told .given .1))
 
-enum-known-vector : tie.Need-enum-known-vector Inv-loop μ-loop
-enum-known-vector c = search needs
+enum-known-j : tie.Need-enum-known-j Inv-loop μ-loop
+enum-known-j c = search needs
 
-better-requires : tie.Need-better-requires Inv-loop μ-loop
-better-requires c κs = search needs
+weigh-contact-requires : tie.Need-weigh-contact-requires Inv-loop μ-loop
+weigh-contact-requires c κs =
+    let n = c .before .before .before in
+    (c .before .before .before .before .before .before .before .before .before .pre, next-at _ _ _ (n .next-contact .ensures) (c .before .j .given .1) .below)
+
+add-k : tie.Need-add-k Inv-loop μ-loop
+add-k c =
+    let n = c .before .before .before .before in
+    omega (arith, next-at _ _ _ (n .next-contact .ensures) (c .before .before .j .given .1) .below, most _ _ (c .before .before .before .before .before .before .before .before .before .before .pre))
 
 loop-less : tie.Need-loop-less Inv-loop μ-loop
-loop-less c = nearer _ _ (behind (c .before))
+loop-less c =
+    let n = c .before .before .before .before in
+    let f = next-at _ _ _ (n .next-contact .ensures) (c .before .before .j .given .1) in
+    omega (arith, f .below, f .least)
 
 loop-again : tie.Need-loop-again Inv-loop μ-loop
-loop-again c = up _ _ _ _ _ _ _ _ (c .before .before .before .before .before .loop .inv) (behind (c .before)) (c .better .ensures)
+loop-again c =
+    let n = c .before .before .before .before in
+    up _ _ _ _ _ _ (n .before .loop .inv) (next-at _ _ _ (n .next-contact .ensures) (c .before .before .j .given .1)) (c .weigh-contact .ensures)
 
 pub climb-spec : {M : Type 1} → statement M
 climb-spec =
@@ -53,11 +69,13 @@ climb-spec =
     (tie.spec
     Inv-loop
     μ-loop
+    start-requires
     loop-holds
-    next-kept-requires
+    next-contact-requires
     enum-told
     returns
-    enum-known-vector
-    better-requires
+    enum-known-j
+    weigh-contact-requires
+    add-k
     loop-less
     loop-again)
