@@ -10,14 +10,15 @@ use lib.Ieee.{Float}
 use borrow.Author.Tests.{lt-ltb, le-ltb}
 use Rattle.plane.specs.declared.Point.{Point}
 use Rattle.contacts.specs.Contacts.{contactsOf}
-use Rattle.translation_vectors.specs.Fit.{fitOf}
+use Rattle.translation_vectors.specs.Fit.{kept, fitOf}
+use Rattle.translation_vectors.specs.Vectors.{vectorsFrom}
 use Rattle.selection.specs.Score.{preferredOf}
 use Rattle.ring.specs.Ring.{count}
 use Rattle.ring.specs.Room.{laid}
 use Rattle.pairs.specs.Pairs.{Sides}
 use Rattle.moved.specs.Moved.{movedOf}
 use Rattle.moved.proofs.Moved.{moved-front, moved-count}
-use Rattle.pass.specs.Choose.{choiceOf}
+use Rattle.pass.specs.Choose.{vectorNo, choiceOf}
 use Rattle.pass.specs.Slide.{slideOf}
 use Rattle.pass.specs.Pass.{Scene, regainOf, unstickOf, chosen, ifNone, passAt}
 use Rattle.pass.specs.declared.Pose.{Pose}
@@ -54,9 +55,23 @@ module _ (s : Scene) (moved path : List Float) (pose : Pose) where
     unfolding chosen
     stuck e h = by (rw (e, h))
 
-    pub slides : {r : Step} {w : TranslationVector} → v ≡ Vector w → r ≡ slideOf (s .stationary) moved (s .settings) (s .start) path pose w → r ≡ passAt s moved path pose
+    slides-there : {r : Step} {w : TranslationVector} → v ≡ Vector w → r ≡ slideOf (s .stationary) moved (s .settings) (s .start) path pose w → r ≡ passAt s moved path pose
     unfolding chosen
-    slides e h = by (rw (e, h))
+    slides-there e h = by (rw (e, h))
+
+  -- a vector is that of a contact
+  no-contact : (ccw : Point) → contactsOf (s .stationary) moved tol ≡ [] → choiceOf (fitOf (s .stationary) moved (pose .position) path tol) (pose .previous) ccw ≡ Nothing
+  unfolding kept vectorsFrom choiceOf vectorNo
+  no-contact ccw e = rw e refl
+
+  pub slides : {ccw : Point} {v : Choice} {r : Step} {w : TranslationVector} → ccw ≡ preferredOf (s .centroid) (pose .position)
+      → v ≡ choiceOf (fitOf (s .stationary) moved (pose .position) path tol) (pose .previous) ccw → v ≡ Vector w
+      → r ≡ slideOf (s .stationary) moved (s .settings) (s .start) path pose w → r ≡ passAt s moved path pose
+  slides {ccw} {v} {r} {w} p q e h = go (contactsOf (s .stationary) moved tol) refl
+    where
+      go : (l : List ℕ) → contactsOf (s .stationary) moved tol ≡ l → r ≡ passAt s moved path pose
+      go [] t = absurd (let z : Nothing ≡ Vector w = sym (no-contact ccw t) ∙ sym q ∙ e in let y : _≡_ {A = ℕ} 0 1 = cc in omega arith)
+      go (k ∷ ks) t = slides-there t p q e h
 
 -- the front of the array that the orbiting polygon was moved into is the moved polygon
 pub fronted : (orb : List Float) (by : Point) (held : List Float) {room : List Float} → length orb % 2 ≡ 0 → room ≡ laid (movedOf orb by) held

@@ -99,17 +99,15 @@ fn pass_at(
     ensures { λ r. ⌜ r ≡ passAt (scene (now (stationary .entry)) (now (orbiting .entry)) settings centroid start) (now (moved .entry)) (now (path .entry)) pose ⌝ }
 {
     let tol = settings.contact_tolerance;
-    match next_contact(stationary, moved, tol, 0) {
-        Next::Nothing => regain(stationary, moved, tol, pose),
-        Next::At(_) => {
-            let from = pose.position;
-            let previous = pose.previous;
-            let ccw = preferred(centroid, from);
-            match choose(stationary, moved, tol, from, path, previous, ccw) {
-                Choice::Nothing => unstick(stationary, orbiting, settings, pose),
-                Choice::Vector(v) => slide(stationary, moved, settings, start, path, pose, v),
-            }
-        }
+    let from = pose.position;
+    let previous = pose.previous;
+    let ccw = preferred(centroid, from);
+    match choose(stationary, moved, tol, from, path, previous, ccw) {
+        Choice::Nothing => match next_contact(stationary, moved, tol, 0) {
+            Next::Nothing => regain(stationary, moved, tol, pose),
+            Next::At(_) => unstick(stationary, orbiting, settings, pose),
+        },
+        Choice::Vector(v) => slide(stationary, moved, settings, start, path, pose, v),
     }
 }
 

@@ -5,23 +5,23 @@ use Rattle.contacts.proofs.Counting.{next-at, next-none}
 use Rattle.pass.proofs.pass_at.Statement.{statement}
 use Rattle.pass.proofs.pass_at.Tie as tie
 
-next-contact-requires : tie.Need-next-contact-requires
-next-contact-requires c κs = search needs
-
-enum-told : tie.Need-enum-told
-enum-told c = search needs
-
-regain-requires : tie.Need-regain-requires
-regain-requires c κs = search needs
-
-enum-told-2 : tie.Need-enum-told-2
-enum-told-2 c = search needs
-
 preferred-requires : tie.Need-preferred-requires
 preferred-requires c κs = search needs
 
 choose-requires : tie.Need-choose-requires
 choose-requires c κs = search needs
+
+enum-told : tie.Need-enum-told
+enum-told c = search needs
+
+next-contact-requires : tie.Need-next-contact-requires
+next-contact-requires c κs = search needs
+
+enum-told-2 : tie.Need-enum-told-2
+enum-told-2 c = search needs
+
+regain-requires : tie.Need-regain-requires
+regain-requires c κs = search needs
 
 enum-told-3 : tie.Need-enum-told-3
 enum-told-3 c = search needs
@@ -38,30 +38,29 @@ slide-requires c κs = search needs
 returns : tie.Need-returns
 returns c =
     let n = c .before .before .before in
-    loose _ _ _ _ (next-none _ _ _ 0 (n .next-contact .ensures) (c .before .enum-told .given .1)) (c .regain .ensures)
+    loose _ _ _ _ (next-none _ _ _ 0 (n .next-contact .ensures) (c .before .enum-told2 .given .1)) (c .regain .ensures)
 
 returns-2 : tie.Need-returns-2
 returns-2 c =
-    let k = c .before .before .before in
-    let t = k .before .before .before in
-    stuck _ _ _ _ (next-at _ _ _ (t .before .before .next-contact .ensures) (t .enum-told2 .given .1) .then) (k .before .preferred .ensures) (k .choose .ensures) (c .before .enum-told3 .given .1) (c .unstick .ensures)
+    let n = c .before .before .before in
+    let k = n .before .before .before in
+    stuck _ _ _ _ (next-at _ _ _ (n .next-contact .ensures) (c .before .enum-told3 .given .1) .then) (k .before .preferred .ensures) (k .choose .ensures) (n .before .enum-told .given .1) (c .unstick .ensures)
 
 returns-3 : tie.Need-returns-3
 returns-3 c =
     let k = c .before .before .before .before in
-    let t = k .before .before .before in
-    slides _ _ _ _ (next-at _ _ _ (t .before .before .next-contact .ensures) (t .enum-told2 .given .1) .then) (k .before .preferred .ensures) (k .choose .ensures) (c .before .before .v .given .1) (c .slide .ensures)
+    slides _ _ _ _ (k .before .preferred .ensures) (k .choose .ensures) (c .before .before .v .given .1) (c .slide .ensures)
 
 pub pass-at-spec : {M : Type 1} → statement M
 pass-at-spec =
     tie.close
     (tie.spec
-    next-contact-requires
-    enum-told
-    regain-requires
-    enum-told-2
     preferred-requires
     choose-requires
+    enum-told
+    next-contact-requires
+    enum-told-2
+    regain-requires
     enum-told-3
     unstick-requires
     enum-known-v
