@@ -39,6 +39,14 @@ pub fn word(bytes: &[u8], at: usize) -> u64 {
     eight(low, high)
 }
 
+// The length of a list at a byte of a record's header, at most so much.
+pub fn list_length(header: &[u8], at: usize, most: usize) -> usize
+    ensures { λ r. ⌜ r ≤ most ⌝ }
+{
+    let n = word(header, at);
+    if n <= most as u64 { n as usize } else { most }
+}
+
 // The float with a bit pattern.
 pub fn number(bits: u64) -> f64
     ensures { λ r. ⌜ r ≡ ofBits binary64 bits ⌝ }
