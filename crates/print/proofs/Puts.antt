@@ -1,11 +1,11 @@
 -- Texts put into a room one after the other, byte by byte and digit by digit. Assumes nothing.
 use Prim.Native.Nat.{ℕ, zero, suc, _+_, _-_, _/_, _%_, _≤_, _<_}
-use mathlib.Core.Path.{_≡_, refl, sym, ap, _∙_}
+use mathlib.Core.Path.{_≡_, refl, sym, ap, subst, _∙_}
 use mathlib.Core.List.{List, [], _∷_, _++_, append-assoc, append-nil}
 use native.Mathlib.Omega.{arith}
-use native.Mathlib.Nat.{add-zero, mod-lt, not-suc-le-zero}
+use native.Mathlib.Nat.{add-zero, min-le-right, mod-lt, not-suc-le-zero}
 use native.Mathlib.Numerals.{add-one}
-use lib.ListN.{length, take, getD, set, length-append}
+use lib.ListN.{length, take, getD, set, length-append, length-take}
 use lib.Seq.{take-suc, take-suc-set, take-length}
 use Rattle.print.specs.Text.{Put}
 use Rattle.print.specs.Digits.{digit, digits}
@@ -77,3 +77,11 @@ digits-put room₀ room base at k w n q e = record {
   ends = omega (arith, length-digits base w n);
   holds = e ∙ ap (λ (j : ℕ). take at room₀ ++ digits base j n) q;
 }
+
+-- the same text, said otherwise
+pub reads : {a c t u : List ℕ} {at r : ℕ} → t ≡ u → Put a at t c r → Put a at u c r
+reads {a} {c} {t} {u} {at} {r} e p = subst (λ (l : List ℕ). Put a at l c r) e p
+
+-- a text from the front ends inside the room
+pub within : {a c t : List ℕ} {r : ℕ} → Put a 0 t c r → r ≤ length c
+within {a} {c} {t} {r} p = omega (arith, p .ends, ap length (p .holds), length-take r c, min-le-right r (length c))

@@ -102,7 +102,7 @@ put-digits-returns : (t : ℕ) → put-digits-lts.Need-returns (
   digit-byte-reads.Asked,
   digit-byte-reads.Learnt,
 ) (put-digits-at t) put-digits.Post
-put-digits-returns t c = 
+put-digits-returns t c =
     let r = c .before .before .before in
     let a = r .before .before .before .before .args in
     let l = r .put-digits .last .0 in

@@ -43,7 +43,7 @@ same-length : tie.Need-same-length Inv-loop μ-loop
 same-length c = search needs
 
 returns : tie.Need-returns Inv-loop μ-loop
-returns c = let l = c .before in let a = l .before .args in record { ends = refl; holds = byte-all (a .room .now) (l .loop .room) (a .text .now) (a .at) (l .loop .i) (l .loop .inv .0) (c .loop-test .left) (l .loop .inv .2); }
+returns c = let l = c .before in let a = l .before .args in record { ends = refl; holds = byte-all (a .room .now) (l .loop .room) (a .text .now) (a .at) (l .loop .i) (l .loop .inv .0) (c .loop-test .left) (l .loop .inv .2) }
 
 pub put-text-spec : {M : Type 1} → statement M
 put-text-spec =
