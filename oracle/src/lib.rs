@@ -16,4 +16,5 @@ pub mod replay;
 pub mod repository;
 pub mod seeded;
 pub mod shapes;
+pub mod slide;
 pub mod swapped;
