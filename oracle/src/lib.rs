@@ -18,4 +18,5 @@ pub mod replay;
 pub mod repository;
 pub mod seeded;
 pub mod shapes;
+pub mod slide;
 pub mod swapped;

@@ -63,6 +63,11 @@ fn sliding_is_as_written() {
 }
 
 #[test]
+fn traces_are_as_written() {
+    as_written("replay_traces", traces::records());
+}
+
+#[test]
 fn book_records_keep_their_bounds() {
     for record in book::records().into_iter().chain(long("book", 4_000)) {
         let [a, b, room, counts] = lengths(&record, [1, 2, 3, 4]);

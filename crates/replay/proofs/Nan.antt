@@ -1,18 +1,27 @@
 -- Which floats, and which bit patterns, are a NaN. Assumes nothing.
-use Prim.Native.Nat.{ℕ, _%_, _^_, _≤_, _<_}
+use Prim.Native.Nat.{ℕ, _*_, _%_, _^_, _≤_, _<_}
 use mathlib.Core.Path.{_≡_, refl, sym, _∙_}
 use mathlib.Core.Bool.{Bool, true, false, not}
 use native.Mathlib.Omega.{arith}
 use lib.Dec.{T, ltb}
-use lib.Ieee.{Float, nan, inf, fin, binary64, eq, div, isNan, nanBits, ofBits}
+use lib.Ieee.{Float, nan, inf, fin, binary64, eq, div, isNan, nanBits, ofBits, toBits, up, down}
 use lib.Ieee.Bits.{nanBits-is, nanBits-above}
-use borrow.Author.Tests.{lt-ltb, le-ltb}
+use borrow.Author.Tests.{lt-ltb, le-ltb, eq-eqb}
 
 pub equals-itself : (x : Float) → eq x x ≡ true → T (not (isNan x))
 unfolding eq isNan
 equals-itself nan h = absurd (let z : _≡_ {A = ℕ} 0 1 = cc in omega arith)
 equals-itself (inf s) h = tt
 equals-itself (fin s m e) h = tt
+
+-- a number equals itself, so what does not is a NaN, and that has one pattern
+pub differs-from-itself : (x : Float) → eq x x ≡ false → 0x7ff8_0000_0000_0000 ≡ toBits binary64 x
+unfolding eq toBits
+differs-from-itself nan h = refl
+differs-from-itself (inf true) h = absurd (let z : _≡_ {A = ℕ} 0 1 = cc in omega arith)
+differs-from-itself (inf false) h = absurd (let z : _≡_ {A = ℕ} 0 1 = cc in omega arith)
+differs-from-itself (fin true m e) h = absurd (let q = eq-eqb (m * up e * down e) (m * up e * down e) refl in let z : _≡_ {A = ℕ} 0 1 = cc in omega arith)
+differs-from-itself (fin false m e) h = absurd (let q = eq-eqb (m * up e * down e) (m * up e * down e) refl in let z : _≡_ {A = ℕ} 0 1 = cc in omega arith)
 
 is-nan : (x : Float) → isNan x ≡ true → nan ≡ x
 unfolding isNan

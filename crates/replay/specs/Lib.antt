@@ -1,2 +1,3 @@
 -- The definitions that the contracts of replay cite.
+pub mod Words
 pub mod Tally

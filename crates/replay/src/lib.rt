@@ -2,26 +2,35 @@
 use libc::STDIN_FILENO;
 use libc::STDOUT_FILENO;
 ghost use mathlib.Core.Path.{_≡_};
-ghost use Prim.Native.Nat.{_+_, _≤_, _<_};
+ghost use Prim.Native.Nat.{_+_, _*_, _≤_, _<_};
 ghost use lib.ListN.{length};
-ghost use lib.Ieee.{binary64, ofBits};
+ghost use lib.Ieee.{binary64, ofBits, toBits};
+ghost use Rattle.replay.specs.Words.{wordAt};
 ghost use Rattle.replay.specs.Tally.{Counted};
 
 // A number of two, of four and of eight bytes, the lower half first.
-fn two(low: u8, high: u8) -> u16 {
+fn two(low: u8, high: u8) -> u16
+    ensures { λ r. ⌜ r ≡ low + 256 * high ⌝ }
+{
     (high as u16) * 256 + (low as u16)
 }
 
-fn four(low: u16, high: u16) -> u32 {
+fn four(low: u16, high: u16) -> u32
+    ensures { λ r. ⌜ r ≡ low + 65536 * high ⌝ }
+{
     (high as u32) * 65536 + (low as u32)
 }
 
-fn eight(low: u32, high: u32) -> u64 {
+fn eight(low: u32, high: u32) -> u64
+    ensures { λ r. ⌜ r ≡ low + 4294967296 * high ⌝ }
+{
     (high as u64) * 4294967296 + (low as u64)
 }
 
 // The little-endian word at a byte of a list, 0 where the list ends before its end.
-pub fn word(bytes: &[u8], at: usize) -> u64 {
+pub fn word(bytes: &[u8], at: usize) -> u64
+    ensures { λ r. ⌜ r ≡ wordAt (now (bytes .entry)) at ⌝ }
+{
     if bytes.len() < 8 {
         return 0;
     }
@@ -39,6 +48,14 @@ pub fn word(bytes: &[u8], at: usize) -> u64 {
     eight(low, high)
 }
 
+// The length of a list at a byte of a record's header, at most so much.
+pub fn list_length(header: &[u8], at: usize, most: usize) -> usize
+    ensures { λ r. ⌜ r ≤ most ⌝ }
+{
+    let n = word(header, at);
+    if n <= most as u64 { n as usize } else { most }
+}
+
 // The float with a bit pattern.
 pub fn number(bits: u64) -> f64
     ensures { λ r. ⌜ r ≡ ofBits binary64 bits ⌝ }
@@ -51,7 +68,9 @@ pub fn number(bits: u64) -> f64
 }
 
 // The bit pattern of a float, that of one quiet NaN for every NaN.
-pub fn bits(x: f64) -> u64 {
+pub fn bits(x: f64) -> u64
+    ensures { λ r. ⌜ r ≡ toBits binary64 x ⌝ }
+{
     if x == x {
         f64::to_bits(x)
     } else {

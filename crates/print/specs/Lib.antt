@@ -1,0 +1,4 @@
+-- The definitions that the contracts of print cite.
+pub mod Digits
+pub mod Text
+pub mod Examples

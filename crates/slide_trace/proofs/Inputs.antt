@@ -1,0 +1,31 @@
+-- The parts of an input: its settings, and its book. Assumes nothing.
+use Prim.Native.Nat.{ℕ, _-_, _≤_, _<_}
+use native.Mathlib.Omega.{arith}
+use mathlib.Core.Path.{_≡_, refl, sym, ap, _∙_}
+use mathlib.Core.List.{List, []}
+use lib.ListN.{length, take, drop, length-drop, drop-of-length-le}
+use lib.Seq.{take-all}
+use lib.Ieee.{Float, binary64, ofBits}
+use Rattle.replay.specs.Words.{wordAt}
+use Rattle.refusals.specs.declared.Settings.{Settings}
+use Rattle.book_layout.specs.Faults.{faultAt, bookCheck}
+use Rattle.slide_trace.specs.Lines.{refusalLine}
+use Rattle.slide_trace.specs.Said.{settingsOf, bookText, inputText}
+
+pub settings-are : (l : List ℕ) {a b : Float} (x y : ℕ) {z : ℕ} → a ≡ ofBits binary64 x → x ≡ wordAt l 0 → b ≡ ofBits binary64 y → y ≡ wordAt l 8 → z ≡ wordAt l 16
+    → _≡_ {A = Settings} (record { «contact_tolerance» = a; «min_translation» = b; «max_iterations» = z }) (settingsOf l)
+settings-are l x y p q r s t = rw (p, q, r, s, t) refl
+
+no-book : (s : Settings) → refusalLine (faultAt 0) ≡ bookText [] s
+unfolding bookText bookCheck
+no-book s = refl
+
+pub too-short : (l : List ℕ) → length l < 24 → refusalLine (faultAt 0) ≡ inputText l
+unfolding inputText
+too-short l h =
+    let k : length l ≤ 24 = omega arith in
+    no-book (settingsOf l) ∙ ap (λ (b : List ℕ). bookText b (settingsOf l)) (sym (drop-of-length-le l k))
+
+pub input-said : (l : List ℕ) {s : Settings} → s ≡ settingsOf l → bookText (take (length l - 24) (drop 24 l)) s ≡ inputText l
+unfolding inputText
+input-said l e = rw (e, take-all (length l - 24) (drop 24 l) (omega (arith, length-drop 24 l))) refl

@@ -1,0 +1,3 @@
+-- The definitions that the contracts of slide_trace cite.
+pub mod Lines
+pub mod Said

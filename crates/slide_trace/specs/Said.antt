@@ -1,0 +1,53 @@
+-- What is printed for an input: every byte. Definitions only.
+use Prim.Native.Nat.{ℕ, _*_}
+use mathlib.Core.Bool.{cond}
+use mathlib.Core.List.{List}
+use lib.ListN.{getD, take, drop}
+use lib.Ieee.{Float, binary64, ofBits}
+use Rattle.replay.specs.Words.{wordAt}
+use Rattle.refusals.specs.Refusals.{passed}
+use Rattle.refusals.specs.declared.Settings.{Settings}
+use Rattle.simplify.specs.Simplify.{simplified}
+use Rattle.book_layout.specs.Layout.{countsOf}
+use Rattle.book_layout.specs.Faults.{bookCheck}
+use Rattle.book_layout.specs.Reader.{numbersOf}
+use Rattle.nfp_sliding.specs.Path.{tracedOf}
+use Rattle.nfp_sliding.specs.Calls.{Answer, traceCall}
+use Rattle.slide_trace.specs.Lines.{refusalLine, pathText}
+
+-- the numbers that each of the trace's two rooms holds: the start and a point for each of 10,000 passes
+abbrev pub roomSize : ℕ
+roomSize = 20002
+
+-- an answer of the trace, and the points of its result: the refusal's line, or the path
+abbrev pub textOf : Answer → List Float → List ℕ
+textOf a result =
+    cond (passed (a .refusal)) (pathText (getD (a .values) 0 0) (getD (a .values) 2 0) (getD (a .values) 3 0) result) (refusalLine (a .refusal))
+
+-- the trace of two polygons
+unfoldable pub traceText : List Float → List Float → Settings → List ℕ
+traceText st orb s = textOf (traceCall st orb s roomSize roomSize) (simplified (tracedOf st orb s roomSize .path) (s .«contact_tolerance»))
+
+-- vertices of ring i of a book, 0 where it has no such ring
+abbrev pub verticesOf : List ℕ → ℕ → ℕ
+verticesOf book i = getD (countsOf book) i 0
+
+-- a book: its fault, or the trace of its first two rings
+unfoldable pub bookText : List ℕ → Settings → List ℕ
+bookText book s =
+    let n = verticesOf book 0 in
+    cond (passed (bookCheck book))
+    (traceText (take (2 * n) (numbersOf book)) (take (2 * verticesOf book 1) (drop (2 * n) (numbersOf book))) s)
+    (refusalLine (bookCheck book))
+
+-- the tolerance, the smallest move and the pass limit
+abbrev pub settingsOf : List ℕ → Settings
+settingsOf input = record {
+  «contact_tolerance» = ofBits binary64 (wordAt input 0);
+  «min_translation» = ofBits binary64 (wordAt input 8);
+  «max_iterations» = wordAt input 16;
+}
+
+-- the settings, and then the book
+unfoldable pub inputText : List ℕ → List ℕ
+inputText input = bookText (drop 24 input) (settingsOf input)
