@@ -4,18 +4,18 @@ use native.Mathlib.Omega.{arith}
 use mathlib.Core.Path.{_≡_, refl, sym, ap, ap₂, _∙_}
 use mathlib.Core.Bool.{Bool, true, false, _||_, cond}
 use mathlib.Core.List.{List, [], _∷_, _++_}
-use lib.ListN.{length, getD, drop, length-append, List·getD-append}
+use lib.ListN.{length, drop, length-append, List·getD-append}
 use lib.Ieee.{Float, nan, binary64, toBits}
 use Rattle.plane.specs.declared.Point.{Point}
 use Rattle.ring.specs.Ring.{count, pointAt}
 use Rattle.ring.specs.Room.{laid}
 use Rattle.print.specs.Text.{pairLine}
-use Rattle.refusals.specs.Refusals.{none, refuse, passed}
+use Rattle.refusals.specs.Refusals.{passed}
 use Rattle.refusals.specs.declared.Refusal.{Refusal}
 use Rattle.refusals.specs.declared.Settings.{Settings}
 use Rattle.simplify.specs.Simplify.{simplified}
 use Rattle.nfp_sliding.specs.Path.{Trace, tracedOf}
-use Rattle.nfp_sliding.specs.Calls.{Answer, answer, traced, short, told, resultAfter, traceRefusal, traceCall, traceResult}
+use Rattle.nfp_sliding.specs.Calls.{Answer, traces, refuses, overfull, tooShort, traced, brief, told, resultAfter, traceRefusal, traceCall, traceResult}
 use Rattle.nfp_sliding.specs.declared.answer.Traced.{Traced}
 use Rattle.nfp_sliding.specs.declared.answer.Traced.the-variants.{Is, Refused, Full, Short}
 use Rattle.slide_trace.specs.Lines.{refusalLine, headingLine, pointLines, pathText, answerText, InList}
@@ -35,30 +35,37 @@ lines-front xs rest (suc k) h =
     ap₂ (λ (l : List ℕ) (p : Point). l ++ pairLine (toBits binary64 (p .x)) (toBits binary64 (p .y)))
     (lines-front xs rest k (omega arith)) (point-front xs rest k (omega arith))
 
+-- ---- an answer's values
+
+abbrev valuesOf : Answer → ℕ
+valuesOf (traces points stored passes stop) = 4
+valuesOf (refuses r) = 0
+valuesOf (overfull passes) = 1
+valuesOf (tooShort passes stop) = 2
+
+abbrev pointsOf : Answer → ℕ
+pointsOf (traces points stored passes stop) = points
+pointsOf (refuses r) = 0
+pointsOf (overfull passes) = 0
+pointsOf (tooShort passes stop) = 0
+
 -- ---- the answer of a call, case by case: passed or not, the room full or not, the path short or not
 
 module _ (r : Refusal) (passes reason stored : ℕ) (result held : List Float) where
   abbrev call : Bool → Bool → Bool → Answer
-  call p f h =
-      cond p
-      (cond f (answer (refuse 5) (passes ∷ []))
-      (cond h (answer (refuse 6) (passes ∷ reason ∷ [])) (answer none (count result ∷ stored ∷ passes ∷ reason ∷ []))))
-      (answer r [])
+  call p f h = cond p (cond f (overfull passes) (cond h (tooShort passes reason) (traces (count result) stored passes reason))) (refuses r)
 
   abbrev after : Bool → Bool → Bool → List Float
   after p f h = cond p (cond (f || h) held (laid result held)) held
 
   -- so many values are returned
-  many : (a b : Answer) → a ≡ b → length (a .values) ≡ length (b .values)
-  many a b e = ap (λ (x : Answer). length (x .values)) e
-
-  value : (a b : Answer) (i : ℕ) → a ≡ b → getD (a .values) i 0 ≡ getD (b .values) i 0
-  value a b i e = ap (λ (x : Answer). getD (x .values) i 0) e
+  many : (a b : Answer) → a ≡ b → valuesOf a ≡ valuesOf b
+  many a b e = ap valuesOf e
 
   pub said : (p f h : Bool) → passed r ≡ p → (t : Traced) (x : List Float) → traced t ≡ call p f h → x ≡ after p f h → answerText t x ≡ textOf (call p f h) result
   said false f h e (Is a b c d) x q w = absurd (let z : _≡_ {A = ℕ} 4 0 = many _ _ q in omega arith)
   said false f h e (Refused s) x q w =
-      ap (λ (y : Answer). refusalLine (y .refusal)) q ∙ sym (ap (λ (y : Bool). cond y (pathText 0 0 0 result) (refusalLine r)) e)
+      ap (λ (y : Answer). textOf y result) q
   said false f h e (Full a) x q w = absurd (let z : _≡_ {A = ℕ} 1 0 = many _ _ q in omega arith)
   said false f h e (Short a b) x q w = absurd (let z : _≡_ {A = ℕ} 2 0 = many _ _ q in omega arith)
   said true true h e (Is a b c d) x q w = absurd (let z : _≡_ {A = ℕ} 4 1 = many _ _ q in omega arith)
@@ -70,8 +77,8 @@ module _ (r : Refusal) (passes reason stored : ℕ) (result held : List Float) w
   said true false true e (Full a) x q w = absurd (let z : _≡_ {A = ℕ} 1 2 = many _ _ q in omega arith)
   said true false true e (Short a b) x q w = refl
   said true false false e (Is a b c d) x q w =
-      rw (value _ _ 0 q, value _ _ 2 q, value _ _ 3 q, w)
-      (ap (λ (l : List ℕ). headingLine (count result) passes reason ++ l) (lines-front result (drop (length result) held) (count result) (omega arith)))
+      ap (λ (y : Answer). textOf y x) q
+      ∙ (rw w (ap (λ (l : List ℕ). headingLine (count result) passes reason ++ l) (lines-front result (drop (length result) held) (count result) (omega arith))))
   said true false false e (Refused s) x q w = absurd (let z : _≡_ {A = ℕ} 0 4 = many _ _ q in omega arith)
   said true false false e (Full a) x q w = absurd (let z : _≡_ {A = ℕ} 1 4 = many _ _ q in omega arith)
   said true false false e (Short a b) x q w = absurd (let z : _≡_ {A = ℕ} 2 4 = many _ _ q in omega arith)
@@ -81,7 +88,7 @@ module _ (r : Refusal) (passes reason stored : ℕ) (result held : List Float) w
   inside true true h (Is a b c d) x q w = absurd (let z : _≡_ {A = ℕ} 4 1 = many _ _ q in omega arith)
   inside true false true (Is a b c d) x q w = absurd (let z : _≡_ {A = ℕ} 4 2 = many _ _ q in omega arith)
   inside true false false (Is a b c d) x q w =
-      let n : a ≡ count result = value _ _ 0 q in
+      let n : a ≡ count result = ap pointsOf q in
       omega (arith, ap length w, length-append result (drop (length result) held))
   inside p f h (Refused s) x q w = tt
   inside p f h (Full a) x q w = tt
@@ -96,12 +103,12 @@ module _ (st orb : List Float) (s : Settings) (work : ℕ) (held : List Float) (
   points-inside =
       let r = traceRefusal st orb s work (length held) in
       let z = tracedOf st orb s work in
-      inside r (z .passes) (z .reason) (count (z .path)) (simplified (z .path) (s .«contact_tolerance»)) held (passed r) (z .full) (short z) t x p q
+      inside r (z .passes) (z .reason) (count (z .path)) (simplified (z .path) (s .«contact_tolerance»)) held (passed r) (z .full) (brief z) t x p q
 
   pub trace-said : work ≡ 20002 → length held ≡ 20002 → answerText t x ≡ traceText st orb s
   unfolding traceCall traceResult told resultAfter traceText
   trace-said e l =
       let r = traceRefusal st orb s work (length held) in
       let z = tracedOf st orb s work in
-      said r (z .passes) (z .reason) (count (z .path)) (simplified (z .path) (s .«contact_tolerance»)) held (passed r) (z .full) (short z) refl t x p q
+      said r (z .passes) (z .reason) (count (z .path)) (simplified (z .path) (s .«contact_tolerance»)) held (passed r) (z .full) (brief z) refl t x p q
       ∙ ap₂ (λ (a b : ℕ). textOf (traceCall st orb s a b) (simplified (tracedOf st orb s a .path) (s .«contact_tolerance»))) e l

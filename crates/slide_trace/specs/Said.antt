@@ -5,24 +5,26 @@ use mathlib.Core.List.{List}
 use lib.ListN.{getD, take, drop}
 use lib.Ieee.{Float, binary64, ofBits}
 use Rattle.replay.specs.Words.{wordAt}
-use Rattle.refusals.specs.Refusals.{passed}
+use Rattle.refusals.specs.Refusals.{refuse, passed}
 use Rattle.refusals.specs.declared.Settings.{Settings}
 use Rattle.simplify.specs.Simplify.{simplified}
 use Rattle.book_layout.specs.Layout.{countsOf}
 use Rattle.book_layout.specs.Faults.{bookCheck}
 use Rattle.book_layout.specs.Reader.{numbersOf}
 use Rattle.nfp_sliding.specs.Path.{tracedOf}
-use Rattle.nfp_sliding.specs.Calls.{Answer, traceCall}
+use Rattle.nfp_sliding.specs.Calls.{Answer, traces, refuses, overfull, tooShort, traceCall}
 use Rattle.slide_trace.specs.Lines.{refusalLine, pathText}
 
 -- the numbers that each of the trace's two rooms holds: the start and a point for each of 10,000 passes
 abbrev pub roomSize : ℕ
 roomSize = 20002
 
--- an answer of the trace, and the points of its result: the refusal's line, or the path
+-- an answer of the trace, and the points of its result: the path, or the refusal's line
 abbrev pub textOf : Answer → List Float → List ℕ
-textOf a result =
-    cond (passed (a .refusal)) (pathText (getD (a .values) 0 0) (getD (a .values) 2 0) (getD (a .values) 3 0) result) (refusalLine (a .refusal))
+textOf (traces points stored passes stop) result = pathText points passes stop result
+textOf (refuses r) result = refusalLine r
+textOf (overfull passes) result = refusalLine (refuse 5)
+textOf (tooShort passes stop) result = refusalLine (refuse 6)
 
 -- the trace of two polygons
 unfoldable pub traceText : List Float → List Float → Settings → List ℕ
