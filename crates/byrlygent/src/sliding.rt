@@ -2,11 +2,13 @@
 use handed::found::hand_checked;
 use handed::found::hand_position;
 use handed::found::hand_selected;
+use handed::trace::hand_traced;
 use handed::value::hand_count;
 use handed::value::hand_number;
 use handed::value::hand_start;
 use handed::value::hand_truth;
 use plane::Point;
+use refusals::Settings;
 use selection::Previous;
 ghost use mathlib.Core.Path.{_≡_};
 ghost use lib.ListN.{length};
@@ -21,8 +23,10 @@ ghost use Rattle.interlocking.specs.Calls.{interlockCall};
 ghost use Rattle.recovery.specs.Calls.{recoverCall};
 ghost use Rattle.overlap.specs.Calls.{overlapCall, overlapWithCall};
 ghost use Rattle.start_position.specs.Calls.{startCall};
+ghost use Rattle.nfp_sliding.specs.Calls.{refusalOf, traceCall, traceWork, traceResult};
+ghost use Rattle.handed.specs.Traces.{pointsTold, storedTold, passesTold, stopTold};
 ghost use Rattle.simplify.specs.Calls.{simplifyCall, simplifyRoom};
-ghost use Rattle.byrlygent.specs.Lent.{previousOf};
+ghost use Rattle.byrlygent.specs.Lent.{previousOf, settingsOf};
 
 // The parameter of the foot of p on the segment a b: 0 at a, 1 at b.
 #[no_mangle]
@@ -352,5 +356,43 @@ pub extern "C" fn byr_simplify_polygon(
     hand_count(
         simplify::calls::simplify_polygon(list, tolerance, room),
         points,
+    )
+}
+
+// The path of the orbiting polygon around the stationary one: traced in the work room, simplified in the result room; how many points both have, the passes
+// begun and why the trace stopped. The passes are told with refusal 5 too, the passes and the reason with 6.
+#[no_mangle]
+pub extern "C" fn byr_compute_nfp_sliding(
+    stationary: &[f64],
+    orbiting: &[f64],
+    tolerance: f64,
+    smallest: f64,
+    limit: u64,
+    work: &mut [f64],
+    result: &mut [f64],
+    points: &mut u64,
+    stored: &mut u64,
+    passes: &mut u64,
+    stop: &mut u32,
+) -> u32
+    ensures { λ r. ⌜ r ≡ refusalOf (traceCall (now (stationary .entry)) (now (orbiting .entry)) (settingsOf tolerance smallest limit) (length (now (work .entry))) (length (now (result .entry)))) .number ⌝ }
+    ensures { λ _. ⌜ now (points .exit) ≡ pointsTold (traceCall (now (stationary .entry)) (now (orbiting .entry)) (settingsOf tolerance smallest limit) (length (now (work .entry))) (length (now (result .entry)))) (now (points .entry)) ⌝ }
+    ensures { λ _. ⌜ now (stored .exit) ≡ storedTold (traceCall (now (stationary .entry)) (now (orbiting .entry)) (settingsOf tolerance smallest limit) (length (now (work .entry))) (length (now (result .entry)))) (now (stored .entry)) ⌝ }
+    ensures { λ _. ⌜ now (passes .exit) ≡ passesTold (traceCall (now (stationary .entry)) (now (orbiting .entry)) (settingsOf tolerance smallest limit) (length (now (work .entry))) (length (now (result .entry)))) (now (passes .entry)) ⌝ }
+    ensures { λ _. ⌜ now (stop .exit) ≡ stopTold (traceCall (now (stationary .entry)) (now (orbiting .entry)) (settingsOf tolerance smallest limit) (length (now (work .entry))) (length (now (result .entry)))) (now (stop .entry)) ⌝ }
+    ensures { λ _. ⌜ now (work .exit) ≡ traceWork (now (stationary .entry)) (now (orbiting .entry)) (settingsOf tolerance smallest limit) (now (work .entry)) (length (now (result .entry))) ⌝ }
+    ensures { λ _. ⌜ now (result .exit) ≡ traceResult (now (stationary .entry)) (now (orbiting .entry)) (settingsOf tolerance smallest limit) (length (now (work .entry))) (now (result .entry)) ⌝ }
+{
+    let settings = Settings {
+        contact_tolerance: tolerance,
+        min_translation: smallest,
+        max_iterations: limit,
+    };
+    hand_traced(
+        nfp_sliding::calls::compute_nfp_sliding(stationary, orbiting, settings, work, result),
+        points,
+        stored,
+        passes,
+        stop,
     )
 }

@@ -3,12 +3,12 @@ pub mod calls;
 pub mod screen;
 mod write;
 
+use near::point_on_segment;
 use pairs::Pair;
 use pairs::after;
 use pairs::pair_at;
 use pairs::pair_count;
 use plane::Point;
-use plane::segment::point_on_segment;
 use plane::vector::edges_parallel;
 use plane::vector::minus;
 use ring::next;
@@ -62,9 +62,9 @@ pub fn edges_of(stationary: &[f64], orbiting: &[f64], pair: Pair) -> Edges
 fn edges_touch(e: Edges, tol: f64) -> bool
     ensures { λ r. ⌜ r ≡ edgesTouch e tol ⌝ }
 {
-    if edges_parallel(minus(e.b, e.a), minus(e.d, e.c)) {
-        if point_on_segment(e.c, e.a, e.b, tol) {
-            point_on_segment(e.d, e.a, e.b, tol)
+    if point_on_segment(e.c, e.a, e.b, tol) {
+        if point_on_segment(e.d, e.a, e.b, tol) {
+            edges_parallel(minus(e.b, e.a), minus(e.d, e.c))
         } else {
             false
         }

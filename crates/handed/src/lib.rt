@@ -1,3 +1,4 @@
 // Answers handed over to a C caller: through pointers where the call answers, and as the refusal's number where it does not.
 pub mod found;
+pub mod trace;
 pub mod value;

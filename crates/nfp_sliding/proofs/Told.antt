@@ -9,14 +9,12 @@ use lib.Seq.{length-take-le}
 use lib.Dec.{ltb}
 use lib.Ieee.{Float}
 use borrow.Author.Tests.{lt-ltb, le-ltb}
-use Rattle.refusals.specs.Refusals.{none, refuse}
-use Rattle.refusals.specs.declared.Refusal.{Refusal}
 use Rattle.ring.specs.Ring.{count}
 use Rattle.ring.specs.Room.{laid}
 use Rattle.simplify.specs.Simplify.{simplified}
 use Rattle.simplify.proofs.Whole.{not-longer}
 use Rattle.nfp_sliding.specs.Path.{Trace, ended}
-use Rattle.nfp_sliding.specs.Calls.{Answer, answer, traced, told, resultAfter}
+use Rattle.nfp_sliding.specs.Calls.{traced, told, resultAfter}
 use Rattle.nfp_sliding.specs.declared.answer.Traced.{Traced}
 use Rattle.nfp_sliding.specs.declared.answer.Traced.the-variants.{Is, Refused, Full, Short}
 
@@ -56,19 +54,19 @@ module _ (full : Bool) (reason passes stored : ℕ) (tol : Float) (work held : L
   told-all e h p o = (rw (e, counted, le-ltb _ _ h, p) refl, rw (e, counted, le-ltb _ _ h, o) refl)
 
 pub traced-only : (a b : Traced) → traced a ≡ traced b → a ≡ b
-traced-only (Is p s q r) (Is p' s' q' r') h = let v = ap (λ (a : Answer). a .values) h in cc
-traced-only (Is p s q r) (Refused z) h = let v = ap (λ (a : Answer). a .values) h in cc
-traced-only (Is p s q r) (Full z) h = let v = ap (λ (a : Answer). a .values) h in cc
-traced-only (Is p s q r) (Short z w) h = let v = ap (λ (a : Answer). a .values) h in cc
-traced-only (Refused x) (Is p' s' q' r') h = let v = ap (λ (a : Answer). a .values) h in cc
-traced-only (Refused x) (Refused z) h = let r = ap (λ (a : Answer). a .refusal) h in cc
-traced-only (Refused x) (Full z) h = let v = ap (λ (a : Answer). a .values) h in cc
-traced-only (Refused x) (Short z w) h = let v = ap (λ (a : Answer). a .values) h in cc
-traced-only (Full x) (Is p' s' q' r') h = let v = ap (λ (a : Answer). a .values) h in cc
-traced-only (Full x) (Refused z) h = let v = ap (λ (a : Answer). a .values) h in cc
-traced-only (Full x) (Full z) h = let v = ap (λ (a : Answer). a .values) h in cc
-traced-only (Full x) (Short z w) h = let v = ap (λ (a : Answer). a .values) h in cc
-traced-only (Short x y) (Is p' s' q' r') h = let v = ap (λ (a : Answer). a .values) h in cc
-traced-only (Short x y) (Refused z) h = let v = ap (λ (a : Answer). a .values) h in cc
-traced-only (Short x y) (Full z) h = let v = ap (λ (a : Answer). a .values) h in cc
-traced-only (Short x y) (Short z w) h = let v = ap (λ (a : Answer). a .values) h in cc
+traced-only (Is p s q r) (Is p' s' q' r') h = cc
+traced-only (Is p s q r) (Refused z) h = cc
+traced-only (Is p s q r) (Full z) h = cc
+traced-only (Is p s q r) (Short z w) h = cc
+traced-only (Refused x) (Is p' s' q' r') h = cc
+traced-only (Refused x) (Refused z) h = cc
+traced-only (Refused x) (Full z) h = cc
+traced-only (Refused x) (Short z w) h = cc
+traced-only (Full x) (Is p' s' q' r') h = cc
+traced-only (Full x) (Refused z) h = cc
+traced-only (Full x) (Full z) h = cc
+traced-only (Full x) (Short z w) h = cc
+traced-only (Short x y) (Is p' s' q' r') h = cc
+traced-only (Short x y) (Refused z) h = cc
+traced-only (Short x y) (Full z) h = cc
+traced-only (Short x y) (Short z w) h = cc

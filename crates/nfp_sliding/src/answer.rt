@@ -1,5 +1,7 @@
 // What a trace answers: how many points the result and the path have, the passes begun and the reason it stopped; or the refusal.
 use refusals::Refusal;
+ghost use mathlib.Core.Path.{_≡_};
+ghost use Rattle.nfp_sliding.specs.Calls.{traced, refusalOf};
 
 pub enum Traced {
     Is {
@@ -16,4 +18,21 @@ pub enum Traced {
         passes: u64,
         stop: u32,
     },
+}
+
+// The refusal that it is.
+pub fn refusal(answer: Traced) -> Refusal
+    ensures { λ r. ⌜ r ≡ refusalOf (traced answer) ⌝ }
+{
+    match answer {
+        Traced::Is {
+            points: _,
+            stored: _,
+            passes: _,
+            stop: _,
+        } => Refusal::none(),
+        Traced::Refused(no) => no,
+        Traced::Full(_) => Refusal::new(5),
+        Traced::Short { passes: _, stop: _ } => Refusal::new(6),
+    }
 }

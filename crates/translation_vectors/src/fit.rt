@@ -3,8 +3,8 @@ use crate::Place;
 use crate::Step;
 use crate::TranslationVector;
 use crate::next_vector;
+use near::is_near;
 use plane::Point;
-use plane::vector::distance;
 use ring::point_at;
 use scalar::smaller;
 ghost use mathlib.Core.Path.{_≡_};
@@ -22,7 +22,7 @@ pub fn is_visited(position: Point, visited: &[f64], tol: f64) -> bool
     let near = tol * 10.0;
     let mut i = 0;
     while i < n {
-        if distance(position, point_at(visited, i)) < near {
+        if is_near(position, point_at(visited, i), near) {
             return true;
         }
         i += 1;

@@ -3,7 +3,7 @@ use native.Mathlib.Omega.{arith}
 use borrow.Author.Needs.{needs}
 use Prim.Native.Nat.{ℕ, _-_, _≤_}
 use mathlib.Core.Path.{_≡_, _∙_}
-use mathlib.Core.Bool.{true, false}
+use mathlib.Core.Bool.{Bool, true, false}
 use mathlib.Core.List.{List}
 use lib.Ieee.{Float, lt}
 use Rattle.scalar.specs.Float.{_⊗_}
@@ -26,12 +26,12 @@ abbrev μ-loop : tie.MeasureT-loop
 start : (p : Point) (v : List Float) (tol : Float) → each (apart p v tol) 0 (count v) ≡ each (apart p v tol) 0 (count v - 0)
 start p v tol = let e : count v - 0 ≡ count v = omega arith in rw e
 
-module _ (p : Point) (v : List Float) (tol : Float) (i : ℕ) {q : Point} {d : Float} (at : q ≡ pointAt v i) (e : d ≡ distanceOf p q) where
-  is-near : lt d (tol ⊗ f10) ≡ true → apart p v tol i ≡ false
+module _ (p : Point) (v : List Float) (tol : Float) (i : ℕ) {q : Point} {b : Bool} (at : q ≡ pointAt v i) (e : b ≡ lt (distanceOf p q) (tol ⊗ f10)) where
+  is-near : b ≡ true → apart p v tol i ≡ false
   unfolding apart
   is-near t = rw (← at, ← e, t)
 
-  is-far : lt d (tol ⊗ f10) ≡ false → apart p v tol i ≡ true
+  is-far : b ≡ false → apart p v tol i ≡ true
   unfolding apart
   is-far t = rw (← at, ← e, t)
 
@@ -41,15 +41,15 @@ loop-holds c = (omega arith, start _ _ _)
 point-at-requires : tie.Need-point-at-requires Inv-loop μ-loop
 point-at-requires c κs = search needs
 
-distance-requires : tie.Need-distance-requires Inv-loop μ-loop
-distance-requires c κs = search needs
+is-near-requires : tie.Need-is-near-requires Inv-loop μ-loop
+is-near-requires c κs = search needs
 
 returns : tie.Need-returns Inv-loop μ-loop
 unfolding visitedOf
 returns c =
     let l = c .before .before .before .before in
     let t = c .before .before .before .loop-test .taken in
-    rw (l .loop .inv .1, each-off _ _ _ t (is-near _ _ _ _ (c .before .before .point-at .ensures) (c .before .distance .ensures) (c .if1 .taken)))
+    rw (l .loop .inv .1, each-off _ _ _ t (is-near _ _ _ _ (c .before .before .point-at .ensures) (c .before .is-near .ensures) (c .if1 .taken)))
 
 add-i : tie.Need-add-i Inv-loop μ-loop
 add-i c = omega arith
@@ -61,7 +61,7 @@ loop-again : tie.Need-loop-again Inv-loop μ-loop
 loop-again c =
     let l = c .before .before .before .before in
     let t = c .before .before .before .loop-test .taken in
-    (omega arith, l .loop .inv .1 ∙ each-on _ _ _ t (is-far _ _ _ _ (c .before .before .point-at .ensures) (c .before .distance .ensures) (c .if1 .left)))
+    (omega arith, l .loop .inv .1 ∙ each-on _ _ _ t (is-far _ _ _ _ (c .before .before .point-at .ensures) (c .before .is-near .ensures) (c .if1 .left)))
 
 returns-2 : tie.Need-returns-2 Inv-loop μ-loop
 unfolding visitedOf
@@ -75,7 +75,7 @@ is-visited-spec =
     μ-loop
     loop-holds
     point-at-requires
-    distance-requires
+    is-near-requires
     returns
     add-i
     loop-less

@@ -1,0 +1,1 @@
+-- The contracts of near cite the definitions of plane alone.

@@ -1,0 +1,38 @@
+// Whether a length is below a tolerance, with a root taken only where the square is not above the tolerance's.
+use plane::Point;
+use plane::segment::along;
+use plane::segment::project_point_to_segment;
+use plane::vector::dot;
+use plane::vector::minus;
+use square_root::sqrt;
+ghost use mathlib.Core.Path.{_≡_};
+ghost use lib.Ieee.{lt};
+ghost use Rattle.plane.specs.Vector.{lengthOf, distanceOf};
+ghost use Rattle.plane.specs.Segment.{onSegmentOf};
+
+// Whether a vector is shorter than tol.
+pub fn is_shorter(v: Point, tol: f64) -> bool
+    ensures { λ r. ⌜ r ≡ lt (lengthOf v) tol ⌝ }
+{
+    let s = dot(v, v);
+    if tol > 0.0 {
+        if s > tol * tol {
+            return false;
+        }
+    }
+    sqrt(s) < tol
+}
+
+// Whether two points are nearer to each other than tol.
+pub fn is_near(a: Point, b: Point, tol: f64) -> bool
+    ensures { λ r. ⌜ r ≡ lt (distanceOf a b) tol ⌝ }
+{
+    is_shorter(minus(b, a), tol)
+}
+
+// Whether a point is nearer to a segment than tol.
+pub fn point_on_segment(p: Point, a: Point, b: Point, tol: f64) -> bool
+    ensures { λ r. ⌜ r ≡ onSegmentOf p a b tol ⌝ }
+{
+    is_near(p, along(a, b, project_point_to_segment(p, a, b)), tol)
+}
