@@ -12,9 +12,9 @@ ghost use mathlib.Core.Path.{_≡_};
 ghost use Prim.Native.Nat.{_<_};
 ghost use Rattle.ring.specs.Ring.{count};
 ghost use Rattle.collision.specs.Ray.{rayOf, edgeRay};
-ghost use Rattle.collision.specs.Parts.{onSegment, inFront};
+ghost use Rattle.collision.specs.Parts.{onSegment, inFront, pairBy};
 ghost use Rattle.collision.specs.Hit.{countedOf, keptOf};
-ghost use Rattle.collision.specs.Check.{pairOf, rowOf, scanOf, backOf, bothOf, collisionOf};
+ghost use Rattle.collision.specs.Check.{rowOf, scanOf, backOf, bothOf, collisionOf};
 
 // A ray against a segment: it misses, or it meets the segment at a distance.
 pub enum Ray {
@@ -140,12 +140,10 @@ fn keep(best: Collision, new: Collision) -> Collision
     if e < d { new } else { best }
 }
 
-// The vertex v of one ring against the edge e of the other.
-fn pair(vertices: &[f64], edges: &[f64], sweep: Sweep, kind: u8, v: usize, e: usize) -> Collision
-    requires { ⌜ (v < count (now vertices)) × (e < count (now edges)) ⌝ }
-    ensures { λ r. ⌜ r ≡ pairOf (now (vertices .entry)) (now (edges .entry)) sweep kind v e ⌝ }
+// What a ray of the vertex v of one ring makes of the edge e of the other.
+fn pair(ray: Ray, sweep: Sweep, kind: u8, v: usize, e: usize) -> Collision
+    ensures { λ r. ⌜ r ≡ pairBy ray sweep kind v e ⌝ }
 {
-    let ray = edge_ray(point_at(vertices, v), sweep.dir, edges, e, sweep.tolerance);
     if kind == 0 {
         counted(ray, sweep, 0, e, v)
     } else {
@@ -166,11 +164,17 @@ fn row(
     ensures { λ r. ⌜ r ≡ rowOf (now (vertices .entry)) (now (edges .entry)) sweep kind v before ⌝ }
 {
     let n = edges.len() / 2;
+    let origin = point_at(vertices, v);
     let mut best = before;
     let mut e = 0;
     while e < n {
-        best = keep(best, pair(vertices, edges, sweep, kind, v, e));
-        e += 1;
+        let ray = edge_ray(origin, sweep.dir, edges, e, sweep.tolerance);
+        if let Ray::At(_) = ray {
+            best = keep(best, pair(ray, sweep, kind, v, e));
+            e += 1;
+        } else {
+            e += 1;
+        }
     }
     best
 }
