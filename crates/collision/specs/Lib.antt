@@ -1,6 +1,7 @@
 -- The definitions that the contracts of collision cite.
 pub mod Ray
 pub mod Hit
+pub mod Parts
 pub mod Check
 pub mod Nearest
 pub mod Calls

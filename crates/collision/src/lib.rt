@@ -11,9 +11,10 @@ use ring::point_at;
 ghost use mathlib.Core.Path.{_≡_};
 ghost use Prim.Native.Nat.{_<_};
 ghost use Rattle.ring.specs.Ring.{count};
-ghost use Rattle.collision.specs.Ray.{rayWithin, rayOf, edgeRay};
+ghost use Rattle.collision.specs.Ray.{rayOf, edgeRay};
+ghost use Rattle.collision.specs.Parts.{onSegment, inFront, pairBy};
 ghost use Rattle.collision.specs.Hit.{countedOf, keptOf};
-ghost use Rattle.collision.specs.Check.{pairOf, rowOf, scanOf, backOf, bothOf, collisionOf};
+ghost use Rattle.collision.specs.Check.{rowOf, scanOf, backOf, bothOf, collisionOf};
 
 // A ray against a segment: it misses, or it meets the segment at a distance.
 pub enum Ray {
@@ -39,18 +40,26 @@ pub struct Sweep {
     pub tolerance: f64,
 }
 
-// The answer by the two parameters: in front of the ray and on the segment, or not.
-fn within(t: f64, u: f64, tolerance: f64) -> Ray
-    ensures { λ r. ⌜ r ≡ rayWithin t u tolerance ⌝ }
+// Whether the parameter along the segment is within the tolerance.
+fn on_segment(u: f64, tolerance: f64) -> bool
+    ensures { λ r. ⌜ r ≡ onSegment u tolerance ⌝ }
+{
+    if u >= -tolerance {
+        u <= 1.0 + tolerance
+    } else {
+        false
+    }
+}
+
+// The answer by the parameter along the ray, where the other is within the tolerance.
+fn in_front(t: f64, tolerance: f64) -> Ray
+    ensures { λ r. ⌜ r ≡ inFront t tolerance ⌝ }
 {
     if t >= -tolerance {
-        if u >= -tolerance {
-            if u <= 1.0 + tolerance {
-                return Ray::At(scalar::larger(t, 0.0));
-            }
-        }
+        Ray::At(scalar::larger(t, 0.0))
+    } else {
+        Ray::Miss
     }
-    Ray::Miss
 }
 
 // How far along the ray from origin it meets the segment p1 p2.
@@ -69,7 +78,11 @@ pub fn ray_segment_intersection(
         return Ray::Miss;
     }
     let diff = minus(p1, origin);
-    within(cross(diff, seg) / den, cross(diff, dir) / den, tolerance)
+    if on_segment(cross(diff, dir) / den, tolerance) {
+        in_front(cross(diff, seg) / den, tolerance)
+    } else {
+        Ray::Miss
+    }
 }
 
 // The ray from origin against the edge e of a ring.
@@ -127,12 +140,10 @@ fn keep(best: Collision, new: Collision) -> Collision
     if e < d { new } else { best }
 }
 
-// The vertex v of one ring against the edge e of the other.
-fn pair(vertices: &[f64], edges: &[f64], sweep: Sweep, kind: u8, v: usize, e: usize) -> Collision
-    requires { ⌜ (v < count (now vertices)) × (e < count (now edges)) ⌝ }
-    ensures { λ r. ⌜ r ≡ pairOf (now (vertices .entry)) (now (edges .entry)) sweep kind v e ⌝ }
+// What a ray of the vertex v of one ring makes of the edge e of the other.
+fn pair(ray: Ray, sweep: Sweep, kind: u8, v: usize, e: usize) -> Collision
+    ensures { λ r. ⌜ r ≡ pairBy ray sweep kind v e ⌝ }
 {
-    let ray = edge_ray(point_at(vertices, v), sweep.dir, edges, e, sweep.tolerance);
     if kind == 0 {
         counted(ray, sweep, 0, e, v)
     } else {
@@ -153,11 +164,17 @@ fn row(
     ensures { λ r. ⌜ r ≡ rowOf (now (vertices .entry)) (now (edges .entry)) sweep kind v before ⌝ }
 {
     let n = edges.len() / 2;
+    let origin = point_at(vertices, v);
     let mut best = before;
     let mut e = 0;
     while e < n {
-        best = keep(best, pair(vertices, edges, sweep, kind, v, e));
-        e += 1;
+        let ray = edge_ray(origin, sweep.dir, edges, e, sweep.tolerance);
+        if let Ray::At(_) = ray {
+            best = keep(best, pair(ray, sweep, kind, v, e));
+            e += 1;
+        } else {
+            e += 1;
+        }
     }
     best
 }

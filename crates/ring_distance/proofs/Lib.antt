@@ -1,2 +1,5 @@
 -- The modules that belong to no one function.
+pub mod Signs
+pub mod Roots
+pub mod Turns
 pub mod Worked

@@ -1,3 +1,4 @@
 -- The definitions that the contracts of ring_distance cite.
 pub mod Distance
+pub mod Squared
 pub mod Calls
