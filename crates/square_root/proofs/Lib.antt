@@ -6,6 +6,7 @@ pub mod Values
 pub mod Near
 pub mod Patterns
 pub mod Join
+pub mod Leading
 pub mod Normal
 pub mod Compare
 pub mod Above

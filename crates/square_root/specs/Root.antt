@@ -49,3 +49,9 @@ pub record Radicand (m t : ℕ) : Type 0 where
   pub short : m < 2 ^ 53
   pub least : 54 ≤ t
   pub most : t < 4000
+
+-- a is the first half of the 54 digits of the root of m * 2 ^ 54: it is the whole part of m's root, and has 27 digits
+pub record Leading (m a : ℕ) : Type 0 where
+  pub root : WholeRoot m a
+  pub long : 2 ^ 26 ≤ a
+  pub short : a < 2 ^ 27

@@ -1,39 +1,40 @@
--- `square_root::assembled` meets its contract. Whichever arm gave the digits, they are those of the root of
--- m * 2 ^ (t % 2), and `proofs/Join.antt` says what they make. Assumes nothing.
+-- `square_root::assembled` meets its contract. The digits are those of the root of m * 2 ^ (t % 2), and
+-- `proofs/Join.antt` says what they make. Assumes nothing.
 use mathlib.Core.Path.{_≡_}
-use mathlib.Core.Logic.{⊎-elim}
-use Prim.Native.Nat.{ℕ, _*_, _%_, _^_}
+use Prim.Native.Nat.{ℕ, zero, suc, _*_, _%_, _^_, _≤_, _<_}
 use native.Mathlib.Omega.{arith}
 use borrow.Author.Needs.{needs}
-use Rattle.square_root.specs.Root.{WholeRoot}
 use Rattle.square_root.proofs.Join.{Joined, joined}
 use Rattle.square_root.proofs.assembled.Statement.{statement}
 use Rattle.square_root.proofs.assembled.Tie as tie
 
-even : (m t r : ℕ) → t % 2 ≡ 0 → WholeRoot (m * 2 ^ 54) r → WholeRoot (m * 2 ^ (t % 2) * 2 ^ 54) r
-even m t r e w = rw e (omega arith)
+-- what the shift by d, 0 or 1, makes of m
+record Shifted (m d n : ℕ) : Type 0 where
+  is : n ≡ m * 2 ^ d
+  long : 2 ^ 52 ≤ n
+  short : n < 2 ^ 54
 
-odd : (m t r : ℕ) → (t % 2 ≡ 0 → ⊥) → WholeRoot (m * 2 * 2 ^ 54) r → WholeRoot (m * 2 ^ (t % 2) * 2 ^ 54) r
-odd m t r n w = let e : t % 2 ≡ 1 = omega arith in rw e (omega arith)
+shifted : (m d : ℕ) → 2 ^ 52 ≤ m → m < 2 ^ 53 → d < 2 → Shifted m d (m * 2 ^ d % 2 ^ 64)
+shifted m zero lo hi b = record { is = omega arith; long = omega arith; short = omega arith }
+shifted m (suc zero) lo hi b = record { is = omega arith; long = omega arith; short = omega arith }
+shifted m (suc (suc d)) lo hi b = absurd (omega arith)
 
-both : (c : tie.Joined1) → Joined (c .before .args .m) (c .before .args .t) (c .if1 .r)
-both c =
-    let m = c .before .args .m in
-    let t = c .before .args .t in
-    joined m t (c .if1 .r) (c .before .pre)
-    (⊎-elim
-    (λ w. rw (w .2) (even m t (w .1 .result) (w .0 .taken) (w .1 .ensures)))
-    (λ w. rw (w .2) (odd m t (w .1 .result) (w .0 .left) (w .1 .ensures)))
-    (c .if1 .came))
+form : (c : tie.Start) →
+    let m = c .args .m in
+    let d = c .args .t % 2 in
+    Shifted m d (m * 2 ^ d % 2 ^ 64)
+form c = shifted _ _ (c .pre .long) (c .pre .short) (omega arith)
 
-digits-requires : tie.Need-digits-requires
-digits-requires c κs = search needs
+digits-joined : (c : tie.After-whole-root) → Joined (c .before .args .m) (c .before .args .t) (c .whole-root .result)
+digits-joined c =
+    let s = c .before in
+    joined _ (s .args .t) _ (s .pre) (rw (form s .is) at (c .whole-root .ensures))
 
-mul-digits : tie.Need-mul-digits
-mul-digits c = search needs
+shl-whole-root : tie.Need-shl-whole-root
+shl-whole-root c = search needs
 
-digits-requires-2 : tie.Need-digits-requires-2
-digits-requires-2 c κs = search needs
+whole-root-requires : tie.Need-whole-root-requires
+whole-root-requires c κs = (form c .long, form c .short)
 
 sub-result : tie.Need-sub-result
 sub-result c = search needs
@@ -42,15 +43,15 @@ mul-result : tie.Need-mul-result
 mul-result c = search needs
 
 add-result : tie.Need-add-result
-add-result c = omega (arith, both (c .before) .1)
+add-result c = omega (arith, digits-joined c .1)
 
 add-result-2 : tie.Need-add-result-2
 add-result-2 c = search needs
 
 returns : tie.Need-returns
-returns c = let p = both (c .before) .0 in (p .is, p .finite)
+returns c = let p = digits-joined c .0 in (p .is, p .finite)
 
 pub assembled-spec : {M : Type 1} → statement M
 assembled-spec =
     tie.close
-    (tie.spec digits-requires mul-digits digits-requires-2 sub-result mul-result add-result add-result-2 returns)
+    (tie.spec shl-whole-root whole-root-requires sub-result mul-result add-result add-result-2 returns)

@@ -1,0 +1,35 @@
+-- `square_root::whole_root` meets its contract: the two tests are what `leading` of `proofs/Leading.antt` asks. Assumes
+-- nothing.
+use borrow.Author.Needs.{needs}
+use Rattle.square_root.proofs.Numbers.{square-fits}
+use Rattle.square_root.proofs.Leading.{leading}
+use Rattle.square_root.proofs.whole_root.Statement.{statement}
+use Rattle.square_root.proofs.whole_root.Tie as tie
+
+guess-requires : tie.Need-guess-requires
+guess-requires c κs = search needs
+
+mul-s : tie.Need-mul-s
+mul-s c = square-fits _ (c .guess .ensures)
+
+mul-if2 : tie.Need-mul-if2
+mul-if2 c = search needs
+
+lengthened-requires : tie.Need-lengthened-requires
+lengthened-requires c κs =
+    let p = c .before .before .before .pre in
+    leading _ _ (p .0) (p .1) (c .before .if1 .taken) (c .if2 .taken)
+
+returns : tie.Need-returns
+returns c = search needs
+
+digits-requires : tie.Need-digits-requires
+digits-requires c κs = search needs
+
+returns-2 : tie.Need-returns-2
+returns-2 c = search needs
+
+pub whole-root-spec : {M : Type 1} → statement M
+whole-root-spec =
+    tie.close
+    (tie.spec guess-requires mul-s mul-if2 lengthened-requires returns digits-requires returns-2)
