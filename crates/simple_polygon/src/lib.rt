@@ -3,12 +3,13 @@ pub mod calls;
 
 use plane::Point;
 use plane::vector::turn;
+use ring::next;
 use ring::point_at;
 ghost use mathlib.Core.Bool.{not, _||_};
 ghost use mathlib.Core.Path.{_≡_};
 ghost use Prim.Native.Nat.{_<_};
 ghost use Rattle.plane.specs.Vector.{turnOf};
-ghost use Rattle.ring.specs.Ring.{count, nextOf};
+ghost use Rattle.ring.specs.Ring.{count};
 ghost use Rattle.segments.specs.Segments.{intersectOf};
 ghost use Rattle.simple_polygon.specs.Sides.{aside, sameSide};
 ghost use Rattle.simple_polygon.specs.Simple.{adjacentOf, clearRow, isSimple};
@@ -25,14 +26,6 @@ fn adjacent(i: usize, j: usize, n: usize) -> bool
     } else {
         false
     }
-}
-
-// The vertex after i of n.
-fn after(i: usize, n: usize) -> usize
-    requires { ⌜ i < n ⌝ }
-    ensures { λ r. ⌜ (r ≡ nextOf i n) × (r < n) ⌝ }
-{
-    if i + 1 == n { 0 } else { i + 1 }
 }
 
 // Whether a turn is not collinear.
@@ -89,12 +82,12 @@ fn clear_row(ring: &[f64], i: usize) -> bool
 {
     let n = ring.len() / 2;
     let a1 = point_at(ring, i);
-    let a2 = point_at(ring, after(i, n));
+    let a2 = point_at(ring, next(i, n));
     let mut b1 = a2;
     let mut d3 = turn(a1, a2, b1);
     let mut j = i + 1;
     while j < n {
-        let b2 = point_at(ring, after(j, n));
+        let b2 = point_at(ring, next(j, n));
         let d4 = turn(a1, a2, b2);
         if clear_pair(adjacent(i, j, n), a1, a2, b1, b2, d3, d4) {
             b1 = b2;

@@ -17,8 +17,8 @@ abbrev μ-loop : tie.MeasureT-loop
 point-at-requires : tie.Need-point-at-requires Inv-loop μ-loop
 point-at-requires c κs = search needs
 
-after-requires : tie.Need-after-requires Inv-loop μ-loop
-after-requires c κs = search needs
+next-requires : tie.Need-next-requires Inv-loop μ-loop
+next-requires c κs = search needs
 
 point-at-requires-2 : tie.Need-point-at-requires-2 Inv-loop μ-loop
 point-at-requires-2 c κs = search needs
@@ -32,10 +32,10 @@ add-j c = omega arith
 loop-holds : tie.Need-loop-holds Inv-loop μ-loop
 loop-holds c =
     let p = c .before in
-    first-edge _ _ (p .before .before .before .before .pre) (p .point-at2 .ensures ∙ ap (pointAt _) (p .before .after .ensures .0)) (c .turn .ensures)
+    first-edge _ _ (p .before .before .before .before .pre) (p .point-at2 .ensures ∙ ap (pointAt _) (p .before .next .ensures .0)) (c .turn .ensures)
 
-after-requires-2 : tie.Need-after-requires-2 Inv-loop μ-loop
-after-requires-2 c κs = search needs
+next-requires-2 : tie.Need-next-requires-2 Inv-loop μ-loop
+next-requires-2 c κs = search needs
 
 point-at-requires-3 : tie.Need-point-at-requires-3 Inv-loop μ-loop
 point-at-requires-3 c κs = search needs
@@ -61,7 +61,7 @@ loop-again c =
     let b = a .before .before in
     let l = b .before .before .before in
     let p = l .before .before in
-    next-edge _ _ (l .loop .inv) (b .before .before .loop-test .taken) (p .before .before .point-at .ensures) (p .point-at2 .ensures ∙ ap (pointAt _) (p .before .after .ensures .0)) (b .point-at3 .ensures ∙ ap (pointAt _) (b .before .after2 .ensures .0)) (a .adjacent .ensures)
+    next-edge _ _ (l .loop .inv) (b .before .before .loop-test .taken) (p .before .before .point-at .ensures) (p .point-at2 .ensures ∙ ap (pointAt _) (p .before .next .ensures .0)) (b .point-at3 .ensures ∙ ap (pointAt _) (b .before .next2 .ensures .0)) (a .adjacent .ensures)
     (c .before .clear-pair .ensures) (a .before .turn2 .ensures) (c .if1 .taken)
 
 returns : tie.Need-returns Inv-loop μ-loop
@@ -71,7 +71,7 @@ returns c =
     let l = b .before .before .before in
     let p = l .before .before in
     sym
-    (edge-off _ _ (l .loop .inv) (b .before .before .loop-test .taken) (p .before .before .point-at .ensures) (p .point-at2 .ensures ∙ ap (pointAt _) (p .before .after .ensures .0)) (b .point-at3 .ensures ∙ ap (pointAt _) (b .before .after2 .ensures .0)) (a .adjacent .ensures)
+    (edge-off _ _ (l .loop .inv) (b .before .before .loop-test .taken) (p .before .before .point-at .ensures) (p .point-at2 .ensures ∙ ap (pointAt _) (p .before .next .ensures .0)) (b .point-at3 .ensures ∙ ap (pointAt _) (b .before .next2 .ensures .0)) (a .adjacent .ensures)
     (c .before .clear-pair .ensures) (c .if1 .left))
 
 returns-2 : tie.Need-returns-2 Inv-loop μ-loop
@@ -84,12 +84,12 @@ clear-row-spec =
     Inv-loop
     μ-loop
     point-at-requires
-    after-requires
+    next-requires
     point-at-requires-2
     turn-requires
     add-j
     loop-holds
-    after-requires-2
+    next-requires-2
     point-at-requires-3
     turn-requires-2
     adjacent-requires
