@@ -20,5 +20,6 @@ pub use moves::{
 };
 pub use segments::{point_on_segment, point_to_segment_distance, project_point_to_segment};
 pub use trace::{
-    compute_nfp_sliding, find_start_position, simplify_polygon, Nfp, SlidingNfpConfig, StopReason,
+    compute_nfp_sliding, find_start_position, simplify_polygon, Nfp, Settings, SlidingNfpConfig,
+    StopReason,
 };

@@ -19,6 +19,18 @@ pub struct SlidingNfpConfig {
     pub min_translation: f64,
 }
 
+/// The settings of a trace, by the name that the library has for them.
+///
+/// ```
+/// use byrlygent::nfp_sliding::Settings;
+///
+/// let settings = Settings::default();
+/// assert_eq!(settings.contact_tolerance, 1e-6);
+/// assert_eq!(settings.min_translation, 1e-8);
+/// assert_eq!(settings.max_iterations, 10_000);
+/// ```
+pub type Settings = SlidingNfpConfig;
+
 impl Default for SlidingNfpConfig {
     fn default() -> Self {
         Self { contact_tolerance: 1e-6, max_iterations: 10_000, min_translation: 1e-8 }
