@@ -1,9 +1,10 @@
 -- The modules that belong to no one function.
 pub mod ByKind
 pub mod Picks
-pub mod Scanning
 pub mod Counting
 pub mod Filling
 pub mod Writing
 pub mod Screened
 pub mod Worked
+pub mod Rowing
+pub mod Regions

@@ -1,24 +1,21 @@
 // The contacts of a stationary and an orbiting ring, in the order of the pairs' numbers: `find_contacts` of `nfp_sliding.rs`.
 pub mod calls;
+mod rows;
 pub mod screen;
 mod write;
 
-use near::point_on_segment;
 use pairs::Pair;
-use pairs::after;
-use pairs::pair_at;
-use pairs::pair_count;
 use plane::Point;
-use plane::vector::edges_parallel;
-use plane::vector::minus;
 use ring::next;
 use ring::point_at;
+use rows::scan_edges;
+use rows::scan_vertices;
 ghost use mathlib.Core.Path.{_≡_};
-ghost use Prim.Native.Nat.{_<_, _≤_};
+ghost use Prim.Native.Nat.{_*_, _<_, _≤_};
 ghost use lib.ListN.{length};
 ghost use Rattle.ring.specs.Ring.{count};
 ghost use Rattle.pairs.specs.Pairs.{Sides, Within, pairCount};
-ghost use Rattle.contacts.specs.Touching.{edgeEnd, edgesOf, edgesTouch, touchesBy, pointBy, touching, contactPoint};
+ghost use Rattle.contacts.specs.Touching.{edgeEnd, edgesOf, pointBy, contactPoint};
 ghost use Rattle.contacts.specs.Contacts.{contactsFrom, contactsOf, nextOf};
 
 // The two edges of a pair: a b of the stationary ring, c d of the orbiting one.
@@ -58,40 +55,6 @@ pub fn edges_of(stationary: &[f64], orbiting: &[f64], pair: Pair) -> Edges
     }
 }
 
-// Whether the edges are parallel, and both ends of the orbiting one nearer to the stationary one than tol.
-fn edges_touch(e: Edges, tol: f64) -> bool
-    ensures { λ r. ⌜ r ≡ edgesTouch e tol ⌝ }
-{
-    if point_on_segment(e.c, e.a, e.b, tol) {
-        if point_on_segment(e.d, e.a, e.b, tol) {
-            edges_parallel(minus(e.b, e.a), minus(e.d, e.c))
-        } else {
-            false
-        }
-    } else {
-        false
-    }
-}
-
-// Whether a pair with these edges touches, by its kind.
-fn touches_by(kind: u8, e: Edges, tol: f64) -> bool
-    ensures { λ r. ⌜ r ≡ touchesBy kind e tol ⌝ }
-{
-    match kind {
-        0 => point_on_segment(e.c, e.a, e.b, tol),
-        1 => point_on_segment(e.a, e.c, e.d, tol),
-        _ => edges_touch(e, tol),
-    }
-}
-
-// Whether a pair touches.
-fn touches(stationary: &[f64], orbiting: &[f64], tol: f64, pair: Pair) -> bool
-    requires { ⌜ Within (count (now stationary)) (count (now orbiting)) pair ⌝ }
-    ensures { λ r. ⌜ r ≡ touching (now (stationary .entry)) (now (orbiting .entry)) tol pair ⌝ }
-{
-    touches_by(pair.kind, edges_of(stationary, orbiting, pair), tol)
-}
-
 // The point at which a pair with these edges touches: the vertex, or the middle of the orbiting edge.
 fn point_by(kind: u8, e: Edges) -> Point
     ensures { λ r. ⌜ r ≡ pointBy kind e ⌝ }
@@ -114,6 +77,46 @@ fn contact_point(stationary: &[f64], orbiting: &[f64], pair: Pair) -> Point
     point_by(pair.kind, edges_of(stationary, orbiting, pair))
 }
 
+// The first contact of two edges from the pair number `from` on.
+fn next_edges(stationary: &[f64], orbiting: &[f64], tol: f64, from: usize) -> Next
+    requires { ⌜ Sides (count (now stationary)) (count (now orbiting)) ⌝ }
+    requires { ⌜ (2 * (count (now stationary) * count (now orbiting)) ≤ from) × (from ≤ pairCount (count (now stationary)) (count (now orbiting))) ⌝ }
+    ensures { λ r. ⌜ r ≡ nextOf (contactsFrom (now (stationary .entry)) (now (orbiting .entry)) tol from) ⌝ }
+{
+    let on = orbiting.len() / 2;
+    let m = stationary.len() / 2 * on;
+    if from < 3 * m {
+        let j = from - 2 * m;
+        let k = scan_edges(stationary, orbiting, j / on, j % on, tol);
+        if k < m {
+            Next::At(2 * m + k)
+        } else {
+            Next::Nothing
+        }
+    } else {
+        Next::Nothing
+    }
+}
+
+// The first contact that is no orbiting vertex on a stationary edge, from the pair number `from` on.
+fn next_later(stationary: &[f64], orbiting: &[f64], tol: f64, from: usize) -> Next
+    requires { ⌜ Sides (count (now stationary)) (count (now orbiting)) ⌝ }
+    requires { ⌜ (count (now stationary) * count (now orbiting) ≤ from) × (from ≤ pairCount (count (now stationary)) (count (now orbiting))) ⌝ }
+    ensures { λ r. ⌜ r ≡ nextOf (contactsFrom (now (stationary .entry)) (now (orbiting .entry)) tol from) ⌝ }
+{
+    let on = orbiting.len() / 2;
+    let m = stationary.len() / 2 * on;
+    if from < 2 * m {
+        let j = from - m;
+        let k = scan_vertices(stationary, orbiting, j / on, j % on, tol);
+        if k < m {
+            return Next::At(m + k);
+        }
+        return next_edges(stationary, orbiting, tol, 2 * m);
+    }
+    next_edges(stationary, orbiting, tol, from)
+}
+
 // The first contact from the pair number `from` on.
 pub fn next_contact(stationary: &[f64], orbiting: &[f64], tol: f64, from: usize) -> Next
     requires { ⌜ Sides (count (now stationary)) (count (now orbiting)) ⌝ }
@@ -121,18 +124,15 @@ pub fn next_contact(stationary: &[f64], orbiting: &[f64], tol: f64, from: usize)
     ensures { λ r. ⌜ r ≡ nextOf (contactsFrom (now (stationary .entry)) (now (orbiting .entry)) tol from) ⌝ }
 {
     let sn = stationary.len() / 2;
-    let on = orbiting.len() / 2;
-    let total = pair_count(sn, on);
-    let mut pair = pair_at(from, sn, on);
-    let mut k = from;
-    while k < total {
-        if touches(stationary, orbiting, tol, pair) {
+    let m = sn * (orbiting.len() / 2);
+    if from < m {
+        let k = scan_vertices(orbiting, stationary, from / sn, from % sn, tol);
+        if k < m {
             return Next::At(k);
         }
-        pair = after(pair, sn, on);
-        k += 1;
+        return next_later(stationary, orbiting, tol, m);
     }
-    Next::Nothing
+    next_later(stationary, orbiting, tol, from)
 }
 
 // How many contacts there are.

@@ -1,5 +1,5 @@
 -- The pairs of two rings' elements, by their numbers in document 01's scan order. Definitions only.
-use Prim.Native.Nat.{ℕ, _+_, _*_, _/_, _%_, _≤_, _<_}
+use Prim.Native.Nat.{ℕ, _*_, _/_, _%_, _≤_, _<_}
 use mathlib.Core.Bool.{cond}
 use lib.Dec.{eqb}
 use Rattle.pairs.specs.declared.Pair.{Pair}
@@ -31,8 +31,3 @@ pairOf sn on k =
     let kd = k / (sn * on) in
     let r = k % (sn * on) in
     cond (eqb kd 0) (pair kd (r % sn) (r / sn)) (pair kd (r / on) (r % on))
-
--- a pair's number
-unfoldable pub numberOf : ℕ → ℕ → Pair → ℕ
-numberOf sn on p =
-    p .kind * (sn * on) + cond (eqb (p .kind) 0) (p .orbiting * sn + p .stationary) (p .stationary * on + p .orbiting)

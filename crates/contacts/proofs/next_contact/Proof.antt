@@ -1,78 +1,56 @@
--- `contacts::next_contact` meets its contract: `proofs/Scanning.antt` has the invariant; the measure is what is left of the pairs. Assumes nothing.
+-- `contacts::next_contact` meets its contract: `proofs/Regions.antt` has its cases. Assumes nothing.
 use native.Mathlib.Omega.{arith}
-use borrow.Author.Needs.{needs}
-use Prim.Native.Nat.{_-_}
-use mathlib.Core.Path.{refl}
+use mathlib.Core.Path.{sym, ap, _∙_}
 use Rattle.pairs.proofs.Numbers.{most}
-use Rattle.contacts.proofs.Scanning.{Scanning, inside, onward, hit, done}
+use Rattle.contacts.specs.Contacts.{nextOf}
+use Rattle.contacts.proofs.Regions.{columns-in, first-hit, first-end}
 use Rattle.contacts.proofs.next_contact.Statement.{statement}
 use Rattle.contacts.proofs.next_contact.Tie as tie
 
-abbrev Inv-loop : tie.InvT-loop
-Inv-loop stationary orbiting tol from sn on total pair₀ k₀ pair k = Scanning stationary orbiting tol from total pair k
+mul-m : tie.Need-mul-m
+mul-m c = omega (arith, most _ _ (c .before .before .pre .0))
 
-abbrev μ-loop : tie.MeasureT-loop
-μ-loop stationary orbiting tol from sn on total pair₀ k₀ pair k = total - k
+div-scan-vertices : tie.Need-div-scan-vertices
+div-scan-vertices c = omega (arith, c .before .before .before .pre .0 .stationary-some)
 
-pair-count-requires : tie.Need-pair-count-requires Inv-loop μ-loop
-pair-count-requires c κs = search needs
+rem-scan-vertices : tie.Need-rem-scan-vertices
+rem-scan-vertices c = omega (arith, c .before .before .before .pre .0 .stationary-some)
 
-pair-at-requires : tie.Need-pair-at-requires Inv-loop μ-loop
-pair-at-requires c κs = search needs
+scan-vertices-requires : tie.Need-scan-vertices-requires
+scan-vertices-requires c κs =
+    let p = c .before .before .before .pre in
+    (columns-in _ _ (p .0) _ (c .if1 .taken), (p .0 .orbiting-most, p .0 .stationary-most))
 
-loop-holds : tie.Need-loop-holds Inv-loop μ-loop
-loop-holds c =
-    let p = c .before .before .before .before .pre in
-    record { all = c .before .pair-count .ensures; most = omega (arith, p .1, c .before .pair-count .ensures); at = c .pair-at .ensures; rest = refl }
-
-touches-requires : tie.Need-touches-requires Inv-loop μ-loop
-touches-requires c κs =
-    let l = c .before in
-    inside _ _ _ (l .before .before .before .before .before .pre .0) (l .loop .inv) (c .loop-test .taken)
-
-returns : tie.Need-returns Inv-loop μ-loop
+returns : tie.Need-returns
 returns c =
-    let i = c .before .before in
-    let l = i .before in
-    hit _ _ _ (l .before .before .before .before .before .pre .0) (l .loop .inv) (i .loop-test .taken) (c .before .touches .ensures) (c .if1 .taken)
+    let p = c .before .before .before .before .before .pre in
+    first-hit _ _ _ (p .0) _ _ (c .before .before .if1 .taken) (c .before .scan-vertices .ensures) (c .if2 .taken)
 
-after-requires : tie.Need-after-requires Inv-loop μ-loop
-after-requires c κs =
-    let i = c .before .before in
-    let l = i .before in
-    let d = l .before .before .before .before .before .pre .0 in
-    (d, inside _ _ _ d (l .loop .inv) (i .loop-test .taken))
+next-later-requires : tie.Need-next-later-requires
+next-later-requires c κs = (c .before .before .before .before .before .pre .0, (omega arith, omega arith))
 
-add-k : tie.Need-add-k Inv-loop μ-loop
-add-k c = omega arith
-
-loop-less : tie.Need-loop-less Inv-loop μ-loop
-loop-less c = omega arith
-
-loop-again : tie.Need-loop-again Inv-loop μ-loop
-loop-again c =
-    let t = c .before .before in
-    let l = t .before .before in
-    onward _ _ _ (l .before .before .before .before .before .pre .0) (l .loop .inv) (t .before .loop-test .taken) (t .touches .ensures) (c .before .if1 .left) (c .after .ensures)
-
-returns-2 : tie.Need-returns-2 Inv-loop μ-loop
+returns-2 : tie.Need-returns-2
 returns-2 c =
-    let l = c .before in
-    done _ _ _ (l .before .before .before .before .before .pre .0) (l .loop .inv) (c .loop-test .left)
+    let e = c .before in
+    let p = c .before .before .before .before .before .before .pre in
+    c .next-later .ensures ∙ sym (ap nextOf (first-end _ _ _ (p .0) _ _ (e .before .before .if1 .taken) (e .before .scan-vertices .ensures) (e .if2 .left)))
+
+next-later-requires-2 : tie.Need-next-later-requires-2
+next-later-requires-2 c κs = (c .before .before .before .pre .0, (c .if1 .left, c .before .before .before .pre .1))
+
+returns-3 : tie.Need-returns-3
+returns-3 c = c .next-later2 .ensures
 
 pub next-contact-spec : {M : Type 1} → statement M
 next-contact-spec =
     tie.close
     (tie.spec
-    Inv-loop
-    μ-loop
-    pair-count-requires
-    pair-at-requires
-    loop-holds
-    touches-requires
+    mul-m
+    div-scan-vertices
+    rem-scan-vertices
+    scan-vertices-requires
     returns
-    after-requires
-    add-k
-    loop-less
-    loop-again
-    returns-2)
+    next-later-requires
+    returns-2
+    next-later-requires-2
+    returns-3)
