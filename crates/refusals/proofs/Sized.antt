@@ -10,7 +10,7 @@ use lib.Ieee.{Float}
 use borrow.Author.Tests.{eqb-true, leb-true}
 use Rattle.refusals.specs.Refusals.{passed, unless, first}
 use Rattle.refusals.specs.Bounds.{ringLength, polygonLength}
-use Rattle.refusals.specs.Screens.{wrongPolygon, ofRing, ofTwoRings}
+use Rattle.refusals.specs.Screens.{wrongPolygon}
 use Rattle.refusals.specs.declared.Refusal.{Refusal}
 
 -- an even length, of at most 512
@@ -47,16 +47,6 @@ held false num rest z h = (cc (simp z at h), cc (simp z at h))
 pub held-last : (ok : Bool) (num : ℕ) → eqb num 0 ≡ false → passed (unless ok num) ≡ true → ok ≡ true
 held-last true num z h = refl
 held-last false num z h = cc (simp z at h)
-
-pub ring-sized : (r : List Float) → passed (ofRing r) ≡ true → Sized r
-unfolding ofRing
-ring-sized r h = sized r (held (ringLength r) 1 _ refl h .0)
-
-pub two-sized : (a b : List Float) → passed (ofTwoRings a b) ≡ true → Sized a × Sized b
-unfolding ofTwoRings
-two-sized a b h =
-    let p = held (ringLength a) 1 _ refl h in
-    (sized a (p .0), sized b (held (ringLength b) 1 _ refl (p .1) .0))
 
 -- two polygons, and the rest of the row
 pub two-polygons : (a b : List Float) (rest : Refusal) → passed (first (wrongPolygon a) (first (wrongPolygon b) rest)) ≡ true
