@@ -26,7 +26,7 @@ use Rattle.square_root.proofs.Laws.{root-nearest}
 use Rattle.square_root.proofs.Squares.{squares-not-below}
 use Rattle.square_root.proofs.Numbers.{lt-or-le}
 
-abbrev unit : ℕ
+abbrev pub unit : ℕ
 unit = 2 ^ 1074
 
 -- a root below t units is that of less than t squared
@@ -50,7 +50,7 @@ own f q j h k = round-exact f false (q * 2 ^ j) (2 ^ low f) q j (pow-pos (low f)
 most : (b : ℕ) → b < 2047 * 2 ^ 52 → val b < 2 ^ 2098
 most b h = subst (λ (x : ℕ). val b < x) (val-at 2046 (2 ^ 52) (omega arith) (omega arith)) (val-lt h)
 
-own-round : (b : ℕ) → b < 2047 * 2 ^ 52 → HasValue (round binary64 false (val b) unit) false (val b) unit
+pub own-round : (b : ℕ) → b < 2047 * 2 ^ 52 → HasValue (round binary64 false (val b) unit) false (val b) unit
 own-round b h = elim (lt-or-le b (2 ^ 52)) [
   | inl l ↦ (let e : b * 2 ^ 0 ≡ val b = mul-one b ∙ sym (val-low b l) in
       subst (λ (x : ℕ). HasValue (round binary64 false x unit) false x unit) e (own binary64 b 0 (omega arith) (rw e (most b h))))

@@ -1,0 +1,216 @@
+-- A point that lies apart from an edge by their bounds is not near it: along one axis the foot is farther from it than twice the tolerance, the square of that is not above the sum of
+-- both squares, and no root of such a sum is below the tolerance. Assumes nothing.
+use Prim.Native.Nat.{ℕ, suc, _+_, _*_}
+use native.Mathlib.Nat.{add-comm, mul-comm}
+use mathlib.Core.Path.{_≡_, refl, sym, ap, _∙_, subst}
+use mathlib.Core.Logic.{_⊎_, inl, inr}
+use mathlib.Core.Bool.{Bool, true, false, not, _&&_, _||_, cond, true≢false}
+use lib.IntN.{ℤ, pos}
+use lib.Dec.{T, ltb}
+use lib.Ieee.{Float, nan, inf, fin, binary64, unlike, up, down, fits, round, neg, ofBits, add, sum, mul, lt, le}
+use lib.Ieee.Fits.{sub-fits, mul-fits}
+use lib.Ieee.Positive.{positive, above-of-le, mul-mono}
+use Rattle.scalar.specs.Float.{f0, f1, _⊕_, _⊖_, _⊗_}
+use Rattle.scalar.specs.Scalar.{clampOf}
+use Rattle.square_root.specs.Root.{sqrtOf}
+use Rattle.square_root.proofs.Compare.{number-or-infinite, above-zero, lt-of-infinity, le-of-lt}
+use Rattle.plane.specs.Vector.{point, minusOf, plusOf, dotOf, lengthOf, distanceOf}
+use Rattle.plane.specs.Segment.{clampedFoot, projectOf, alongOf, toSegmentOf, onSegmentOf, f1e-20}
+use Rattle.plane.specs.declared.Point.{Point}
+use Rattle.near.proofs.Below.{no-root}
+use Rattle.bounds.specs.Bounds.{Inside, Spans, beyond, apart}
+use Rattle.bounds.specs.declared.Bounds.{Bounds}
+use Rattle.bounds.proofs.Signed.{round-plain, Plain, infinite, number}
+use Rattle.bounds.proofs.Ordered.{lt-le, le-trans}
+use Rattle.bounds.proofs.Sums.{rises}
+use Rattle.bounds.proofs.Beyond.{Far, by-low, by-high, highest}
+
+-- ---- squares
+
+square-plain : (x : Float) → (x ⊗ x ≡ nan) ⊎ Plain (x ⊗ x)
+unfolding mul
+square-plain nan = inl refl
+square-plain (inf true) = inr infinite
+square-plain (inf false) = inr infinite
+square-plain (fin true m e) = inr (round-plain binary64 (m * up e * (m * up e)) (down e * down e))
+square-plain (fin false m e) = inr (round-plain binary64 (m * up e * (m * up e)) (down e * down e))
+
+-- either sign has the same
+square-turned : (x : Float) → neg x ⊗ neg x ≡ x ⊗ x
+unfolding mul neg
+square-turned nan = refl
+square-turned (inf true) = refl
+square-turned (inf false) = refl
+square-turned (fin true m e) = refl
+square-turned (fin false m e) = refl
+
+less-turned : (x y : Float) → lt x (neg y) ≡ lt y (neg x)
+unfolding lt neg
+less-turned nan nan = refl
+less-turned nan (inf s) = refl
+less-turned nan (fin s m e) = refl
+less-turned (inf s) nan = refl
+less-turned (fin s m e) nan = refl
+less-turned (inf true) (inf true) = refl
+less-turned (inf true) (inf false) = refl
+less-turned (inf false) (inf true) = refl
+less-turned (inf false) (inf false) = refl
+less-turned (inf true) (fin t n d) = refl
+less-turned (inf false) (fin t n d) = refl
+less-turned (fin s m e) (inf true) = refl
+less-turned (fin s m e) (inf false) = refl
+less-turned (fin false m e) (fin false n d) = refl
+less-turned (fin false m e) (fin true n d) = refl
+less-turned (fin true m e) (fin false n d) = refl
+less-turned (fin true m e) (fin true n d) = ap (λ (z : ℕ). ltb 0 z) (add-comm (m * up e * down d) (n * up d * down e))
+
+infinite-square : inf false ⊗ inf false ≡ inf false
+unfolding mul
+infinite-square = refl
+
+up-to-infinity : (x : Float) → Plain x → T (le x (inf false))
+unfolding le
+up-to-infinity x infinite = tt
+up-to-infinity x (number m e) = tt
+
+plain-of : (x : Float) → T (positive x) → Plain (x ⊗ x)
+unfolding mul
+plain-of nan P = absurd P
+plain-of (inf s) P = absurd P
+plain-of (fin true m e) P = absurd P
+plain-of (fin false m e) P = round-plain binary64 (m * up e * (m * up e)) (down e * down e)
+
+module _ (far : Float) (F : lt f0 far ≡ true) where
+  square-mono : (x : Float) → lt far x ≡ true → T (le (far ⊗ far) (x ⊗ x))
+  square-mono x h =
+      elim (number-or-infinite far (above-zero far F)) [
+        | inl P ↦ elim (number-or-infinite x (above-of-le far x P (le-of-lt far x h))) [
+          | inl Q ↦ mul-mono binary64 far x far x P Q P Q (le-of-lt far x h) (le-of-lt far x h)
+          | inr e ↦ rw (e, infinite-square) (up-to-infinity (far ⊗ far) (plain-of far P))
+        ]
+        | inr e ↦ absurd (true≢false (sym h ∙ rw e (lt-of-infinity x)))
+      ]
+
+  squares : (x : Float) → (lt far x ≡ true) ⊎ (lt x (neg far) ≡ true) → T (le (far ⊗ far) (x ⊗ x))
+  squares x (inl h) = square-mono x h
+  squares x (inr h) = subst (λ (z : Float). T (le (far ⊗ far) z)) (square-turned x) (square-mono (neg x) (sym (less-turned x far) ∙ h))
+
+-- ---- a sum of squares is not below either
+
+sum-turned : {x y : Float} → Plain x → Plain y → x ⊕ y ≡ y ⊕ x
+unfolding add sum
+sum-turned infinite infinite = refl
+sum-turned infinite (number n d) = refl
+sum-turned (number m e) infinite = refl
+sum-turned (number m e) (number n d) = rw (add-comm (m * up e * down d) (n * up d * down e), mul-comm (down e) (down d)) refl
+
+plain-nan : {x : Float} → Plain x → x ⊕ nan ≡ nan
+unfolding add
+plain-nan infinite = refl
+plain-nan (number m e) = refl
+
+squares-turned : (x y : Float) → x ⊗ x ⊕ y ⊗ y ≡ y ⊗ y ⊕ x ⊗ x
+squares-turned x y =
+    elim (square-plain x) [
+      | inl e ↦ elim (square-plain y) [ inl d ↦ rw (e, d) refl | inr Q ↦ rw (e, plain-nan Q) (unfold add in refl) ]
+      | inr P ↦ elim (square-plain y) [ inl d ↦ rw (d, plain-nan P) (unfold add in refl) | inr Q ↦ sum-turned P Q ]
+    ]
+
+not-below : {x y : Float} → T (fits binary64 x) → Plain x → Plain y → T (le x (x ⊕ y))
+unfolding add le
+not-below F infinite infinite = tt
+not-below F infinite (number n d) = tt
+not-below F (number m e) infinite = tt
+not-below F (number m e) (number n d) = rises false m e false n d F refl
+
+module _ (tol far : Float) (G : T (fits binary64 tol)) (L : lt f0 tol ≡ true) (F : lt f0 far ≡ true) (S : lt (tol ⊗ tol) (far ⊗ far) ≡ true) where
+  by-sum : (x y : Float) → (x ⊗ x ⊕ y ⊗ y ≡ nan) ⊎ (lt (tol ⊗ tol) (x ⊗ x ⊕ y ⊗ y) ≡ true) → lt (sqrtOf binary64 (x ⊗ x ⊕ y ⊗ y)) tol ≡ false
+  by-sum x y (inl e) = rw e (unfold lt sqrtOf in refl)
+  by-sum x y (inr h) = no-root tol x y G L h
+
+  by-squares : (x y : Float) → (lt far x ≡ true) ⊎ (lt x (neg far) ≡ true) → (x ⊗ x ⊕ y ⊗ y ≡ nan) ⊎ (lt (tol ⊗ tol) (x ⊗ x ⊕ y ⊗ y) ≡ true)
+  by-squares x y h =
+      elim (square-plain x) [
+        | inl e ↦ inl (rw e (unfold add in refl))
+        | inr P ↦ elim (square-plain y) [
+          | inl e ↦ inl (rw e (plain-nan P))
+          | inr Q ↦ inr (lt-le (tol ⊗ tol) (x ⊗ x) (x ⊗ x ⊕ y ⊗ y) (lt-le (tol ⊗ tol) (far ⊗ far) (x ⊗ x) S (squares far F x h)) (not-below (mul-fits binary64 x x) P Q))
+        ]
+      ]
+
+  by-first : (x y : Float) → (x ≡ nan) ⊎ ((lt far x ≡ true) ⊎ (lt x (neg far) ≡ true)) → lt (sqrtOf binary64 (x ⊗ x ⊕ y ⊗ y)) tol ≡ false
+  by-first x y (inl e) = by-sum x y (inl (rw e (unfold mul add in refl)))
+  by-first x y (inr h) = by-sum x y (by-squares x y h)
+
+  by-second : (x y : Float) → (y ≡ nan) ⊎ ((lt far y ≡ true) ⊎ (lt y (neg far) ≡ true)) → lt (sqrtOf binary64 (x ⊗ x ⊕ y ⊗ y)) tol ≡ false
+  by-second x y h = subst (λ (z : Float). lt (sqrtOf binary64 z) tol ≡ false) (squares-turned y x) (by-first y x h)
+
+-- ---- the parameter of a foot is from 0 to 1, or a NaN
+
+clamped : (x : Float) → (lt (clampOf x f0 f1) f0 ≡ false) × (lt f1 (clampOf x f0 f1) ≡ false)
+unfolding clampOf
+clamped x = by (lt x f0) (lt f1 x) refl refl
+  where
+    by : (a b : Bool) → lt x f0 ≡ a → lt f1 x ≡ b → (lt (cond a f0 (cond b f1 x)) f0 ≡ false) × (lt f1 (cond a f0 (cond b f1 x)) ≡ false)
+    by true b h k = (unfold lt ofBits in refl, unfold lt ofBits in refl)
+    by false true h k = (unfold lt ofBits in refl, unfold lt ofBits in refl)
+    by false false h k = (h, k)
+
+share : (p a b : Point) → (lt (projectOf p a b) f0 ≡ false) × (lt f1 (projectOf p a b) ≡ false)
+unfolding projectOf clampedFoot
+share p a b = by (lt (dotOf (minusOf b a) (minusOf b a)) f1e-20)
+  where
+    by : (z : Bool) →
+        let t = cond z f0 (clampedFoot p a (minusOf b a) (dotOf (minusOf b a) (minusOf b a))) in
+        (lt t f0 ≡ false) × (lt f1 t ≡ false)
+    by true = (unfold lt ofBits in refl, unfold lt ofBits in refl)
+    by false = clamped _
+
+-- ---- the theorem
+
+both : (a b : Bool) → a && b ≡ true → (a ≡ true) × (b ≡ true)
+both true b h = (refl, h)
+both false b h = absurd (true≢false (sym h))
+
+one-of : (a b : Bool) → a || b ≡ true → (a ≡ true) ⊎ (b ≡ true)
+one-of true b h = inl refl
+one-of false b h = inr h
+
+module _ (q b : Bounds) (tol : Float) (p a c : Point) (G : T (fits binary64 tol)) (E : Spans q a c) (P : Inside b p) where
+  abbrev t : Float
+  t = projectOf p a c
+
+  abbrev far : Float
+  far = tol ⊕ tol
+
+  along-x : beyond (q .left) (q .right) (b .left) (b .right) far ≡ true
+      → Far (a .x) (c .x ⊖ a .x) t (p .x) far (E .held .0) (sub-fits binary64 (c .x) (a .x)) (share p a c .0) (share p a c .1)
+  unfolding beyond plusOf minusOf
+  along-x h =
+      elim (one-of (lt far (q .left ⊖ b .right)) (lt (q .right ⊖ b .left) (neg far)) h) [
+        | inl l ↦ by-low (a .x) (c .x ⊖ a .x) t (p .x) far (E .held .0) (sub-fits binary64 (c .x) (a .x)) (share p a c .0) (share p a c .1)
+            (q .left) (b .right) (E .first .not-left) (E .second .not-left) (P .not-right) l
+        | inr l ↦ by-high (a .x) (c .x ⊖ a .x) t (p .x) far (E .held .0) (sub-fits binary64 (c .x) (a .x)) (share p a c .0) (share p a c .1)
+            (q .right) (b .left) (E .first .not-right) (E .second .not-right) (P .not-left) l
+      ]
+
+  along-y : beyond (q .low) (q .high) (b .low) (b .high) far ≡ true
+      → Far (a .y) (c .y ⊖ a .y) t (p .y) far (E .held .1) (sub-fits binary64 (c .y) (a .y)) (share p a c .0) (share p a c .1)
+  unfolding beyond plusOf minusOf
+  along-y h =
+      elim (one-of (lt far (q .low ⊖ b .high)) (lt (q .high ⊖ b .low) (neg far)) h) [
+        | inl l ↦ by-low (a .y) (c .y ⊖ a .y) t (p .y) far (E .held .1) (sub-fits binary64 (c .y) (a .y)) (share p a c .0) (share p a c .1)
+            (q .low) (b .high) (E .first .not-below) (E .second .not-below) (P .not-above) l
+        | inr l ↦ by-high (a .y) (c .y ⊖ a .y) t (p .y) far (E .held .1) (sub-fits binary64 (c .y) (a .y)) (share p a c .0) (share p a c .1)
+            (q .high) (b .low) (E .first .not-above) (E .second .not-above) (P .not-below) l
+      ]
+
+  pub clear : apart q b tol ≡ true → onSegmentOf p a c tol ≡ false
+  unfolding apart onSegmentOf toSegmentOf distanceOf lengthOf dotOf minusOf alongOf
+  clear h =
+      let x = beyond (q .left) (q .right) (b .left) (b .right) far in
+      let y = beyond (q .low) (q .high) (b .low) (b .high) far in
+      let A = both (lt f0 tol) (lt (tol ⊗ tol) (far ⊗ far) && (lt f0 far && (x || y))) h in
+      let B = both (lt (tol ⊗ tol) (far ⊗ far)) (lt f0 far && (x || y)) (A .1) in
+      let C = both (lt f0 far) (x || y) (B .1) in
+      elim (one-of x y (C .1)) [ inl l ↦ by-first tol far G (A .0) (C .0) (B .0) _ _ (along-x l) | inr l ↦ by-second tol far G (A .0) (C .0) (B .0) _ _ (along-y l) ]
