@@ -5,3 +5,4 @@ pub mod Sums
 pub mod Foot
 pub mod Beyond
 pub mod Clear
+pub mod Widened

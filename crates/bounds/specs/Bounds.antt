@@ -1,11 +1,14 @@
 -- What points and edges lie in, and when edges and points lie apart along an axis. Definitions only.
+use Prim.Native.Nat.{ℕ, _<_}
 use mathlib.Core.Path.{_≡_}
-use mathlib.Core.Bool.{Bool, true, false, _&&_, _||_}
+use mathlib.Core.Bool.{Bool, true, false, _&&_, _||_, cond}
+use mathlib.Core.List.{List}
 use lib.Dec.{T}
 use lib.Ieee.{Float, binary64, fits, lt, neg}
 use Rattle.scalar.specs.Float.{_⊕_, _⊖_, _⊗_, f0}
 use Rattle.plane.specs.Vector.{minusOf, plusOf}
 use Rattle.plane.specs.declared.Point.{Point}
+use Rattle.ring.specs.Ring.{count, pointAt, nextOf}
 use Rattle.bounds.specs.declared.Bounds.{Bounds}
 
 -- a point is in the bounds: no coordinate is less than the lower or more than the upper one
@@ -15,11 +18,30 @@ pub record Inside (q : Bounds) (p : Point) : Type 0 where
   pub not-below : lt (p .y) (q .low) ≡ false
   pub not-above : lt (q .high) (p .y) ≡ false
 
+-- the coordinates are an f64's
+abbrev pub Held : Point → Type 0
+Held p = T (fits binary64 (p .x)) × T (fits binary64 (p .y))
+
 -- both ends of the edge a b are, the second as it is worked out from the first
 pub record Spans (q : Bounds) (a b : Point) : Type 0 where
   pub first : Inside q a
   pub second : Inside q (plusOf a (minusOf b a))
-  pub held : T (fits binary64 (a .x)) × T (fits binary64 (a .y))
+  pub held : Held a
+
+-- the edges of a ring are, as many as are counted
+abbrev pub Around : Bounds → List Float → ℕ → Type 0
+Around q r n = (i : ℕ) → i < n → Spans q (pointAt r i) (pointAt r (nextOf i (count r)))
+
+-- what is in the first bounds is in the second
+abbrev pub Within : Bounds → Bounds → Type 0
+Within q r = (p : Point) → Inside q p → Inside r p
+
+-- a bound lowered to a number, or raised to it; a NaN leaves it
+unfoldable pub lowerOf : Float → Float → Float
+lowerOf bound x = cond (lt x bound) x bound
+
+unfoldable pub higherOf : Float → Float → Float
+higherOf bound x = cond (lt bound x) x bound
 
 -- along one axis edges from low to high lie more than so far above points from bottom to top, or below them
 unfoldable pub beyond : Float → Float → Float → Float → Float → Bool

@@ -2,8 +2,14 @@
 use plane::Point;
 use plane::vector::minus;
 use plane::vector::plus;
+use ring::next;
+use ring::point_at;
 ghost use mathlib.Core.Path.{_≡_};
-ghost use Rattle.bounds.specs.Bounds.{Inside, Spans, beyond, apart};
+ghost use Prim.Native.Nat.{_<_};
+ghost use lib.Dec.{T};
+ghost use lib.Ieee.{binary64, fits};
+ghost use Rattle.ring.specs.Ring.{count};
+ghost use Rattle.bounds.specs.Bounds.{lowerOf, higherOf, Inside, Within, Held, Spans, Around, beyond, apart};
 
 // The least and the greatest coordinate along each axis.
 pub struct Bounds {
@@ -25,7 +31,7 @@ fn is_beyond(low: f64, high: f64, bottom: f64, top: f64, far: f64) -> bool
 
 // Whether the edges in some bounds lie apart from the points in others, so that no point is nearer to an edge than tol.
 pub fn is_apart(edges: Bounds, points: Bounds, tol: f64) -> bool
-    ensures { λ r. ⌜ r ≡ apart edges points tol ⌝ }
+    ensures { λ r. ⌜ (r ≡ apart edges points tol) × T (fits binary64 tol) ⌝ }
 {
     let far = tol + tol;
     if tol > 0.0 {
@@ -51,4 +57,54 @@ pub fn bounds_at(p: Point) -> Bounds
         low: p.y,
         high: p.y,
     }
+}
+
+// The lower of a bound and a number, and the higher: a NaN leaves the bound.
+fn lower(bound: f64, x: f64) -> f64
+    ensures { λ r. ⌜ (r ≡ lowerOf bound x) × T (fits binary64 x) ⌝ }
+{
+    if x < bound { x } else { bound }
+}
+
+fn higher(bound: f64, x: f64) -> f64
+    ensures { λ r. ⌜ r ≡ higherOf bound x ⌝ }
+{
+    if bound < x { x } else { bound }
+}
+
+// Bounds with a point taken in.
+fn with_point(q: Bounds, p: Point) -> Bounds
+    ensures { λ r. ⌜ Inside r p × (Within q r × Held p) ⌝ }
+{
+    Bounds {
+        left: lower(q.left, p.x),
+        right: higher(q.right, p.x),
+        low: lower(q.low, p.y),
+        high: higher(q.high, p.y),
+    }
+}
+
+// Bounds with the edge a b taken in.
+pub fn with_edge(q: Bounds, a: Point, b: Point) -> Bounds
+    ensures { λ r. ⌜ Spans r a b × Within q r ⌝ }
+{
+    with_point(with_point(q, a), plus(a, minus(b, a)))
+}
+
+// The bounds of a ring's vertices and edges.
+pub fn bounds_of(ring: &[f64]) -> Bounds
+    requires { ⌜ 0 < count (now ring) ⌝ }
+    ensures { λ r. ⌜ Around r (now (ring .entry)) (count (now (ring .entry))) ⌝ }
+{
+    let n = ring.len() / 2;
+    let mut a = point_at(ring, 0);
+    let mut q = bounds_at(a);
+    let mut i = 0;
+    while i < n {
+        let b = point_at(ring, next(i, n));
+        q = with_edge(q, a, b);
+        a = b;
+        i += 1;
+    }
+    q
 }

@@ -1,0 +1,17 @@
+-- `bounds::higher` meets its contract. Assumes nothing.
+use Prim.Native.Nat.{_-_}
+use mathlib.Core.Path.{refl}
+use Rattle.bounds.proofs.higher.Statement.{statement}
+use Rattle.bounds.proofs.higher.Tie as tie
+use Rattle.bounds.specs.Bounds.{higherOf}
+
+returns : tie.Need-returns
+unfolding higherOf
+returns c = rw (c .if1 .taken) refl
+
+returns-2 : tie.Need-returns-2
+unfolding higherOf
+returns-2 c = rw (c .if1 .left) refl
+
+pub higher-spec : {M : Type 1} → statement M
+higher-spec = tie.close (tie.spec returns returns-2)
