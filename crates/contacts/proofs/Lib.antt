@@ -7,4 +7,5 @@ pub mod Writing
 pub mod Screened
 pub mod Worked
 pub mod Rowing
+pub mod Skipped
 pub mod Regions

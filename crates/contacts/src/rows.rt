@@ -1,4 +1,9 @@
 // The scans of the pairs of one kind, row by row: one point or one edge stays while the edges of the other ring go by.
+use bounds::Bounds;
+use bounds::bounds_at;
+use bounds::bounds_of;
+use bounds::is_apart;
+use bounds::with_edge;
 use near::point_on_segment;
 use plane::Point;
 use plane::vector::edges_parallel;
@@ -10,6 +15,7 @@ ghost use mathlib.Core.Bool.{_&&_};
 ghost use Prim.Native.Nat.{_+_, _*_, _<_, _≤_};
 ghost use Rattle.plane.specs.Vector.{minusOf, parallelOf};
 ghost use Rattle.ring.specs.Ring.{count};
+ghost use Rattle.bounds.specs.Bounds.{Around};
 ghost use Rattle.contacts.specs.Rows.{First, onEdge, alongEdge, onEdgeAt, alongEdgeAt};
 
 // The first edge of a ring, from one on, that a point is near to, or their number.
@@ -29,6 +35,18 @@ fn near_edge(p: Point, ring: &[f64], from: usize, tol: f64) -> usize
         i += 1;
     }
     n
+}
+
+// The same, with the ring's bounds at hand: a point apart from them is near no edge.
+fn near_edge_within(p: Point, ring: &[f64], around: Bounds, from: usize, tol: f64) -> usize
+    requires { ⌜ from < count (now ring) ⌝ }
+    requires { ⌜ Around around (now ring) (count (now ring)) ⌝ }
+    ensures { λ r. ⌜ First (onEdge p (now (ring .entry)) tol) from (count (now (ring .entry))) r ⌝ }
+{
+    if is_apart(around, bounds_at(p), tol) {
+        return ring.len() / 2;
+    }
+    near_edge(p, ring, from, tol)
 }
 
 // Whether the edges a b and c d are parallel and both ends of the second are near the first.
@@ -68,6 +86,18 @@ fn edge_along(a: Point, b: Point, ring: &[f64], from: usize, tol: f64) -> usize
     n
 }
 
+// The same, with the ring's bounds at hand: an edge apart from them has no edge along it.
+fn edge_along_within(a: Point, b: Point, ring: &[f64], around: Bounds, from: usize, tol: f64) -> usize
+    requires { ⌜ from < count (now ring) ⌝ }
+    requires { ⌜ Around around (now ring) (count (now ring)) ⌝ }
+    ensures { λ r. ⌜ First (alongEdge a b (now (ring .entry)) tol) from (count (now (ring .entry))) r ⌝ }
+{
+    if is_apart(with_edge(bounds_at(a), a, b), around, tol) {
+        return ring.len() / 2;
+    }
+    edge_along(a, b, ring, from, tol)
+}
+
 // The first pair of a vertex of one list and an edge of a ring that are near, from the vertex v and the edge e on, or the number of pairs.
 pub fn scan_vertices(points: &[f64], ring: &[f64], v: usize, e: usize, tol: f64) -> usize
     requires { ⌜ (v < count (now points)) × (e < count (now ring)) ⌝ }
@@ -76,10 +106,11 @@ pub fn scan_vertices(points: &[f64], ring: &[f64], v: usize, e: usize, tol: f64)
 {
     let vn = points.len() / 2;
     let en = ring.len() / 2;
+    let around = bounds_of(ring);
     let mut i = v;
     let mut from = e;
     while i < vn {
-        let j = near_edge(point_at(points, i), ring, from, tol);
+        let j = near_edge_within(point_at(points, i), ring, around, from, tol);
         if j < en {
             return i * en + j;
         }
@@ -97,12 +128,13 @@ pub fn scan_edges(stationary: &[f64], orbiting: &[f64], s: usize, o: usize, tol:
 {
     let sn = stationary.len() / 2;
     let on = orbiting.len() / 2;
+    let around = bounds_of(orbiting);
     let mut i = s;
     let mut from = o;
     while i < sn {
         let a = point_at(stationary, i);
         let b = point_at(stationary, next(i, sn));
-        let j = edge_along(a, b, orbiting, from, tol);
+        let j = edge_along_within(a, b, orbiting, around, from, tol);
         if j < on {
             return i * on + j;
         }
