@@ -14,6 +14,10 @@ use Rattle.scalar.specs.Scalar.{smallerOf, orNumber, ahead, minusZero}
 abbrev pub f2 : Float
 f2 = float 0x4000_0000_0000_0000
 
+pub above-none : lt (ofBits binary64 0) f2 ≡ true
+unfolding lt ofBits
+above-none = refl
+
 pub far-one : (d : Float) → lt d f2 ≡ false → smallerOf d f1 ≡ f1
 unfolding smallerOf orNumber ahead minusZero lt ofBits
 far-one nan h = refl

@@ -3,9 +3,11 @@ use contacts::Edges;
 use near::is_shorter;
 use plane::Point;
 use plane::vector::distance;
+use plane::vector::dot;
 use plane::vector::length;
 use plane::vector::minus;
 use scalar::smaller;
+use square_root::sqrt;
 use translation_vectors::TranslationVector;
 use translation_vectors::direction;
 use translation_vectors::opposite;
@@ -147,11 +149,11 @@ pub fn reach(course: Course) -> f64
 {
     match course {
         Course::Over { direction: _, gap } => {
-            if is_shorter(gap, 2.0) {
-                smaller(length(gap), 1.0)
-            } else {
-                1.0
+            let s = dot(gap, gap);
+            if s > 2.0 * 2.0 {
+                return 1.0;
             }
+            smaller(sqrt(s), 1.0)
         }
         Course::For {
             direction: _,
