@@ -1,8 +1,8 @@
--- `nfp_sliding::run::is_still` meets its contract. Assumes nothing.
+-- `passes::run::is_still` meets its contract. Assumes nothing.
 use borrow.Author.Needs.{needs}
-use Rattle.nfp_sliding.proofs.Standstill.{one-state}
-use Rattle.nfp_sliding.proofs.run.is_still.Statement.{statement}
-use Rattle.nfp_sliding.proofs.run.is_still.Tie as tie
+use Rattle.passes.proofs.Standstill.{one-state}
+use Rattle.passes.proofs.run.is_still.Statement.{statement}
+use Rattle.passes.proofs.run.is_still.Tie as tie
 
 same-pose-requires : tie.Need-same-pose-requires
 same-pose-requires c κs = search needs

@@ -1,8 +1,8 @@
--- `nfp_sliding::still::same_pose` meets its contract. Assumes nothing.
+-- `passes::still::same_pose` meets its contract. Assumes nothing.
 use borrow.Author.Needs.{needs}
-use Rattle.nfp_sliding.proofs.Standstill.{one-pose}
-use Rattle.nfp_sliding.proofs.still.same_pose.Statement.{statement}
-use Rattle.nfp_sliding.proofs.still.same_pose.Tie as tie
+use Rattle.passes.proofs.Standstill.{one-pose}
+use Rattle.passes.proofs.still.same_pose.Statement.{statement}
+use Rattle.passes.proofs.still.same_pose.Tie as tie
 
 same-point-requires : tie.Need-same-point-requires
 same-point-requires c κs = search needs

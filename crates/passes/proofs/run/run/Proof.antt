@@ -1,4 +1,4 @@
--- `nfp_sliding::run::run` meets its contract. The invariant: the run from the first state is the run of the passes left from where it is; the stored points
+-- `passes::run::run` meets its contract. The invariant: the run from the first state is the run of the passes left from where it is; the stored points
 -- lie in the room. Assumes nothing.
 use native.Mathlib.Omega.{arith}
 use borrow.Author.Needs.{needs}
@@ -6,12 +6,12 @@ use Prim.Native.Nat.{_*_, _-_, _≤_}
 use mathlib.Core.Path.{_≡_, refl, sym, ap, _∙_}
 use lib.ListN.{length}
 use native.Mathlib.Nat.{sub-zero}
-use Rattle.nfp_sliding.proofs.Turns.{run-go, run-stop, run-full, run-out}
-use Rattle.nfp_sliding.proofs.Standstill.{run-stays}
-use Rattle.nfp_sliding.specs.Run.{runOf, Done}
+use Rattle.passes.proofs.Turns.{run-go, run-stop, run-full, run-out}
+use Rattle.passes.proofs.Standstill.{run-stays}
+use Rattle.passes.specs.Run.{runOf, Done}
 use Rattle.pass.specs.Pass.{scene}
-use Rattle.nfp_sliding.proofs.run.run.Statement.{statement}
-use Rattle.nfp_sliding.proofs.run.run.Tie as tie
+use Rattle.passes.proofs.run.run.Statement.{statement}
+use Rattle.passes.proofs.run.run.Tie as tie
 
 abbrev Inv-loop : tie.InvT-loop
 Inv-loop stationary orbiting settings centroid start room₀ limit state₀ passes₀ room state passes =

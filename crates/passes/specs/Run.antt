@@ -10,10 +10,10 @@ use Rattle.pass.specs.Pass.{Scene, passOf}
 use Rattle.pass.specs.declared.Pose.{Pose}
 use Rattle.pass.specs.declared.Step.{Step}
 use Rattle.pass.specs.declared.Step.the-variants.{Stop, Stay, Store}
-use Rattle.nfp_sliding.specs.declared.run.State.{State}
-use Rattle.nfp_sliding.specs.declared.run.Turn.{Turn}
-use Rattle.nfp_sliding.specs.declared.run.Turn.the-variants.{Halt, Full, Go}
-use Rattle.nfp_sliding.specs.declared.run.End.{End}
+use Rattle.passes.specs.declared.run.State.{State}
+use Rattle.passes.specs.declared.run.Turn.{Turn}
+use Rattle.passes.specs.declared.run.Turn.the-variants.{Halt, Full, Go}
+use Rattle.passes.specs.declared.run.End.{End}
 
 abbrev pub state : Pose → ℕ → State
 state pose stored = record { pose = pose; stored = stored }

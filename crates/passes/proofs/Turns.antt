@@ -12,10 +12,10 @@ use Rattle.pass.specs.Pass.{Scene, passOf}
 use Rattle.pass.specs.declared.Pose.{Pose}
 use Rattle.pass.specs.declared.Step.{Step}
 use Rattle.pass.specs.declared.Step.the-variants.{Stop, Stay, Store}
-use Rattle.nfp_sliding.specs.declared.run.State.{State}
-use Rattle.nfp_sliding.specs.declared.run.Turn.{Turn}
-use Rattle.nfp_sliding.specs.declared.run.Turn.the-variants.{Halt, Full, Go}
-use Rattle.nfp_sliding.specs.Run.{turned, turnBy, turnOf, runOf, done, state}
+use Rattle.passes.specs.declared.run.State.{State}
+use Rattle.passes.specs.declared.run.Turn.{Turn}
+use Rattle.passes.specs.declared.run.Turn.the-variants.{Halt, Full, Go}
+use Rattle.passes.specs.Run.{turned, turnBy, turnOf, runOf, done, state}
 
 module _ (s : Scene) (st : State) (room : List Float) {o : Step} (e : o ≡ passOf s (take (2 * st .stored) room) (st .pose)) where
   pub turn-stop : {reason : ℕ} → o ≡ Stop reason → turnOf s st room ≡ turned (Halt reason) room

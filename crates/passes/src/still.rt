@@ -2,7 +2,7 @@
 use pass::Pose;
 use plane::Point;
 use selection::Previous;
-ghost use Rattle.nfp_sliding.specs.Still.{Same};
+ghost use Rattle.passes.specs.Still.{Same};
 
 // Whether two numbers are the same, bit for bit. A NaN is not.
 fn same_number(a: f64, b: f64) -> bool

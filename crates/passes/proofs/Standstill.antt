@@ -16,10 +16,10 @@ use Rattle.pass.specs.Pass.{Scene, passOf}
 use Rattle.pass.specs.declared.Step.{Step}
 use Rattle.pass.specs.declared.Step.the-variants.{Stop, Stay, Store}
 use Rattle.pass.specs.declared.Pose.{Pose}
-use Rattle.nfp_sliding.specs.declared.run.State.{State}
-use Rattle.nfp_sliding.specs.declared.run.Turn.{Turn}
-use Rattle.nfp_sliding.specs.declared.run.Turn.the-variants.{Full, Go}
-use Rattle.nfp_sliding.specs.Run.{Turned, turned, turnBy, turnOf, runOf, done, state}
+use Rattle.passes.specs.declared.run.State.{State}
+use Rattle.passes.specs.declared.run.Turn.{Turn}
+use Rattle.passes.specs.declared.run.Turn.the-variants.{Full, Go}
+use Rattle.passes.specs.Run.{Turned, turned, turnBy, turnOf, runOf, done, state}
 
 pub no-nan : (x : Float) → eq x x ≡ true → T (not (isNan x))
 unfolding eq isNan

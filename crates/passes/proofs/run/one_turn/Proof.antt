@@ -1,12 +1,12 @@
--- `nfp_sliding::run::one_turn` meets its contract: `proofs/Turns.antt` has its four cases. Assumes nothing.
+-- `passes::run::one_turn` meets its contract: `proofs/Turns.antt` has its four cases. Assumes nothing.
 use native.Mathlib.Omega.{arith}
 use borrow.Author.Needs.{needs}
 use mathlib.Core.Path.{sym, ap, _∙_}
 use lib.Seq.{length-take-le}
-use Rattle.nfp_sliding.proofs.Turns.{turn-stop, turn-stay, turn-full, turn-store}
-use Rattle.nfp_sliding.specs.Run.{Turned}
-use Rattle.nfp_sliding.proofs.run.one_turn.Statement.{statement}
-use Rattle.nfp_sliding.proofs.run.one_turn.Tie as tie
+use Rattle.passes.proofs.Turns.{turn-stop, turn-stay, turn-full, turn-store}
+use Rattle.passes.specs.Run.{Turned}
+use Rattle.passes.proofs.run.one_turn.Statement.{statement}
+use Rattle.passes.proofs.run.one_turn.Tie as tie
 
 mul-len : tie.Need-mul-len
 mul-len c = search needs

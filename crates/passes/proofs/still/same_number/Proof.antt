@@ -1,10 +1,10 @@
--- `nfp_sliding::still::same_number` meets its contract: what has the same bits is the same. Assumes nothing.
+-- `passes::still::same_number` meets its contract: what has the same bits is the same. Assumes nothing.
 use mathlib.Core.Path.{sym}
 use mathlib.Core.Path.{subst}
 use lib.Dec.{T}
-use Rattle.nfp_sliding.proofs.Standstill.{same-bits, no-nan}
-use Rattle.nfp_sliding.proofs.still.same_number.Statement.{statement}
-use Rattle.nfp_sliding.proofs.still.same_number.Tie as tie
+use Rattle.passes.proofs.Standstill.{same-bits, no-nan}
+use Rattle.passes.proofs.still.same_number.Statement.{statement}
+use Rattle.passes.proofs.still.same_number.Tie as tie
 
 float-to-bits-result : tie.Need-float-to-bits-result
 float-to-bits-result c = no-nan _ (c .before .if1 .taken)

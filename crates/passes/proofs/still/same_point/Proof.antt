@@ -1,8 +1,8 @@
--- `nfp_sliding::still::same_point` meets its contract. Assumes nothing.
+-- `passes::still::same_point` meets its contract. Assumes nothing.
 use borrow.Author.Needs.{needs}
-use Rattle.nfp_sliding.proofs.Standstill.{one-point}
-use Rattle.nfp_sliding.proofs.still.same_point.Statement.{statement}
-use Rattle.nfp_sliding.proofs.still.same_point.Tie as tie
+use Rattle.passes.proofs.Standstill.{one-point}
+use Rattle.passes.proofs.still.same_point.Statement.{statement}
+use Rattle.passes.proofs.still.same_point.Tie as tie
 
 same-number-requires : tie.Need-same-number-requires
 same-number-requires c κs = search needs

@@ -12,8 +12,8 @@ ghost use lib.ListN.{length};
 ghost use Rattle.ring.specs.Ring.{count};
 ghost use Rattle.pairs.specs.Pairs.{Sides};
 ghost use Rattle.pass.specs.Pass.{scene};
-ghost use Rattle.nfp_sliding.specs.Run.{turnOf, runOf, InRoom};
-ghost use Rattle.nfp_sliding.specs.Still.{Same};
+ghost use Rattle.passes.specs.Run.{turnOf, runOf, InRoom};
+ghost use Rattle.passes.specs.Still.{Same};
 
 // Where the trace is, and how many points it has stored.
 pub struct State {

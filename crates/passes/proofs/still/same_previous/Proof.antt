@@ -1,9 +1,9 @@
--- `nfp_sliding::still::same_previous` meets its contract. Assumes nothing.
+-- `passes::still::same_previous` meets its contract. Assumes nothing.
 use borrow.Author.Needs.{needs}
 use mathlib.Core.Path.{sym, ap, _∙_}
 use Rattle.selection.specs.declared.Previous.the-variants.{Direction}
-use Rattle.nfp_sliding.proofs.still.same_previous.Statement.{statement}
-use Rattle.nfp_sliding.proofs.still.same_previous.Tie as tie
+use Rattle.passes.proofs.still.same_previous.Statement.{statement}
+use Rattle.passes.proofs.still.same_previous.Tie as tie
 
 enum-told : tie.Need-enum-told
 enum-told c = search needs
