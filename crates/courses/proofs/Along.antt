@@ -4,7 +4,7 @@ use mathlib.Core.Path.{_≡_, _∙_}
 use borrow.Author.Tests.{eq-eqb, ne-eqb}
 use Rattle.plane.specs.declared.Point.{Point}
 use Rattle.contacts.specs.declared.Edges.{Edges}
-use Rattle.translation_vectors.specs.Vectors.{directionOf}
+use Rattle.vectors.specs.Vectors.{directionOf}
 use Rattle.courses.specs.Courses.{alongBy}
 
 module _ (kd : ℕ) (e : Edges) {v : Point} (h : v ≡ alongBy kd e) where

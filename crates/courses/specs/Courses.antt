@@ -5,8 +5,8 @@ use lib.Dec.{eqb}
 use Rattle.plane.specs.Vector.{lengthOf}
 use Rattle.plane.specs.declared.Point.{Point}
 use Rattle.contacts.specs.declared.Edges.{Edges}
-use Rattle.translation_vectors.specs.Vectors.{vector, directionOf}
-use Rattle.translation_vectors.specs.declared.TranslationVector.{TranslationVector}
+use Rattle.vectors.specs.Vectors.{vector, directionOf}
+use Rattle.vectors.specs.declared.TranslationVector.{TranslationVector}
 use Rattle.courses.specs.declared.Course.{Course}
 use Rattle.courses.specs.declared.Course.the-variants.{Over, For}
 

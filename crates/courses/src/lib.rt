@@ -8,14 +8,14 @@ use plane::vector::length;
 use plane::vector::minus;
 use scalar::smaller;
 use square_root::sqrt;
-use translation_vectors::TranslationVector;
-use translation_vectors::direction;
-use translation_vectors::opposite;
+use vectors::TranslationVector;
+use vectors::direction;
+use vectors::opposite;
 ghost use mathlib.Core.Path.{_≡_};
 ghost use lib.Ieee.{lt};
 ghost use Rattle.scalar.specs.Float.{f1};
 ghost use Rattle.scalar.specs.Scalar.{smallerOf};
-ghost use Rattle.translation_vectors.specs.Vectors.{directionOf, vertexEdge, edgeVertex, edgeEdge, vectorBy};
+ghost use Rattle.vectors.specs.Vectors.{directionOf, vertexEdge, edgeVertex, edgeEdge, vectorBy};
 ghost use Rattle.courses.specs.Courses.{vectorIs, alongBy};
 
 // A direction, and the gap that is as long as the distance, or the distance itself.

@@ -1,6 +1,4 @@
 -- The modules that belong to no one function.
-pub mod Turns
 pub mod Same
 pub mod Traced
 pub mod Told
-pub mod Standstill

@@ -19,8 +19,8 @@ use Rattle.pass.specs.Pass.{Scene, passOf}
 use Rattle.pass.specs.declared.Pose.{Pose}
 use Rattle.pass.specs.declared.Step.{Step}
 use Rattle.pass.specs.declared.Step.the-variants.{Stop, Stay, Store}
-use Rattle.nfp_sliding.specs.declared.run.State.{State}
-use Rattle.nfp_sliding.specs.Run.{Done, turnOf, turnBy, runOf, done, onward, state}
+use Rattle.passes.specs.declared.run.State.{State}
+use Rattle.passes.specs.Run.{Done, turnOf, turnBy, runOf, done, onward, state}
 use Rattle.nfp_sliding.specs.Path.{Trace, traceOf, follow, ended, coordinates, endOf}
 
 -- what a run over the room and a trace have to do with each other

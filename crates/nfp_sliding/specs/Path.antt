@@ -17,7 +17,7 @@ use Rattle.pass.specs.Pass.{Scene, scene, passOf}
 use Rattle.pass.specs.declared.Pose.{Pose}
 use Rattle.pass.specs.declared.Step.{Step}
 use Rattle.pass.specs.declared.Step.the-variants.{Stop, Stay, Store}
-use Rattle.nfp_sliding.specs.declared.run.End.{End}
+use Rattle.passes.specs.declared.run.End.{End}
 
 -- whether the room was full, the reason where it was not, the passes begun, and the points stored
 pub record Trace : Type 0 where

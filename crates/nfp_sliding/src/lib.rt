@@ -1,6 +1,4 @@
 // The sliding no-fit polygon: `compute_nfp_sliding` of `nfp_sliding.rs`.
 pub mod answer;
 pub mod calls;
-pub mod run;
-mod still;
 pub mod trace;

@@ -1,11 +1,11 @@
 // The trace of two polygons, its path in a room that the caller lends, and the path simplified.
 use crate::answer::Traced;
-use crate::run::End;
-use crate::run::State;
-use crate::run::run;
 use centroid::centroid;
 use moved::put;
 use pass::Pose;
+use passes::run::End;
+use passes::run::State;
+use passes::run::run;
 use refusals::Settings;
 use selection::Previous;
 use simplify::simplify;

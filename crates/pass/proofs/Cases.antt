@@ -10,22 +10,22 @@ use lib.Ieee.{Float}
 use borrow.Author.Tests.{lt-ltb, le-ltb}
 use Rattle.plane.specs.declared.Point.{Point}
 use Rattle.contacts.specs.Contacts.{contactsOf}
-use Rattle.translation_vectors.specs.Fit.{kept, fitOf}
-use Rattle.translation_vectors.specs.Vectors.{vectorsFrom}
+use Rattle.vectors.specs.Fit.{kept, fitOf}
+use Rattle.vectors.specs.Vectors.{vectorsFrom}
 use Rattle.selection.specs.Score.{preferredOf}
 use Rattle.ring.specs.Ring.{count}
 use Rattle.ring.specs.Room.{laid}
 use Rattle.pairs.specs.Pairs.{Sides}
 use Rattle.moved.specs.Moved.{movedOf}
 use Rattle.moved.proofs.Moved.{moved-front, moved-count}
-use Rattle.pass.specs.Choose.{vectorNo, choiceOf}
+use Rattle.choose.specs.Choose.{vectorNo, choiceOf}
 use Rattle.pass.specs.Slide.{slideOf}
 use Rattle.pass.specs.Pass.{Scene, regainOf, unstickOf, chosen, ifNone, passAt}
 use Rattle.pass.specs.declared.Pose.{Pose}
 use Rattle.pass.specs.declared.Step.{Step}
-use Rattle.pass.specs.declared.choose.Choice.{Choice}
-use Rattle.translation_vectors.specs.declared.TranslationVector.{TranslationVector}
-use Rattle.pass.specs.declared.choose.Choice.the-variants.{Nothing, Vector}
+use Rattle.choose.specs.declared.Choice.{Choice}
+use Rattle.vectors.specs.declared.TranslationVector.{TranslationVector}
+use Rattle.choose.specs.declared.Choice.the-variants.{Nothing, Vector}
 
 -- stuck for the third time at most, and more often
 pub few : (n : ℕ) → n < 3 → ltb 3 (n + 1) ≡ false

@@ -1,4 +1,3 @@
 -- The definitions that the contracts of pass cite.
-pub mod Choose
 pub mod Slide
 pub mod Pass

@@ -8,20 +8,20 @@ use Rattle.plane.specs.Vector.{distanceOf}
 use Rattle.plane.specs.declared.Point.{Point}
 use Rattle.refusals.specs.declared.Settings.{Settings}
 use Rattle.contacts.specs.Contacts.{contactsOf}
-use Rattle.translation_vectors.specs.Fit.{fitOf}
+use Rattle.vectors.specs.Fit.{fitOf}
 use Rattle.selection.specs.Score.{preferredOf}
 use Rattle.moved.specs.Moved.{movedOf}
 use Rattle.moved.specs.declared.answer.Found.{Found}
 use Rattle.moved.specs.declared.answer.Found.the-variants as found-is
 use Rattle.recovery.specs.Recovery.{recoverOf}
 use Rattle.interlocking.specs.Interlocking.{interlockOf}
-use Rattle.pass.specs.Choose.{choiceOf}
+use Rattle.choose.specs.Choose.{choiceOf}
 use Rattle.pass.specs.Slide.{slideOf}
 use Rattle.pass.specs.declared.Pose.{Pose}
 use Rattle.pass.specs.declared.Step.{Step}
 use Rattle.pass.specs.declared.Step.the-variants.{Stop, Stay, Store}
-use Rattle.pass.specs.declared.choose.Choice.{Choice}
-use Rattle.pass.specs.declared.choose.Choice.the-variants as choice-is
+use Rattle.choose.specs.declared.Choice.{Choice}
+use Rattle.choose.specs.declared.Choice.the-variants as choice-is
 
 -- what stays the same from pass to pass: both polygons, counter-clockwise, the settings, the stationary one's centroid, the start
 pub record Scene : Type 0 where

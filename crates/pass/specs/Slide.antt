@@ -10,8 +10,8 @@ use Rattle.plane.specs.Vector.{point, plusOf, distanceOf}
 use Rattle.plane.specs.declared.Point.{Point}
 use Rattle.refusals.specs.declared.Settings.{Settings}
 use Rattle.ring.specs.Ring.{count}
-use Rattle.translation_vectors.specs.Fit.{f10}
-use Rattle.translation_vectors.specs.declared.TranslationVector.{TranslationVector}
+use Rattle.vectors.specs.Fit.{f10}
+use Rattle.vectors.specs.declared.TranslationVector.{TranslationVector}
 use Rattle.selection.specs.declared.Previous.the-variants.{Direction}
 use Rattle.collision.specs.Check.{collisionOf}
 use Rattle.collision.specs.declared.Collision.{Collision}

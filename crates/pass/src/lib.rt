@@ -1,5 +1,4 @@
 // One pass of the trace: the loop's body in `trace_nfp_boundary` of `nfp_sliding.rs`.
-pub mod choose;
 pub mod slide;
 
 use choose::Choice;

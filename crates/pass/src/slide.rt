@@ -10,7 +10,7 @@ use refusals::Settings;
 use scalar::larger;
 use scalar::smaller;
 use selection::Previous;
-use translation_vectors::TranslationVector;
+use vectors::TranslationVector;
 ghost use mathlib.Core.Path.{_≡_};
 ghost use Rattle.pass.specs.Slide.{timesOf, blockedOf, closesOf, landOf, slideOf};
 

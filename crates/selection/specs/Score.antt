@@ -4,7 +4,7 @@ use lib.Ieee.{Float, lt, neg}
 use Rattle.scalar.specs.Float.{_⊕_, _⊖_, _⊗_, float}
 use Rattle.plane.specs.Vector.{point, minusOf, dotOf, normalizeOf}
 use Rattle.plane.specs.declared.Point.{Point}
-use Rattle.translation_vectors.specs.declared.TranslationVector.{TranslationVector}
+use Rattle.vectors.specs.declared.TranslationVector.{TranslationVector}
 use Rattle.selection.specs.declared.Previous.{Previous}
 use Rattle.selection.specs.declared.Previous.the-variants.{None, Direction}
 

@@ -8,7 +8,7 @@ use Rattle.plane.specs.Vector.{point}
 use Rattle.plane.specs.declared.Point.{Point}
 use Rattle.first_best.specs.Best.{better, over}
 use Rattle.selection.specs.Score.{scoreOf}
-use Rattle.translation_vectors.specs.declared.TranslationVector.{TranslationVector}
+use Rattle.vectors.specs.declared.TranslationVector.{TranslationVector}
 use Rattle.selection.specs.declared.Previous.{Previous}
 use Rattle.selection.specs.declared.Scored.{Scored}
 

@@ -6,7 +6,7 @@ use plane::Point;
 use plane::vector::dot;
 use plane::vector::minus;
 use plane::vector::normalize;
-use translation_vectors::TranslationVector;
+use vectors::TranslationVector;
 ghost use mathlib.Core.Path.{_≡_};
 ghost use Prim.Native.Nat.{_+_, _*_, _<_};
 ghost use lib.ListN.{length};

@@ -1,5 +1,4 @@
 -- The modules that belong to no one function.
-pub mod Steps
 pub mod Passing
 pub mod Screened
 pub mod Worked

@@ -12,16 +12,12 @@ use Rattle.ring.specs.Room.{laid}
 use Rattle.pairs.specs.Pairs.{Sides}
 use Rattle.pairs.proofs.Numbers.{most}
 use Rattle.contacts.proofs.Filling.{Filling, begun, put, fits, filled}
-use Rattle.translation_vectors.specs.Vectors.{Sourced, sourced, vectorsOf, numbersOf, sourcesOf}
-use Rattle.translation_vectors.specs.Fit.{kept}
-use Rattle.translation_vectors.specs.Places.{Ready, Behind, leftAt, far, front}
-use Rattle.translation_vectors.specs.declared.TranslationVector.{TranslationVector}
-use Rattle.translation_vectors.specs.declared.Place.{Place}
-
-pub numbers-length : (l : List Sourced) → length (numbersOf l) ≡ 3 * length l
-unfolding numbersOf
-numbers-length [] = refl
-numbers-length (s ∷ ss) = omega (arith, numbers-length ss)
+use Rattle.vectors.specs.Vectors.{Sourced, sourced, vectorsOf, numbersOf, sourcesOf}
+use Rattle.vectors.specs.Fit.{kept}
+use Rattle.vectors.specs.Places.{Ready, Behind, leftAt, far, front}
+use Rattle.vectors.specs.declared.TranslationVector.{TranslationVector}
+use Rattle.vectors.specs.declared.Place.{Place}
+use Rattle.vectors.proofs.Numbers.{numbers-length}
 
 sources-length : (l : List Sourced) → length (sourcesOf l) ≡ length l
 unfolding sourcesOf

@@ -15,8 +15,8 @@ use Rattle.refusals.proofs.Sized.{two-polygons}
 use Rattle.pairs.specs.Pairs.{Sides}
 use Rattle.contacts.specs.Calls.{wrongFit, ofRooms, ofTouching}
 use Rattle.contacts.proofs.Screened.{two-parts, sides}
-use Rattle.translation_vectors.specs.Vectors.{Sourced, vectorsOf}
-use Rattle.translation_vectors.specs.Fit.{visitedOf, keeps, kept, fitOf}
+use Rattle.vectors.specs.Vectors.{Sourced, vectorsOf}
+use Rattle.vectors.specs.Fit.{visitedOf, keeps, kept, fitOf}
 use Rattle.translation_vectors.specs.Calls.{lengthTests, numberTests, fitLengths, fitNumbers, ofFit, vectorsRefusal, fitRefusal}
 
 keep-all : (from : Point) (tol : Float) (l : List Sourced) → kept (keeps from [] tol) l ≡ l

@@ -10,8 +10,8 @@ use Rattle.refusals.specs.Screens.{wrongPolygon, wrongList, wrongNumber, wrongP
 use Rattle.refusals.specs.Answers.{Outcome, outcome, left}
 use Rattle.refusals.specs.declared.Refusal.{Refusal}
 use Rattle.contacts.specs.Calls.{wrongFit}
-use Rattle.translation_vectors.specs.Vectors.{vectorsOf, numbersOf, sourcesOf}
-use Rattle.translation_vectors.specs.Fit.{fitOf}
+use Rattle.vectors.specs.Vectors.{vectorsOf, numbersOf, sourcesOf}
+use Rattle.vectors.specs.Fit.{fitOf}
 
 -- 5: so many vectors do not fit one of the two rooms
 abbrev pub roomTests : ℕ → ℕ → ℕ → List Refusal

@@ -1,20 +1,20 @@
 // The vectors that lead to no visited position, counted, and written to rooms that the caller lends.
-use crate::Place;
-use crate::Step;
-use crate::TranslationVector;
-use crate::fit::next_kept;
 use contacts::screen::rooms;
 use plane::Point;
 use refusals::answer::Count;
+use vectors::Place;
+use vectors::Step;
+use vectors::TranslationVector;
+use vectors::fit::next_kept;
 ghost use mathlib.Core.Path.{_≡_};
 ghost use Prim.Native.Nat.{_+_, _*_, _<_, _≤_};
 ghost use lib.ListN.{length, set};
 ghost use Rattle.ring.specs.Ring.{count};
 ghost use Rattle.ring.specs.Room.{laid};
 ghost use Rattle.pairs.specs.Pairs.{Sides};
-ghost use Rattle.translation_vectors.specs.Vectors.{numbersOf, sourcesOf};
+ghost use Rattle.vectors.specs.Vectors.{numbersOf, sourcesOf};
 ghost use Rattle.refusals.specs.Answers.{count as counted, outcome, left};
-ghost use Rattle.translation_vectors.specs.Fit.{fitOf};
+ghost use Rattle.vectors.specs.Fit.{fitOf};
 ghost use Rattle.contacts.specs.Calls.{ofRooms};
 
 // How many there are.

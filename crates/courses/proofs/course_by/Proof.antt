@@ -1,7 +1,7 @@
 -- `courses::course_by` meets its contract: each kind has its own. Assumes nothing.
 use native.Mathlib.Omega.{arith}
 use mathlib.Core.Path.{sym, _∙_}
-use Rattle.translation_vectors.specs.Vectors.{vectorBy}
+use Rattle.vectors.specs.Vectors.{vectorBy}
 use Rattle.contacts.proofs.ByKind.{of-0, of-1, of-2}
 use Rattle.courses.proofs.Along.{stationary-edge, orbiting-edge}
 use Rattle.courses.proofs.course_by.Statement.{statement}

@@ -2,7 +2,7 @@
 use borrow.Author.Needs.{needs}
 use borrow.Author.Tests.{eq-eqb, ne-eqb}
 use mathlib.Core.Path.{refl}
-use Rattle.translation_vectors.specs.Vectors.{edgeEdge}
+use Rattle.vectors.specs.Vectors.{edgeEdge}
 use Rattle.courses.specs.Courses.{vectorIs}
 use Rattle.courses.proofs.over_both.Statement.{statement}
 use Rattle.courses.proofs.over_both.Tie as tie

@@ -3,7 +3,7 @@ use borrow.Author.Needs.{needs}
 use borrow.Author.Tests.{eq-eqb, ne-eqb}
 use mathlib.Core.Path.{refl}
 use Rattle.plane.specs.Vector.{distanceOf}
-use Rattle.translation_vectors.specs.Vectors.{edgeVertex}
+use Rattle.vectors.specs.Vectors.{edgeVertex}
 use Rattle.courses.specs.Courses.{vectorIs}
 use Rattle.courses.proofs.over_vertex.Statement.{statement}
 use Rattle.courses.proofs.over_vertex.Tie as tie

@@ -10,7 +10,7 @@ use Rattle.first_best.specs.Best.{over}
 use Rattle.first_best.proofs.Scan.{over-turn}
 use Rattle.selection.specs.Score.{scoreOf}
 use Rattle.selection.specs.Select.{vectorAt, scoreAt, scored, scoredAt, above, keptOf, startOf, selectOf}
-use Rattle.translation_vectors.specs.declared.TranslationVector.{TranslationVector}
+use Rattle.vectors.specs.declared.TranslationVector.{TranslationVector}
 use Rattle.selection.specs.declared.Previous.{Previous}
 use Rattle.selection.specs.declared.Scored.{Scored}
 use Rattle.selection.proofs.select.Statement.{statement}

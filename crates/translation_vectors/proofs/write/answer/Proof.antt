@@ -5,7 +5,7 @@ use mathlib.Core.Path.{_≡_}
 use lib.ListN.{length}
 use Rattle.contacts.specs.Calls.{ofRooms}
 use Rattle.contacts.proofs.Screened.{rooms-fit}
-use Rattle.translation_vectors.specs.Fit.{fitOf}
+use Rattle.vectors.specs.Fit.{fitOf}
 use Rattle.refusals.proofs.Calls.{goes, stops, wrote, kept}
 use Rattle.translation_vectors.proofs.write.answer.Statement.{statement}
 use Rattle.translation_vectors.proofs.write.answer.Tie as tie

@@ -4,10 +4,10 @@ use borrow.Author.Needs.{needs}
 use Prim.Native.Nat.{_*_, _-_}
 use Rattle.ring.specs.Ring.{count}
 use Rattle.pairs.specs.Pairs.{pairCount}
-use Rattle.translation_vectors.specs.Vectors.{sourced}
-use Rattle.translation_vectors.specs.Fit.{kept, keeps}
-use Rattle.translation_vectors.specs.Places.{Behind, far}
-use Rattle.translation_vectors.proofs.Steps.{nearer}
+use Rattle.vectors.specs.Vectors.{sourced}
+use Rattle.vectors.specs.Fit.{kept, keeps}
+use Rattle.vectors.specs.Places.{Behind, far}
+use Rattle.vectors.proofs.Steps.{nearer}
 use Rattle.translation_vectors.proofs.Passing.{Counting, count-none, count-one, count-all, small}
 use Rattle.translation_vectors.proofs.write.count_vectors.Statement.{statement}
 use Rattle.translation_vectors.proofs.write.count_vectors.Tie as tie

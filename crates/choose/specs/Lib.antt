@@ -1,0 +1,2 @@
+-- The definitions that the contracts of choose, and of the pass over it, cite.
+pub mod Choose

@@ -1,0 +1,212 @@
+// The vector to slide along: of those that lead to no visited position the first with the greatest score.
+use contacts::Edges;
+use contacts::Next;
+use contacts::edges_of;
+use contacts::next_contact;
+use courses::Course;
+use courses::along_by;
+use courses::course_by;
+use courses::direction_of;
+use courses::is_below;
+use courses::reach;
+use courses::to_vector;
+use pairs::pair_at;
+use plane::Point;
+use plane::vector::dot;
+use selection::Previous;
+use selection::continued;
+use selection::start;
+use vectors::TranslationVector;
+use vectors::fit::is_visited;
+ghost use mathlib.Core.Path.{_≡_};
+ghost use Prim.Native.Nat.{_<_};
+ghost use Rattle.ring.specs.Ring.{count};
+ghost use Rattle.pairs.specs.Pairs.{Sides, pairCount};
+ghost use Rattle.vectors.specs.Vectors.{vectorBy, vectorOf};
+ghost use Rattle.vectors.specs.Fit.{keeps, fitOf};
+ghost use Rattle.selection.specs.Score.{scoreOf};
+ghost use Rattle.courses.specs.Courses.{vectorIs};
+ghost use Rattle.choose.specs.Choose.{standing, raised, weighOf, unset, climbOf, choiceOf};
+
+// A vector, or nothing.
+pub enum Choice {
+    Nothing,
+    Vector(TranslationVector),
+}
+
+// The best vector so far and its score; where none is found yet, -infinity.
+pub struct Best {
+    pub found: bool,
+    pub score: f64,
+    pub course: Course,
+}
+
+// Whether a vector leads to no visited position.
+fn is_kept(course: Course, from: Point, visited: &[f64], tol: f64) -> bool
+    ensures { λ r. ⌜ r ≡ keeps from (now (visited .entry)) tol (vectorIs course) ⌝ }
+{
+    let dir = direction_of(course);
+    let far = reach(course);
+    let at = Point {
+        x: from.x + dir.x * far,
+        y: from.y + dir.y * far,
+    };
+    !is_visited(at, visited, tol)
+}
+
+// The score of a vector.
+fn score(course: Course, previous: Previous, ccw: Point) -> f64
+    ensures { λ r. ⌜ r ≡ scoreOf (vectorIs course) previous ccw ⌝ }
+{
+    let dir = direction_of(course);
+    let s = continued(dot(dir, ccw), dir, previous);
+    if is_below(course, 1e-6) { s - 100.0 } else { s }
+}
+
+// Of the best so far and a new vector: only a strictly greater score replaces, but the first is always taken.
+fn raise(best: Best, course: Course, previous: Previous, ccw: Point) -> Best
+    ensures { λ r. ⌜ standing r ≡ raised previous ccw (standing best) (vectorIs course) ⌝ }
+{
+    let s = score(course, previous, ccw);
+    if s > best.score {
+        return Best {
+            found: true,
+            score: s,
+            course,
+        };
+    }
+    if best.found {
+        best
+    } else {
+        Best {
+            found: true,
+            score: best.score,
+            course,
+        }
+    }
+}
+
+// The same, where the vector leads to no visited position.
+fn weigh(
+    best: Best,
+    course: Course,
+    from: Point,
+    visited: &[f64],
+    tol: f64,
+    previous: Previous,
+    ccw: Point,
+) -> Best
+    ensures { λ r. ⌜ standing r ≡ weighOf (keeps from (now (visited .entry)) tol) previous ccw (standing best) (vectorIs course) ⌝ }
+{
+    if is_kept(course, from, visited, tol) {
+        raise(best, course, previous, ccw)
+    } else {
+        best
+    }
+}
+
+// Both vectors of a contact with these edges.
+fn weigh_both(
+    best: Best,
+    kind: u8,
+    e: Edges,
+    from: Point,
+    visited: &[f64],
+    tol: f64,
+    previous: Previous,
+    ccw: Point,
+) -> Best
+    ensures { λ r. ⌜ standing r ≡ weighOf (keeps from (now (visited .entry)) tol) previous ccw (weighOf (keeps from (now (visited .entry)) tol) previous ccw (standing best) (vectorBy kind e 0)) (vectorBy kind e 1) ⌝ }
+{
+    let along = along_by(kind, e);
+    let one = course_by(kind, e, along, 0);
+    let first = weigh(best, one, from, visited, tol, previous, ccw);
+    let two = course_by(kind, e, along, 1);
+    weigh(first, two, from, visited, tol, previous, ccw)
+}
+
+// Both vectors of the contact with the pair number k.
+fn weigh_contact(
+    stationary: &[f64],
+    orbiting: &[f64],
+    k: usize,
+    best: Best,
+    from: Point,
+    visited: &[f64],
+    tol: f64,
+    previous: Previous,
+    ccw: Point,
+) -> Best
+    requires { ⌜ Sides (count (now stationary)) (count (now orbiting)) ⌝ }
+    requires { ⌜ k < pairCount (count (now stationary)) (count (now orbiting)) ⌝ }
+    ensures { λ r. ⌜ standing r ≡ weighOf (keeps from (now (visited .entry)) tol) previous ccw (weighOf (keeps from (now (visited .entry)) tol) previous ccw (standing best) (vectorOf (now (stationary .entry)) (now (orbiting .entry)) k 0)) (vectorOf (now (stationary .entry)) (now (orbiting .entry)) k 1) ⌝ }
+{
+    let pair = pair_at(k, stationary.len() / 2, orbiting.len() / 2);
+    let e = edges_of(stationary, orbiting, pair);
+    weigh_both(best, pair.kind, e, from, visited, tol, previous, ccw)
+}
+
+// The best of all vectors.
+fn climb(
+    stationary: &[f64],
+    orbiting: &[f64],
+    tol: f64,
+    from: Point,
+    visited: &[f64],
+    previous: Previous,
+    ccw: Point,
+) -> Best
+    requires { ⌜ Sides (count (now stationary)) (count (now orbiting)) ⌝ }
+    ensures { λ r. ⌜ standing r ≡ climbOf previous ccw unset (fitOf (now (stationary .entry)) (now (orbiting .entry)) from (now (visited .entry)) tol) ⌝ }
+{
+    let mut best = Best {
+        found: false,
+        score: start().score,
+        course: Course::For {
+            direction: Point { x: 0.0, y: 0.0 },
+            distance: 0.0,
+        },
+    };
+    let mut k = 0;
+    loop {
+        match next_contact(stationary, orbiting, tol, k) {
+            Next::Nothing => return best,
+            Next::At(j) => {
+                best = weigh_contact(
+                    stationary,
+                    orbiting,
+                    j,
+                    best,
+                    from,
+                    visited,
+                    tol,
+                    previous,
+                    ccw,
+                );
+                k = j + 1;
+            }
+        }
+    }
+}
+
+// The vector chosen, the first where no score is above -infinity, or nothing where all lead to visited positions.
+pub fn choose(
+    stationary: &[f64],
+    orbiting: &[f64],
+    tol: f64,
+    from: Point,
+    visited: &[f64],
+    previous: Previous,
+    ccw: Point,
+) -> Choice
+    requires { ⌜ Sides (count (now stationary)) (count (now orbiting)) ⌝ }
+    ensures { λ r. ⌜ r ≡ choiceOf (fitOf (now (stationary .entry)) (now (orbiting .entry)) from (now (visited .entry)) tol) previous ccw ⌝ }
+{
+    let best = climb(stationary, orbiting, tol, from, visited, previous, ccw);
+    if best.found {
+        let course = best.course;
+        Choice::Vector(to_vector(course))
+    } else {
+        Choice::Nothing
+    }
+}

@@ -1,0 +1,155 @@
+// The run of the passes: `trace_nfp_boundary` of `nfp_sliding.rs`, the path stored in a room that the caller lends.
+use crate::still::same_pose;
+use moved::put;
+use pass::Pose;
+use pass::Step;
+use pass::pass;
+use plane::Point;
+use refusals::Settings;
+ghost use mathlib.Core.Path.{_≡_};
+ghost use Prim.Native.Nat.{_*_, _%_, _≤_};
+ghost use lib.ListN.{length};
+ghost use Rattle.ring.specs.Ring.{count};
+ghost use Rattle.pairs.specs.Pairs.{Sides};
+ghost use Rattle.pass.specs.Pass.{scene};
+ghost use Rattle.passes.specs.Run.{turnOf, runOf, InRoom};
+ghost use Rattle.passes.specs.Still.{Same};
+
+// Where the trace is, and how many points it has stored.
+pub struct State {
+    pub pose: Pose,
+    pub stored: usize,
+}
+
+// What a turn comes to: the pass stopped, its point does not fit the room, or the trace goes on.
+pub enum Turn {
+    Halt(u32),
+    Full,
+    Go(State),
+}
+
+// How a run ended: whether the room was full, the reason where it was not, the passes begun, and how many points are stored.
+pub struct End {
+    pub full: bool,
+    pub reason: u32,
+    pub passes: u64,
+    pub stored: usize,
+}
+
+// One pass, and its point stored.
+fn one_turn(
+    stationary: &[f64],
+    orbiting: &[f64],
+    settings: Settings,
+    centroid: Point,
+    start: Point,
+    state: State,
+    room: &mut [f64],
+) -> Turn
+    requires { ⌜ length (now orbiting) % 2 ≡ 0 ⌝ }
+    requires { ⌜ length (now orbiting) ≤ 512 ⌝ }
+    requires { ⌜ Sides (count (now stationary)) (count (now orbiting)) ⌝ }
+    requires { ⌜ 2 * state .stored ≤ length (now room) ⌝ }
+    ensures { λ r. ⌜ (r ≡ turnOf (scene (now (stationary .entry)) (now (orbiting .entry)) settings centroid start) state (now (room .entry)) .answer) × (now (room .exit) ≡ turnOf (scene (now (stationary .entry)) (now (orbiting .entry)) settings centroid start) state (now (room .entry)) .room) × InRoom r (length (now (room .entry))) ⌝ }
+{
+    let stored = state.stored;
+    let len = 2 * stored;
+    let pose = state.pose;
+    match pass(
+        stationary,
+        orbiting,
+        settings,
+        centroid,
+        start,
+        &room[..len],
+        pose,
+    ) {
+        Step::Stop(reason) => Turn::Halt(reason),
+        Step::Stay(next) => Turn::Go(State { pose: next, stored }),
+        Step::Store(next) => {
+            if room.len() - len < 2 {
+                return Turn::Full;
+            }
+            let more = stored + 1;
+            let position = next.position;
+            put(room, stored, position);
+            Turn::Go(State {
+                pose: next,
+                stored: more,
+            })
+        }
+    }
+}
+
+// Whether a turn came to nothing new, so that all that follow it come to nothing new either.
+fn is_still(next: State, state: State) -> bool
+    ensures { λ r. ⌜ Same r next state ⌝ }
+{
+    if next.stored == state.stored {
+        let p = next.pose;
+        let q = state.pose;
+        same_pose(p, q)
+    } else {
+        false
+    }
+}
+
+// The passes from a state on, as many as the settings allow.
+pub fn run(
+    stationary: &[f64],
+    orbiting: &[f64],
+    settings: Settings,
+    centroid: Point,
+    start: Point,
+    first: State,
+    room: &mut [f64],
+) -> End
+    requires { ⌜ length (now orbiting) % 2 ≡ 0 ⌝ }
+    requires { ⌜ length (now orbiting) ≤ 512 ⌝ }
+    requires { ⌜ Sides (count (now stationary)) (count (now orbiting)) ⌝ }
+    requires { ⌜ 2 * first .stored ≤ length (now room) ⌝ }
+    requires { ⌜ settings .«max_iterations» ≤ 10000 ⌝ }
+    ensures { λ r. ⌜ (r ≡ runOf (scene (now (stationary .entry)) (now (orbiting .entry)) settings centroid start) (settings .«max_iterations») 0 first (now (room .entry)) .end) × (now (room .exit) ≡ runOf (scene (now (stationary .entry)) (now (orbiting .entry)) settings centroid start) (settings .«max_iterations») 0 first (now (room .entry)) .room) ⌝ }
+{
+    let limit = settings.max_iterations;
+    let mut state = first;
+    let mut passes = 0;
+    while passes < limit {
+        match one_turn(stationary, orbiting, settings, centroid, start, state, room) {
+            Turn::Halt(reason) => {
+                return End {
+                    full: false,
+                    reason,
+                    passes: passes + 1,
+                    stored: state.stored,
+                };
+            }
+            Turn::Full => {
+                return End {
+                    full: true,
+                    reason: 0,
+                    passes: passes + 1,
+                    stored: state.stored,
+                };
+            }
+            Turn::Go(next) => {
+                if is_still(next, state) {
+                    return End {
+                        full: false,
+                        reason: 5,
+                        passes: limit,
+                        stored: state.stored,
+                    };
+                }
+                state = next;
+                passes += 1;
+            }
+        }
+    }
+    End {
+        full: false,
+        reason: 5,
+        passes,
+        stored: state.stored,
+    }
+}

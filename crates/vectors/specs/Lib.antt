@@ -1,0 +1,4 @@
+-- The definitions that the contracts of vectors, and of what stands on them, cite.
+pub mod Vectors
+pub mod Fit
+pub mod Places
