@@ -21,7 +21,7 @@ use Rattle.bounds.proofs.Foot.{Between, between}
 -- ---- a sum grows with both
 
 -- a result that may be a NaN is not above another that may be
-abbrev InOrder : Float → Float → Type 0
+abbrev pub InOrder : Float → Float → Type 0
 InOrder x y = (x ≡ nan) ⊎ ((y ≡ nan) ⊎ T (le x y))
 
 lowest : (y : Float) → InOrder (inf true) y
@@ -50,7 +50,7 @@ to-highest x (inf true) = inr (inl (unfold add in refl))
 to-highest x (inf false) = unfold add in highest x
 to-highest x (fin t n d) = unfold add in highest x
 
-sums : (x y z w : Float) → T (le x y) → T (le z w) → InOrder (x ⊕ z) (y ⊕ w)
+pub sums : (x y z w : Float) → T (le x y) → T (le z w) → InOrder (x ⊕ z) (y ⊕ w)
 unfolding le
 sums nan y z w h k = absurd h
 sums (inf true) y z w h k = from-lowest z (y ⊕ w)

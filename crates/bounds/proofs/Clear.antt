@@ -27,7 +27,7 @@ use Rattle.bounds.proofs.Beyond.{Far, by-low, by-high, highest}
 
 -- ---- squares
 
-square-plain : (x : Float) → (x ⊗ x ≡ nan) ⊎ Plain (x ⊗ x)
+pub square-plain : (x : Float) → (x ⊗ x ≡ nan) ⊎ Plain (x ⊗ x)
 unfolding mul
 square-plain nan = inl refl
 square-plain (inf true) = inr infinite
@@ -104,7 +104,7 @@ sum-turned infinite (number n d) = refl
 sum-turned (number m e) infinite = refl
 sum-turned (number m e) (number n d) = rw (add-comm (m * up e * down d) (n * up d * down e), mul-comm (down e) (down d)) refl
 
-plain-nan : {x : Float} → Plain x → x ⊕ nan ≡ nan
+pub plain-nan : {x : Float} → Plain x → x ⊕ nan ≡ nan
 unfolding add
 plain-nan infinite = refl
 plain-nan (number m e) = refl

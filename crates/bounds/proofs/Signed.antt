@@ -142,7 +142,7 @@ unfolding odd
 odd-plain d zero k l = number _ _
 odd-plain d (suc q) k l = number _ _
 
-units-plain : (f : Format) (q k : ℕ) → Plain (units f false q k)
+pub units-plain : (f : Format) (q k : ℕ) → Plain (units f false q k)
 unfolding units
 units-plain f q k = by (ltb (q * 2 ^ k) (2 ^ (low f + suc (emax f))))
   where

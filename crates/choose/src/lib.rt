@@ -162,9 +162,9 @@ fn climb(
     let mut best = Best {
         found: false,
         score: start().score,
-        course: Course::For {
+        course: Course::Over {
             direction: Point { x: 0.0, y: 0.0 },
-            distance: 0.0,
+            gap: Point { x: 0.0, y: 0.0 },
         },
     };
     let mut k = 0;

@@ -1,3 +1,4 @@
 -- The modules that belong to no one function.
 pub mod Along
 pub mod FarOne
+pub mod Lengths

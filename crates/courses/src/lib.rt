@@ -2,26 +2,33 @@
 use contacts::Edges;
 use near::is_shorter;
 use plane::Point;
-use plane::vector::distance;
 use plane::vector::dot;
 use plane::vector::length;
 use plane::vector::minus;
 use scalar::smaller;
-use square_root::sqrt;
 use vectors::TranslationVector;
 use vectors::direction;
 use vectors::opposite;
 ghost use mathlib.Core.Path.{_≡_};
+ghost use mathlib.Core.Bool.{true, false};
 ghost use lib.Ieee.{lt};
 ghost use Rattle.scalar.specs.Float.{f1};
 ghost use Rattle.scalar.specs.Scalar.{smallerOf};
+ghost use Rattle.plane.specs.Vector.{lengthOf};
 ghost use Rattle.vectors.specs.Vectors.{directionOf, vertexEdge, edgeVertex, edgeEdge, vectorBy};
-ghost use Rattle.courses.specs.Courses.{vectorIs, alongBy};
+ghost use Rattle.courses.specs.Courses.{f1·5, vectorIs, alongBy};
 
-// A direction, and the gap that is as long as the distance, or the distance itself.
+// A direction, and the gap that is as long as the distance, or two whose lengths' sum it is.
 pub enum Course {
-    Over { direction: Point, gap: Point },
-    For { direction: Point, distance: f64 },
+    Over {
+        direction: Point,
+        gap: Point,
+    },
+    Both {
+        direction: Point,
+        first: Point,
+        second: Point,
+    },
 }
 
 // The unit vector along the edge that the vectors of a contact follow.
@@ -73,16 +80,19 @@ fn over_both(e: Edges, along: Point, side: usize) -> Course
     requires { ⌜ along ≡ directionOf (e .a) (e .b) ⌝ }
     ensures { λ r. ⌜ vectorIs r ≡ edgeEdge e side ⌝ }
 {
-    let far = distance(e.a, e.b) + distance(e.c, e.d);
+    let first = minus(e.b, e.a);
+    let second = minus(e.d, e.c);
     if side == 0 {
-        return Course::For {
+        return Course::Both {
             direction: along,
-            distance: far,
+            first,
+            second,
         };
     }
-    Course::For {
+    Course::Both {
         direction: opposite(along),
-        distance: far,
+        first,
+        second,
     }
 }
 
@@ -107,12 +117,13 @@ pub fn to_vector(course: Course) -> TranslationVector
             direction,
             distance: length(gap),
         },
-        Course::For {
+        Course::Both {
             direction,
-            distance,
+            first,
+            second,
         } => TranslationVector {
             direction,
-            distance,
+            distance: length(first) + length(second),
         },
     }
 }
@@ -123,9 +134,10 @@ pub fn direction_of(course: Course) -> Point
 {
     match course {
         Course::Over { direction, gap: _ } => direction,
-        Course::For {
+        Course::Both {
             direction,
-            distance: _,
+            first: _,
+            second: _,
         } => direction,
     }
 }
@@ -136,11 +148,25 @@ pub fn is_below(course: Course, limit: f64) -> bool
 {
     match course {
         Course::Over { direction: _, gap } => is_shorter(gap, limit),
-        Course::For {
+        Course::Both {
             direction: _,
-            distance,
-        } => distance < limit,
+            first,
+            second,
+        } => {
+            if is_shorter(first, limit) {
+                length(first) + length(second) < limit
+            } else {
+                false
+            }
+        }
     }
+}
+
+// Whether a vector is longer than one, as far as its square tells.
+fn is_long(v: Point) -> bool
+    ensures { λ r. ⌜ (r ≡ true → lt (lengthOf v) f1·5 ≡ false) ⌝ }
+{
+    dot(v, v) > 1.5 * 1.5
 }
 
 // Its distance, 1.0 at most.
@@ -149,15 +175,20 @@ pub fn reach(course: Course) -> f64
 {
     match course {
         Course::Over { direction: _, gap } => {
-            let s = dot(gap, gap);
-            if s > 2.0 * 2.0 {
+            if is_long(gap) {
                 return 1.0;
             }
-            smaller(sqrt(s), 1.0)
+            smaller(length(gap), 1.0)
         }
-        Course::For {
+        Course::Both {
             direction: _,
-            distance,
-        } => smaller(distance, 1.0),
+            first,
+            second,
+        } => {
+            if is_long(first) {
+                return 1.0;
+            }
+            smaller(length(first) + length(second), 1.0)
+        }
     }
 }

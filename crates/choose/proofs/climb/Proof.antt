@@ -3,6 +3,9 @@ use native.Mathlib.Omega.{arith}
 use borrow.Author.Needs.{needs}
 use Prim.Native.Nat.{_-_}
 use mathlib.Core.Path.{refl}
+use lib.Ieee.{add, mul, ofBits}
+use Rattle.square_root.specs.Root.{sqrtOf}
+use Rattle.plane.specs.Vector.{lengthOf, dotOf}
 use Rattle.ring.specs.Ring.{count}
 use Rattle.pairs.specs.Pairs.{pairCount}
 use Rattle.pairs.proofs.Numbers.{most}
@@ -25,7 +28,7 @@ start-requires : tie.Need-start-requires Inv-loop μ-loop
 start-requires c κs = search needs
 
 loop-holds : tie.Need-loop-holds Inv-loop μ-loop
-unfolding unset vectorIs startOf
+unfolding unset vectorIs startOf lengthOf dotOf sqrtOf add mul ofBits
 loop-holds c = at-first _ _ _ _ _ _ (rw (c .start .ensures) refl)
 
 next-contact-requires : tie.Need-next-contact-requires Inv-loop μ-loop

@@ -1,9 +1,10 @@
 -- `courses::direction_of` meets its contract. Assumes nothing.
-use borrow.Author.Needs.{needs}
+use Prim.Native.Nat.{_-_}
 use mathlib.Core.Path.{refl}
-use Rattle.courses.specs.Courses.{vectorIs}
+use borrow.Author.Needs.{needs}
 use Rattle.courses.proofs.direction_of.Statement.{statement}
 use Rattle.courses.proofs.direction_of.Tie as tie
+use Rattle.courses.specs.Courses.{vectorIs}
 
 enum-known-course : tie.Need-enum-known-course
 enum-known-course c = search needs

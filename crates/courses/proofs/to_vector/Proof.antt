@@ -1,9 +1,10 @@
 -- `courses::to_vector` meets its contract. Assumes nothing.
-use borrow.Author.Needs.{needs}
+use Prim.Native.Nat.{_-_}
 use mathlib.Core.Path.{refl}
-use Rattle.courses.specs.Courses.{vectorIs}
+use borrow.Author.Needs.{needs}
 use Rattle.courses.proofs.to_vector.Statement.{statement}
 use Rattle.courses.proofs.to_vector.Tie as tie
+use Rattle.courses.specs.Courses.{vectorIs}
 
 enum-known-course : tie.Need-enum-known-course
 enum-known-course c = search needs
@@ -14,14 +15,28 @@ length-requires c κs = search needs
 enum-known-course-2 : tie.Need-enum-known-course-2
 enum-known-course-2 c = search needs
 
+length-requires-2 : tie.Need-length-requires-2
+length-requires-2 c κs = search needs
+
+length-requires-3 : tie.Need-length-requires-3
+length-requires-3 c κs = search needs
+
 returns : tie.Need-returns
 unfolding vectorIs
 returns c = rw (c .before .before .course .given .1, c .length .ensures) refl
 
 returns-2 : tie.Need-returns-2
 unfolding vectorIs
-returns-2 c = rw (c .before .course2 .given .1) refl
+returns-2 c = rw (c .before .before .before .course2 .given .1, c .length3 .ensures, c .before .length2 .ensures) refl
 
 pub to-vector-spec : {M : Type 1} → statement M
 to-vector-spec =
-    tie.close (tie.spec enum-known-course length-requires enum-known-course-2 returns returns-2)
+    tie.close
+    (tie.spec
+    enum-known-course
+    length-requires
+    enum-known-course-2
+    length-requires-2
+    length-requires-3
+    returns
+    returns-2)
