@@ -1,6 +1,7 @@
 // The 54 digits of a root in two halves: the first 27 by floats, as a guess that is to be tested, and from these the
-// other 27 by one division.
-ghost use Prim.Native.Nat.{_*_, _^_, _<_};
+// other 27 by one quotient.
+ghost use Prim.Native.Nat.{_*_, _/_, _%_, _^_, _≤_, _<_};
+ghost use mathlib.Core.Path.{_≡_};
 ghost use Rattle.square_root.specs.Root.{WholeRoot, Leading};
 
 // One step of Newton's towards 1 / root of x, from an s that is near it. `half` is x / 2. With c = 1.5 the step never
@@ -50,16 +51,50 @@ pub fn guess(m: u64) -> u64
     }
 }
 
+// A quotient, and what is left over.
+struct Parts {
+    quotient: u64,
+    rest: u64,
+}
+
+// n * 2 ^ 26 over a: by floats, as a guess that is tested, and where that fails by a division, which takes longer. For
+// 2 ^ 26 <= a it failed about once in a hundred thousand times.
+fn quotient(n: u64, a: u64) -> Parts
+    requires { ⌜ (n < 2 ^ 31) × (0 < a) × (a ≤ 2 ^ 27) ⌝ }
+    ensures { λ r. ⌜ (r .quotient ≡ n * 2 ^ 26 / a) × (r .rest ≡ n * 2 ^ 26 % a) ⌝ }
+{
+    let d = n * 0x0400_0000;
+    let x = f64::from_bits(a * 0x0400_0000 + 0x3fe0_0000_0000_0000); // a / 2 ^ 26
+    let z = (n as i32) as f64 / x + 68719476736.0;
+    if z > 0.0 {
+        // z is 2 ^ 36 and the quotient: there its whole part is the top of its bit pattern
+        let q = f64::to_bits(z) / 0x0001_0000 % 0x1000_0000;
+        let p = q * a;
+        if p <= d {
+            if d - p < a {
+                return Parts {
+                    quotient: q,
+                    rest: d - p,
+                };
+            }
+        }
+    }
+    Parts {
+        quotient: d / a,
+        rest: d % a,
+    }
+}
+
 // The 54 digits of the root of m * 2 ^ 54, where a is the first 27 of them: what a * a leaves of m, over 2 * a, gives
 // the other half, or one more.
 pub fn lengthened(m: u64, a: u64) -> u64
     requires { ⌜ Leading m a ⌝ }
     ensures { λ r. ⌜ WholeRoot (m * 2 ^ 54) r ⌝ }
 {
-    let d = (m - a * a) * 0x0400_0000;
-    let q = d / a;
+    let s = quotient(m - a * a, a);
+    let q = s.quotient;
     let r = a * 0x0800_0000 + q;
-    if q * q <= d % a * 0x1000_0000 {
+    if q * q <= s.rest * 0x1000_0000 {
         r
     } else {
         r - 1
