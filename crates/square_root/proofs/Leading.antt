@@ -25,14 +25,14 @@ pub record Divided (m a q u : ℕ) : Type 0 where
   pub most : q ≤ 2 ^ 27
   pub square : q * q ≤ 2 ^ 54
 
-pub divided : (m a : ℕ) → Leading m a → Divided m a (left m a / a) (left m a % a)
-divided m a h =
-    let q : left m a / a ≤ 2 ^ 27 = div-le-of-le-mul a (omega arith) in
+pub divided : (m a q u : ℕ) → Leading m a → (q ≡ left m a / a) × (u ≡ left m a % a) → Divided m a q u
+divided m a q u h (e, f) =
+    let b : q ≤ 2 ^ 27 = rw e (div-le-of-le-mul a (omega arith)) in
     record {
-      all = div-add-mod (left m a) a;
-      under = mod-lt (left m a) (omega arith);
-      most = q;
-      square = mul-le-mul q q;
+      all = rw (e, f) (div-add-mod (left m a) a);
+      under = rw f (mod-lt (left m a) (omega arith));
+      most = b;
+      square = mul-le-mul b b;
     }
 
 module _ (m a : ℕ) (h : Leading m a) where

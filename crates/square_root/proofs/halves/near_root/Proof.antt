@@ -5,20 +5,11 @@ use Rattle.square_root.proofs.Patterns.{no-nan}
 use Rattle.square_root.proofs.halves.near_root.Statement.{statement}
 use Rattle.square_root.proofs.halves.near_root.Tie as tie
 
-shr-b : tie.Need-shr-b
-shr-b c = search needs
+scaled-requires : tie.Need-scaled-requires
+scaled-requires c κs = search needs
 
-add-b : tie.Need-add-b
-add-b c = search needs
-
-mul-b : tie.Need-mul-b
-mul-b c = search needs
-
-add-b-2 : tie.Need-add-b-2
-add-b-2 c = search needs
-
-float-from-bits-x : tie.Need-float-from-bits-x
-float-from-bits-x c = no-nan _ (omega arith)
+float-from-bits-half : tie.Need-float-from-bits-half
+float-from-bits-half c = no-nan _ (c .scaled .ensures)
 
 sub-first : tie.Need-sub-first
 sub-first c = search needs
@@ -39,11 +30,8 @@ pub near-root-spec : {M : Type 1} → statement M
 near-root-spec =
     tie.close
     (tie.spec
-    shr-b
-    add-b
-    mul-b
-    add-b-2
-    float-from-bits-x
+    scaled-requires
+    float-from-bits-half
     sub-first
     float-from-bits-first
     nearer-requires
