@@ -2,7 +2,8 @@
 use contacts::Edges;
 use contacts::Next;
 use contacts::edges_of;
-use contacts::next_contact;
+use contacts::frames_of;
+use contacts::next_within;
 use courses::Course;
 use courses::along_by;
 use courses::course_by;
@@ -167,9 +168,10 @@ fn climb(
             gap: Point { x: 0.0, y: 0.0 },
         },
     };
+    let frames = frames_of(stationary, orbiting);
     let mut k = 0;
     loop {
-        match next_contact(stationary, orbiting, tol, k) {
+        match next_within(stationary, orbiting, frames, tol, k) {
             Next::Nothing => return best,
             Next::At(j) => {
                 best = weigh_contact(

@@ -7,7 +7,9 @@ use lib.Ieee.{Float}
 use Rattle.plane.specs.Segment.{onSegmentOf}
 use Rattle.plane.specs.declared.Point.{Point}
 use Rattle.ring.specs.Ring.{count, pointAt}
+use Rattle.bounds.specs.Bounds.{Around}
 use Rattle.contacts.specs.Touching.{edgeEnd, edgesTouch}
+use Rattle.contacts.specs.declared.Frames.{Frames}
 
 -- r is the first number from `from` on, below n, of which a test holds, or n
 pub record First (f : ℕ → Bool) (from n r : ℕ) : Type 0 where
@@ -30,3 +32,7 @@ onEdgeAt vs r tol k = onEdge (pointAt vs (k / count r)) r tol (k % count r)
 
 unfoldable pub alongEdgeAt : List Float → List Float → Float → ℕ → Bool
 alongEdgeAt st orb tol k = alongEdge (pointAt st (k / count orb)) (edgeEnd st (k / count orb)) orb tol (k % count orb)
+
+-- the bounds of both rings are around them
+abbrev pub Framed : Frames → List Float → List Float → Type 0
+Framed f st orb = Around (f .stationary) st (count st) × Around (f .orbiting) orb (count orb)

@@ -4,6 +4,8 @@ mod rows;
 pub mod screen;
 mod write;
 
+use bounds::Bounds;
+use bounds::bounds_of;
 use pairs::Pair;
 use plane::Point;
 use ring::next;
@@ -16,6 +18,7 @@ ghost use lib.ListN.{length};
 ghost use Rattle.ring.specs.Ring.{count};
 ghost use Rattle.pairs.specs.Pairs.{Sides, Within, pairCount};
 ghost use Rattle.contacts.specs.Touching.{edgeEnd, edgesOf, pointBy, contactPoint};
+ghost use Rattle.contacts.specs.Rows.{Framed};
 ghost use Rattle.contacts.specs.Contacts.{contactsFrom, contactsOf, nextOf};
 
 // The two edges of a pair: a b of the stationary ring, c d of the orbiting one.
@@ -24,6 +27,12 @@ pub struct Edges {
     pub b: Point,
     pub c: Point,
     pub d: Point,
+}
+
+// The bounds around both rings.
+pub struct Frames {
+    pub stationary: Bounds,
+    pub orbiting: Bounds,
 }
 
 // The first contact from a pair's number on.
@@ -78,16 +87,17 @@ fn contact_point(stationary: &[f64], orbiting: &[f64], pair: Pair) -> Point
 }
 
 // The first contact of two edges from the pair number `from` on.
-fn next_edges(stationary: &[f64], orbiting: &[f64], tol: f64, from: usize) -> Next
+fn next_edges(stationary: &[f64], orbiting: &[f64], frames: Frames, tol: f64, from: usize) -> Next
     requires { ⌜ Sides (count (now stationary)) (count (now orbiting)) ⌝ }
     requires { ⌜ (2 * (count (now stationary) * count (now orbiting)) ≤ from) × (from ≤ pairCount (count (now stationary)) (count (now orbiting))) ⌝ }
+    requires { ⌜ Framed frames (now stationary) (now orbiting) ⌝ }
     ensures { λ r. ⌜ r ≡ nextOf (contactsFrom (now (stationary .entry)) (now (orbiting .entry)) tol from) ⌝ }
 {
     let on = orbiting.len() / 2;
     let m = stationary.len() / 2 * on;
     if from < 3 * m {
         let j = from - 2 * m;
-        let k = scan_edges(stationary, orbiting, j / on, j % on, tol);
+        let k = scan_edges(stationary, orbiting, frames.orbiting, j / on, j % on, tol);
         if k < m {
             Next::At(2 * m + k)
         } else {
@@ -99,22 +109,53 @@ fn next_edges(stationary: &[f64], orbiting: &[f64], tol: f64, from: usize) -> Ne
 }
 
 // The first contact that is no orbiting vertex on a stationary edge, from the pair number `from` on.
-fn next_later(stationary: &[f64], orbiting: &[f64], tol: f64, from: usize) -> Next
+fn next_later(stationary: &[f64], orbiting: &[f64], frames: Frames, tol: f64, from: usize) -> Next
     requires { ⌜ Sides (count (now stationary)) (count (now orbiting)) ⌝ }
     requires { ⌜ (count (now stationary) * count (now orbiting) ≤ from) × (from ≤ pairCount (count (now stationary)) (count (now orbiting))) ⌝ }
+    requires { ⌜ Framed frames (now stationary) (now orbiting) ⌝ }
     ensures { λ r. ⌜ r ≡ nextOf (contactsFrom (now (stationary .entry)) (now (orbiting .entry)) tol from) ⌝ }
 {
     let on = orbiting.len() / 2;
     let m = stationary.len() / 2 * on;
     if from < 2 * m {
         let j = from - m;
-        let k = scan_vertices(stationary, orbiting, j / on, j % on, tol);
+        let k = scan_vertices(stationary, orbiting, frames.orbiting, j / on, j % on, tol);
         if k < m {
             return Next::At(m + k);
         }
-        return next_edges(stationary, orbiting, tol, 2 * m);
+        return next_edges(stationary, orbiting, frames, tol, 2 * m);
     }
-    next_edges(stationary, orbiting, tol, from)
+    next_edges(stationary, orbiting, frames, tol, from)
+}
+
+// The first contact from the pair number `from` on, with the bounds around both rings at hand.
+pub fn next_within(stationary: &[f64], orbiting: &[f64], frames: Frames, tol: f64, from: usize) -> Next
+    requires { ⌜ Sides (count (now stationary)) (count (now orbiting)) ⌝ }
+    requires { ⌜ from ≤ pairCount (count (now stationary)) (count (now orbiting)) ⌝ }
+    requires { ⌜ Framed frames (now stationary) (now orbiting) ⌝ }
+    ensures { λ r. ⌜ r ≡ nextOf (contactsFrom (now (stationary .entry)) (now (orbiting .entry)) tol from) ⌝ }
+{
+    let sn = stationary.len() / 2;
+    let m = sn * (orbiting.len() / 2);
+    if from < m {
+        let k = scan_vertices(orbiting, stationary, frames.stationary, from / sn, from % sn, tol);
+        if k < m {
+            return Next::At(k);
+        }
+        return next_later(stationary, orbiting, frames, tol, m);
+    }
+    next_later(stationary, orbiting, frames, tol, from)
+}
+
+// The bounds around both rings.
+pub fn frames_of(stationary: &[f64], orbiting: &[f64]) -> Frames
+    requires { ⌜ Sides (count (now stationary)) (count (now orbiting)) ⌝ }
+    ensures { λ r. ⌜ Framed r (now (stationary .entry)) (now (orbiting .entry)) ⌝ }
+{
+    Frames {
+        stationary: bounds_of(stationary),
+        orbiting: bounds_of(orbiting),
+    }
 }
 
 // The first contact from the pair number `from` on.
@@ -123,16 +164,7 @@ pub fn next_contact(stationary: &[f64], orbiting: &[f64], tol: f64, from: usize)
     requires { ⌜ from ≤ pairCount (count (now stationary)) (count (now orbiting)) ⌝ }
     ensures { λ r. ⌜ r ≡ nextOf (contactsFrom (now (stationary .entry)) (now (orbiting .entry)) tol from) ⌝ }
 {
-    let sn = stationary.len() / 2;
-    let m = sn * (orbiting.len() / 2);
-    if from < m {
-        let k = scan_vertices(orbiting, stationary, from / sn, from % sn, tol);
-        if k < m {
-            return Next::At(k);
-        }
-        return next_later(stationary, orbiting, tol, m);
-    }
-    next_later(stationary, orbiting, tol, from)
+    next_within(stationary, orbiting, frames_of(stationary, orbiting), tol, from)
 }
 
 // How many contacts there are.
@@ -140,10 +172,11 @@ pub fn count_contacts(stationary: &[f64], orbiting: &[f64], tol: f64) -> usize
     requires { ⌜ Sides (count (now stationary)) (count (now orbiting)) ⌝ }
     ensures { λ r. ⌜ (r ≡ length (contactsOf (now (stationary .entry)) (now (orbiting .entry)) tol)) × (r ≤ 196608) ⌝ }
 {
+    let frames = frames_of(stationary, orbiting);
     let mut n = 0;
     let mut k = 0;
     loop {
-        match next_contact(stationary, orbiting, tol, k) {
+        match next_within(stationary, orbiting, frames, tol, k) {
             Next::Nothing => return n,
             Next::At(j) => {
                 n += 1;

@@ -1,7 +1,6 @@
 // The scans of the pairs of one kind, row by row: one point or one edge stays while the edges of the other ring go by.
 use bounds::Bounds;
 use bounds::bounds_at;
-use bounds::bounds_of;
 use bounds::is_apart;
 use bounds::with_edge;
 use near::point_on_segment;
@@ -98,15 +97,16 @@ fn edge_along_within(a: Point, b: Point, ring: &[f64], around: Bounds, from: usi
     edge_along(a, b, ring, from, tol)
 }
 
-// The first pair of a vertex of one list and an edge of a ring that are near, from the vertex v and the edge e on, or the number of pairs.
-pub fn scan_vertices(points: &[f64], ring: &[f64], v: usize, e: usize, tol: f64) -> usize
+// The first pair of a vertex of one list and an edge of a ring, in bounds that are around it, that are near, from the vertex v and the edge e on,
+// or the number of pairs.
+pub fn scan_vertices(points: &[f64], ring: &[f64], around: Bounds, v: usize, e: usize, tol: f64) -> usize
     requires { ⌜ (v < count (now points)) × (e < count (now ring)) ⌝ }
     requires { ⌜ (count (now points) ≤ 256) × (count (now ring) ≤ 256) ⌝ }
+    requires { ⌜ Around around (now ring) (count (now ring)) ⌝ }
     ensures { λ r. ⌜ First (onEdgeAt (now (points .entry)) (now (ring .entry)) tol) (v * count (now (ring .entry)) + e) (count (now (points .entry)) * count (now (ring .entry))) r ⌝ }
 {
     let vn = points.len() / 2;
     let en = ring.len() / 2;
-    let around = bounds_of(ring);
     let mut i = v;
     let mut from = e;
     while i < vn {
@@ -121,14 +121,14 @@ pub fn scan_vertices(points: &[f64], ring: &[f64], v: usize, e: usize, tol: f64)
 }
 
 // The same of edges of both that touch.
-pub fn scan_edges(stationary: &[f64], orbiting: &[f64], s: usize, o: usize, tol: f64) -> usize
+pub fn scan_edges(stationary: &[f64], orbiting: &[f64], around: Bounds, s: usize, o: usize, tol: f64) -> usize
     requires { ⌜ (s < count (now stationary)) × (o < count (now orbiting)) ⌝ }
     requires { ⌜ (count (now stationary) ≤ 256) × (count (now orbiting) ≤ 256) ⌝ }
+    requires { ⌜ Around around (now orbiting) (count (now orbiting)) ⌝ }
     ensures { λ r. ⌜ First (alongEdgeAt (now (stationary .entry)) (now (orbiting .entry)) tol) (s * count (now (orbiting .entry)) + o) (count (now (stationary .entry)) * count (now (orbiting .entry))) r ⌝ }
 {
     let sn = stationary.len() / 2;
     let on = orbiting.len() / 2;
-    let around = bounds_of(orbiting);
     let mut i = s;
     let mut from = o;
     while i < sn {

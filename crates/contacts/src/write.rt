@@ -2,7 +2,8 @@
 use crate::Next;
 use crate::contact_point;
 use crate::count_contacts;
-use crate::next_contact;
+use crate::frames_of;
+use crate::next_within;
 use crate::screen::rooms;
 use pairs::Pair;
 use pairs::pair_at;
@@ -52,10 +53,11 @@ fn write_contacts(
 {
     let sn = stationary.len() / 2;
     let on = orbiting.len() / 2;
+    let frames = frames_of(stationary, orbiting);
     let mut n = 0;
     let mut k = 0;
     loop {
-        match next_contact(stationary, orbiting, tol, k) {
+        match next_within(stationary, orbiting, frames, tol, k) {
             Next::Nothing => return,
             Next::At(j) => {
                 let pair = pair_at(j, sn, on);

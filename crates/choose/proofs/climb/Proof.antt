@@ -19,20 +19,23 @@ use Rattle.choose.proofs.climb.Statement.{statement}
 use Rattle.choose.proofs.climb.Tie as tie
 
 abbrev Inv-loop : tie.InvT-loop
-Inv-loop stationary orbiting tol from visited previous ccw best₀ k₀ best k = Climbing stationary orbiting tol (keeps from visited tol) previous ccw (standing best) k
+Inv-loop stationary orbiting tol from visited previous ccw best₀ frames k₀ best k = Climbing stationary orbiting tol (keeps from visited tol) previous ccw (standing best) k
 
 abbrev μ-loop : tie.MeasureT-loop
-μ-loop stationary orbiting tol from visited previous ccw best₀ k₀ best k = pairCount (count stationary) (count orbiting) - k
+μ-loop stationary orbiting tol from visited previous ccw best₀ frames k₀ best k = pairCount (count stationary) (count orbiting) - k
 
 start-requires : tie.Need-start-requires Inv-loop μ-loop
 start-requires c κs = search needs
 
+frames-of-requires : tie.Need-frames-of-requires Inv-loop μ-loop
+frames-of-requires c κs = search needs
+
 loop-holds : tie.Need-loop-holds Inv-loop μ-loop
 unfolding unset vectorIs startOf lengthOf dotOf sqrtOf add mul ofBits
-loop-holds c = at-first _ _ _ _ _ _ (rw (c .start .ensures) refl)
+loop-holds c = at-first _ _ _ _ _ _ (rw (c .before .start .ensures) refl)
 
-next-contact-requires : tie.Need-next-contact-requires Inv-loop μ-loop
-next-contact-requires c κs = (c .before .before .before .before .before .pre, c .loop .inv .most)
+next-within-requires : tie.Need-next-within-requires Inv-loop μ-loop
+next-within-requires c κs = (c .before .before .before .before .before .before .pre, (c .loop .inv .most, c .before .frames-of .ensures))
 
 enum-told : tie.Need-enum-told Inv-loop μ-loop
 enum-told c = search needs
@@ -40,7 +43,7 @@ enum-told c = search needs
 returns : tie.Need-returns Inv-loop μ-loop
 returns c =
     let n = c .before .before in
-    top _ _ _ _ _ _ (n .before .loop .inv) (next-none _ _ _ _ (n .next-contact .ensures) (c .enum-told .given .1))
+    top _ _ _ _ _ _ (n .before .loop .inv) (next-none _ _ _ _ (n .next-within .ensures) (c .enum-told .given .1))
 
 enum-known-j : tie.Need-enum-known-j Inv-loop μ-loop
 enum-known-j c = search needs
@@ -48,23 +51,23 @@ enum-known-j c = search needs
 weigh-contact-requires : tie.Need-weigh-contact-requires Inv-loop μ-loop
 weigh-contact-requires c κs =
     let n = c .before .before .before in
-    (c .before .before .before .before .before .before .before .before .before .pre, next-at _ _ _ (n .next-contact .ensures) (c .before .j .given .1) .below)
+    (c .before .before .before .before .before .before .before .before .before .before .pre, next-at _ _ _ (n .next-within .ensures) (c .before .j .given .1) .below)
 
 add-k : tie.Need-add-k Inv-loop μ-loop
 add-k c =
     let n = c .before .before .before .before in
-    omega (arith, next-at _ _ _ (n .next-contact .ensures) (c .before .before .j .given .1) .below, most _ _ (c .before .before .before .before .before .before .before .before .before .before .pre))
+    omega (arith, next-at _ _ _ (n .next-within .ensures) (c .before .before .j .given .1) .below, most _ _ (c .before .before .before .before .before .before .before .before .before .before .before .pre))
 
 loop-less : tie.Need-loop-less Inv-loop μ-loop
 loop-less c =
     let n = c .before .before .before .before in
-    let f = next-at _ _ _ (n .next-contact .ensures) (c .before .before .j .given .1) in
+    let f = next-at _ _ _ (n .next-within .ensures) (c .before .before .j .given .1) in
     omega (arith, f .below, f .least)
 
 loop-again : tie.Need-loop-again Inv-loop μ-loop
 loop-again c =
     let n = c .before .before .before .before in
-    up _ _ _ _ _ _ (n .before .loop .inv) (next-at _ _ _ (n .next-contact .ensures) (c .before .before .j .given .1)) (c .weigh-contact .ensures)
+    up _ _ _ _ _ _ (n .before .loop .inv) (next-at _ _ _ (n .next-within .ensures) (c .before .before .j .given .1)) (c .weigh-contact .ensures)
 
 pub climb-spec : {M : Type 1} → statement M
 climb-spec =
@@ -73,8 +76,9 @@ climb-spec =
     Inv-loop
     μ-loop
     start-requires
+    frames-of-requires
     loop-holds
-    next-contact-requires
+    next-within-requires
     enum-told
     returns
     enum-known-j

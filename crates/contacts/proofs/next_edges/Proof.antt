@@ -15,7 +15,7 @@ mul-j : tie.Need-mul-j
 mul-j c = omega (arith, most _ _ (c .before .before .before .pre .0))
 
 sub-j : tie.Need-sub-j
-sub-j c = omega (arith, c .before .before .before .pre .1 .0)
+sub-j c = omega (arith, c .before .before .before .pre .1 .0 .0)
 
 div-scan-edges : tie.Need-div-scan-edges
 div-scan-edges c = omega (arith, c .before .before .before .pre .0 .orbiting-some)
@@ -26,23 +26,23 @@ rem-scan-edges c = omega (arith, c .before .before .before .pre .0 .orbiting-som
 scan-edges-requires : tie.Need-scan-edges-requires
 scan-edges-requires c κs =
     let p = c .before .before .before .pre in
-    (rows-in _ _ (p .0) _ (omega (arith, c .if1 .taken, p .1 .0)), (p .0 .stationary-most, p .0 .orbiting-most))
+    (rows-in _ _ (p .0) _ (omega (arith, c .if1 .taken, p .1 .0 .0)), ((p .0 .stationary-most, p .0 .orbiting-most), p .1 .1 .1))
 
-mul-t17 : tie.Need-mul-t17
-mul-t17 c = omega (arith, most _ _ (c .before .before .before .before .before .pre .0))
+mul-t18 : tie.Need-mul-t18
+mul-t18 c = omega (arith, most _ _ (c .before .before .before .before .before .pre .0))
 
-add-t18 : tie.Need-add-t18
-add-t18 c = omega (arith, most _ _ (c .before .before .before .before .before .pre .0), c .if2 .taken)
+add-t19 : tie.Need-add-t19
+add-t19 c = omega (arith, most _ _ (c .before .before .before .before .before .pre .0), c .if2 .taken)
 
 returns : tie.Need-returns
 returns c =
     let p = c .before .before .before .before .before .pre in
-    last-hit _ _ _ (p .0) _ _ (p .1 .0) (c .before .scan-edges .ensures) (c .if2 .taken)
+    last-hit _ _ _ (p .0) _ _ (p .1 .0 .0) (c .before .scan-edges .ensures) (c .if2 .taken)
 
 returns-2 : tie.Need-returns-2
 returns-2 c =
     let p = c .before .before .before .before .before .pre in
-    last-none _ _ _ (p .0) _ _ (p .1 .0) (c .before .scan-edges .ensures) (c .if2 .left)
+    last-none _ _ _ (p .0) _ _ (p .1 .0 .0) (c .before .scan-edges .ensures) (c .if2 .left)
 
 returns-3 : tie.Need-returns-3
 returns-3 c = none-past _ _ _ (c .before .before .before .pre .0) _ (c .if1 .left)
@@ -58,8 +58,8 @@ next-edges-spec =
     div-scan-edges
     rem-scan-edges
     scan-edges-requires
-    mul-t17
-    add-t18
+    mul-t18
+    add-t19
     returns
     returns-2
     returns-3)
