@@ -13,15 +13,15 @@ use lib.Ieee.Positive.{positive, above-of-le, mul-mono}
 use Rattle.scalar.specs.Float.{f0, f1, _⊕_, _⊖_, _⊗_}
 use Rattle.scalar.specs.Scalar.{clampOf}
 use Rattle.square_root.specs.Root.{sqrtOf}
-use Rattle.square_root.proofs.Compare.{number-or-infinite, above-zero, lt-of-infinity, le-of-lt}
+use Rattle.square_root.proofs.Compare.{number-or-infinite, above-zero, lt-of-infinity, le-of-lt, lt-self}
 use Rattle.plane.specs.Vector.{point, minusOf, plusOf, dotOf, lengthOf, distanceOf}
 use Rattle.plane.specs.Segment.{clampedFoot, projectOf, alongOf, toSegmentOf, onSegmentOf, f1e-20}
 use Rattle.plane.specs.declared.Point.{Point}
 use Rattle.near.proofs.Below.{no-root}
-use Rattle.bounds.specs.Bounds.{Inside, Spans, beyond, apart}
+use Rattle.bounds.specs.Bounds.{Inside, Spans, wide, marginOf, beyond, apart, past}
 use Rattle.bounds.specs.declared.Bounds.{Bounds}
 use Rattle.bounds.proofs.Signed.{round-plain, Plain, infinite, number}
-use Rattle.bounds.proofs.Ordered.{lt-le, le-trans}
+use Rattle.bounds.proofs.Ordered.{lt-le, lt-nan, not-less}
 use Rattle.bounds.proofs.Sums.{rises}
 use Rattle.bounds.proofs.Beyond.{Far, by-low, by-high, highest}
 
@@ -176,12 +176,38 @@ one-of : (a b : Bool) → a || b ≡ true → (a ≡ true) ⊎ (b ≡ true)
 one-of true b h = inl refl
 one-of false b h = inr h
 
+-- what a margin is that something is above, or below as a negative
+record Margin (tol : Float) : Type 0 where
+  some : lt f0 tol ≡ true
+  above : lt f0 (marginOf tol) ≡ true
+  square : lt (tol ⊗ tol) (marginOf tol ⊗ marginOf tol) ≡ true
+
+module _ (tol : Float) where
+  abbrev twice : Float
+  twice = tol ⊕ tol
+
+  is-twice : wide tol twice ≡ true → Margin tol
+  unfolding marginOf wide
+  is-twice e =
+      let A = both (lt f0 tol) (lt (tol ⊗ tol) (twice ⊗ twice) && lt f0 twice) e in
+      let B = both (lt (tol ⊗ tol) (twice ⊗ twice)) (lt f0 twice) (A .1) in
+      record { some = A .0; above = rw e (B .1); square = rw e (B .0) }
+
+  margin : (x : Float) → (lt (marginOf tol) x ≡ true) ⊎ (lt x (neg (marginOf tol)) ≡ true) → Margin tol
+  unfolding marginOf
+  margin x h = by (wide tol twice) refl h
+    where
+      by : (b : Bool) → wide tol twice ≡ b → (lt (cond b twice nan) x ≡ true) ⊎ (lt x (neg (cond b twice nan)) ≡ true) → Margin tol
+      by true e h = is-twice e
+      by false e (inl h) = absurd (true≢false (sym h ∙ unfold lt in refl))
+      by false e (inr h) = absurd (true≢false (sym h ∙ unfold neg in lt-nan x))
+
 module _ (q b : Bounds) (tol : Float) (p a c : Point) (G : T (fits binary64 tol)) (E : Spans q a c) (P : Inside b p) where
   abbrev t : Float
   t = projectOf p a c
 
   abbrev far : Float
-  far = tol ⊕ tol
+  far = marginOf tol
 
   along-x : beyond (q .left) (q .right) (b .left) (b .right) far ≡ true
       → Far (a .x) (c .x ⊖ a .x) t (p .x) far (E .held .0) (sub-fits binary64 (c .x) (a .x)) (share p a c .0) (share p a c .1)
@@ -205,12 +231,66 @@ module _ (q b : Bounds) (tol : Float) (p a c : Point) (G : T (fits binary64 tol)
             (q .high) (b .low) (E .first .not-above) (E .second .not-above) (P .not-below) l
       ]
 
+  from-beyond : (low high bottom top : Float) → beyond low high bottom top far ≡ true → Margin tol
+  unfolding beyond
+  from-beyond low high bottom top h =
+      elim (one-of (lt far (low ⊖ top)) (lt (high ⊖ bottom) (neg far)) h) [ inl l ↦ margin tol (low ⊖ top) (inl l) | inr l ↦ margin tol (high ⊖ bottom) (inr l) ]
+
   pub clear : apart q b tol ≡ true → onSegmentOf p a c tol ≡ false
   unfolding apart onSegmentOf toSegmentOf distanceOf lengthOf dotOf minusOf alongOf
   clear h =
-      let x = beyond (q .left) (q .right) (b .left) (b .right) far in
-      let y = beyond (q .low) (q .high) (b .low) (b .high) far in
-      let A = both (lt f0 tol) (lt (tol ⊗ tol) (far ⊗ far) && (lt f0 far && (x || y))) h in
-      let B = both (lt (tol ⊗ tol) (far ⊗ far)) (lt f0 far && (x || y)) (A .1) in
-      let C = both (lt f0 far) (x || y) (B .1) in
-      elim (one-of x y (C .1)) [ inl l ↦ by-first tol far G (A .0) (C .0) (B .0) _ _ (along-x l) | inr l ↦ by-second tol far G (A .0) (C .0) (B .0) _ _ (along-y l) ]
+      elim (one-of (beyond (q .left) (q .right) (b .left) (b .right) far) (beyond (q .low) (q .high) (b .low) (b .high) far) h) [
+        | inl l ↦ let m = from-beyond (q .left) (q .right) (b .left) (b .right) l in by-first tol far G (m .some) (m .above) (m .square) _ _ (along-x l)
+        | inr l ↦ let m = from-beyond (q .low) (q .high) (b .low) (b .high) l in by-second tol far G (m .some) (m .above) (m .square) _ _ (along-y l)
+      ]
+
+-- ---- the same of one edge beside a point
+
+-- both ends past a point, so the foot as well
+module _ (tol : Float) (p a b : Float) (A : T (fits binary64 a)) (t : Float) (lo : lt t f0 ≡ false) (hi : lt f1 t ≡ false) where
+  abbrev W : T (fits binary64 (b ⊖ a))
+  W = sub-fits binary64 b a
+
+  abbrev end : Float
+  end = a ⊕ (b ⊖ a)
+
+  -- past the lower of both
+  above-both : lt (marginOf tol) (a ⊖ p) ≡ true → lt (marginOf tol) (end ⊖ p) ≡ true → Far a (b ⊖ a) t p (marginOf tol) A W lo hi
+  above-both g h = by (lt end a) refl
+    where
+      by : (z : Bool) → lt end a ≡ z → Far a (b ⊖ a) t p (marginOf tol) A W lo hi
+      by false e = by-low a (b ⊖ a) t p (marginOf tol) A W lo hi a p (lt-self a) e (lt-self p) g
+      by true e = by-low a (b ⊖ a) t p (marginOf tol) A W lo hi end p (not-less end a (le-of-lt end a e)) (lt-self end) (lt-self p) h
+
+  below-both : lt (a ⊖ p) (neg (marginOf tol)) ≡ true → lt (end ⊖ p) (neg (marginOf tol)) ≡ true → Far a (b ⊖ a) t p (marginOf tol) A W lo hi
+  below-both g h = by (lt a end) refl
+    where
+      by : (z : Bool) → lt a end ≡ z → Far a (b ⊖ a) t p (marginOf tol) A W lo hi
+      by false e = by-high a (b ⊖ a) t p (marginOf tol) A W lo hi a p (lt-self a) e (lt-self p) g
+      by true e = by-high a (b ⊖ a) t p (marginOf tol) A W lo hi end p (not-less a end (le-of-lt a end e)) (lt-self end) (lt-self p) h
+
+  past-far : past p a b (marginOf tol) ≡ true → Margin tol × Far a (b ⊖ a) t p (marginOf tol) A W lo hi
+  unfolding past
+  past-far h = by (lt (marginOf tol) (a ⊖ p)) refl h
+    where
+      by : (z : Bool) → lt (marginOf tol) (a ⊖ p) ≡ z → cond z (lt (marginOf tol) (end ⊖ p)) (lt (a ⊖ p) (neg (marginOf tol)) && lt (end ⊖ p) (neg (marginOf tol))) ≡ true
+          → Margin tol × Far a (b ⊖ a) t p (marginOf tol) A W lo hi
+      by true g h = (margin tol (a ⊖ p) (inl g), above-both g h)
+      by false g h =
+          let s = both (lt (a ⊖ p) (neg (marginOf tol))) (lt (end ⊖ p) (neg (marginOf tol))) h in
+          (margin tol (a ⊖ p) (inr (s .0)), below-both (s .0) (s .1))
+
+module _ (tol : Float) (p a b : Point) (G : T (fits binary64 tol)) where
+  pub beside-x : T (fits binary64 (a .x)) → past (p .x) (a .x) (b .x) (marginOf tol) ≡ true → onSegmentOf p a b tol ≡ false
+  unfolding onSegmentOf toSegmentOf distanceOf lengthOf dotOf minusOf alongOf
+  beside-x A h =
+      let u = share p a b in
+      let f = past-far tol (p .x) (a .x) (b .x) A (projectOf p a b) (u .0) (u .1) h in
+      by-first tol (marginOf tol) G (f .0 .some) (f .0 .above) (f .0 .square) _ _ (f .1)
+
+  pub beside-y : T (fits binary64 (a .y)) → past (p .y) (a .y) (b .y) (marginOf tol) ≡ true → onSegmentOf p a b tol ≡ false
+  unfolding onSegmentOf toSegmentOf distanceOf lengthOf dotOf minusOf alongOf
+  beside-y A h =
+      let u = share p a b in
+      let f = past-far tol (p .y) (a .y) (b .y) A (projectOf p a b) (u .0) (u .1) h in
+      by-second tol (marginOf tol) G (f .0 .some) (f .0 .above) (f .0 .square) _ _ (f .1)

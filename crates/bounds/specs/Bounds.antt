@@ -4,7 +4,7 @@ use mathlib.Core.Path.{_≡_}
 use mathlib.Core.Bool.{Bool, true, false, _&&_, _||_, cond}
 use mathlib.Core.List.{List}
 use lib.Dec.{T}
-use lib.Ieee.{Float, binary64, fits, lt, neg}
+use lib.Ieee.{Float, nan, binary64, fits, lt, neg}
 use Rattle.scalar.specs.Float.{_⊕_, _⊖_, _⊗_, f0}
 use Rattle.plane.specs.Vector.{minusOf, plusOf}
 use Rattle.plane.specs.declared.Point.{Point}
@@ -43,13 +43,27 @@ lowerOf bound x = cond (lt x bound) x bound
 unfoldable pub higherOf : Float → Float → Float
 higherOf bound x = cond (lt bound x) x bound
 
+-- so far is above zero and its square above that of a tolerance, which is above zero too
+unfoldable pub wide : Float → Float → Bool
+wide tol far = lt f0 tol && (lt (tol ⊗ tol) (far ⊗ far) && lt f0 far)
+
+-- twice a tolerance, where that is wide, and else a NaN, which nothing is above or below
+unfoldable pub marginOf : Float → Float
+marginOf tol = cond (wide tol (tol ⊕ tol)) (tol ⊕ tol) nan
+
 -- along one axis edges from low to high lie more than so far above points from bottom to top, or below them
 unfoldable pub beyond : Float → Float → Float → Float → Float → Bool
 beyond low high bottom top far = lt far (low ⊖ top) || lt (high ⊖ bottom) (neg far)
 
--- edges lie apart from points along one of the axes, by more than twice a tolerance
+-- edges lie apart from points along one of the axes, by more than the margin
 unfoldable pub apart : Bounds → Bounds → Float → Bool
 apart edges points tol =
-    let far = tol ⊕ tol in
-    lt f0 tol && (lt (tol ⊗ tol) (far ⊗ far) && (lt f0 far
-    && (beyond (edges .left) (edges .right) (points .left) (points .right) far || beyond (edges .low) (edges .high) (points .low) (points .high) far)))
+    let far = marginOf tol in
+    beyond (edges .left) (edges .right) (points .left) (points .right) far || beyond (edges .low) (edges .high) (points .low) (points .high) far
+
+-- along one axis both ends of an edge from a to b lie more than so far above p, or below it
+unfoldable pub past : Float → Float → Float → Float → Bool
+past p a b far =
+    let g = a ⊖ p in
+    let h = a ⊕ (b ⊖ a) ⊖ p in
+    cond (lt far g) (lt far h) (lt g (neg far) && lt h (neg far))

@@ -5,11 +5,13 @@ use plane::vector::plus;
 use ring::next;
 use ring::point_at;
 ghost use mathlib.Core.Path.{_≡_};
+ghost use mathlib.Core.Bool.{true, false};
 ghost use Prim.Native.Nat.{_<_};
 ghost use lib.Dec.{T};
 ghost use lib.Ieee.{binary64, fits};
+ghost use Rattle.plane.specs.Segment.{onSegmentOf};
 ghost use Rattle.ring.specs.Ring.{count};
-ghost use Rattle.bounds.specs.Bounds.{lowerOf, higherOf, Inside, Within, Held, Spans, Around, beyond, apart};
+ghost use Rattle.bounds.specs.Bounds.{lowerOf, higherOf, Inside, Within, Held, Spans, Around, wide, marginOf, beyond, apart, past};
 
 // The least and the greatest coordinate along each axis.
 pub struct Bounds {
@@ -29,22 +31,61 @@ fn is_beyond(low: f64, high: f64, bottom: f64, top: f64, far: f64) -> bool
     high - bottom < -far
 }
 
+// Whether so far is above zero and its square above that of a tolerance, which is above zero too.
+fn is_wide(tol: f64, far: f64) -> bool
+    ensures { λ r. ⌜ r ≡ wide tol far ⌝ }
+{
+    if tol > 0.0 {
+        if far * far > tol * tol {
+            return far > 0.0;
+        }
+    }
+    false
+}
+
+// Twice a tolerance, where that is wide, and else a NaN, which nothing is above or below.
+fn margin(tol: f64) -> f64
+    ensures { λ r. ⌜ (r ≡ marginOf tol) × T (fits binary64 tol) ⌝ }
+{
+    let far = tol + tol;
+    if is_wide(tol, far) { far } else { 0.0 / 0.0 }
+}
+
 // Whether the edges in some bounds lie apart from the points in others, so that no point is nearer to an edge than tol.
 pub fn is_apart(edges: Bounds, points: Bounds, tol: f64) -> bool
     ensures { λ r. ⌜ (r ≡ apart edges points tol) × T (fits binary64 tol) ⌝ }
 {
-    let far = tol + tol;
-    if tol > 0.0 {
-        if far * far > tol * tol {
-            if far > 0.0 {
-                if is_beyond(edges.left, edges.right, points.left, points.right, far) {
-                    return true;
-                }
-                return is_beyond(edges.low, edges.high, points.low, points.high, far);
-            }
-        }
+    let far = margin(tol);
+    if is_beyond(edges.left, edges.right, points.left, points.right, far) {
+        return true;
+    }
+    is_beyond(edges.low, edges.high, points.low, points.high, far)
+}
+
+// Whether along one axis both ends of an edge from a to b lie more than so far above p, or below it.
+fn is_past(p: f64, a: f64, b: f64, far: f64) -> bool
+    ensures { λ r. ⌜ (r ≡ past p a b far) × T (fits binary64 a) ⌝ }
+{
+    let g = a - p;
+    let h = a + (b - a) - p;
+    if g > far {
+        return h > far;
+    }
+    if g < -far {
+        return h < -far;
     }
     false
+}
+
+// Whether both ends of the edge a b lie past p along one of the axes: then p is not nearer to it than tol.
+pub fn is_beside(p: Point, a: Point, b: Point, tol: f64) -> bool
+    ensures { λ r. ⌜ (r ≡ true → onSegmentOf p a b tol ≡ false) ⌝ }
+{
+    let far = margin(tol);
+    if is_past(p.x, a.x, b.x, far) {
+        return true;
+    }
+    is_past(p.y, a.y, b.y, far)
 }
 
 // The bounds of one point.
