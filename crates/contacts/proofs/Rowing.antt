@@ -54,9 +54,9 @@ next-start r i n e h = e ∙ ap (pointAt r) (mod-eq-of-lt h)
 
 -- one turn of `near_edge` and of `edge_along`
 module _ (r : List Float) (tol : Float) (i : ℕ) where
-  pub is-on : (p : Point) {a b : Point} {t : Bool} → a ≡ pointAt r i → b ≡ pointAt r (nextOf i (count r)) → t ≡ onSegmentOf p a b tol → onEdge p r tol i ≡ t
+  pub on-edge : (p : Point) {a b : Point} {t : Bool} → a ≡ pointAt r i → b ≡ pointAt r (nextOf i (count r)) → t ≡ onSegmentOf p a b tol → onEdge p r tol i ≡ t
   unfolding onEdge edgeEnd
-  is-on p e f h = rw (h, e, f) refl
+  on-edge p e f h = rw (h, e, f) refl
 
   pub is-along : (a b : Point) {c d : Point} {s t u : Bool} → c ≡ pointAt r i → d ≡ pointAt r (nextOf i (count r)) → s ≡ onSegmentOf (pointAt r i) a b tol → t ≡ onSegmentOf d a b tol
       → u ≡ (parallelOf (minusOf b a) (minusOf d c) && (s && t)) → alongEdge a b r tol i ≡ u

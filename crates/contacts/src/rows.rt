@@ -2,6 +2,7 @@
 use bounds::Bounds;
 use bounds::bounds_at;
 use bounds::is_apart;
+use bounds::is_beside;
 use bounds::with_edge;
 use near::point_on_segment;
 use plane::Point;
@@ -13,9 +14,20 @@ ghost use mathlib.Core.Path.{_≡_};
 ghost use mathlib.Core.Bool.{_&&_};
 ghost use Prim.Native.Nat.{_+_, _*_, _<_, _≤_};
 ghost use Rattle.plane.specs.Vector.{minusOf, parallelOf};
+ghost use Rattle.plane.specs.Segment.{onSegmentOf};
 ghost use Rattle.ring.specs.Ring.{count};
 ghost use Rattle.bounds.specs.Bounds.{Around};
 ghost use Rattle.contacts.specs.Rows.{First, onEdge, alongEdge, onEdgeAt, alongEdgeAt};
+
+// Whether a point is nearer to a segment than tol; its foot is worked out only where the segment is not beside it.
+fn is_on(p: Point, a: Point, b: Point, tol: f64) -> bool
+    ensures { λ r. ⌜ r ≡ onSegmentOf p a b tol ⌝ }
+{
+    if is_beside(p, a, b, tol) {
+        return false;
+    }
+    point_on_segment(p, a, b, tol)
+}
 
 // The first edge of a ring, from one on, that a point is near to, or their number.
 fn near_edge(p: Point, ring: &[f64], from: usize, tol: f64) -> usize
@@ -27,7 +39,7 @@ fn near_edge(p: Point, ring: &[f64], from: usize, tol: f64) -> usize
     let mut i = from;
     while i < n {
         let b = point_at(ring, next(i, n));
-        if point_on_segment(p, a, b, tol) {
+        if is_on(p, a, b, tol) {
             return i;
         }
         a = b;
@@ -70,11 +82,11 @@ fn edge_along(a: Point, b: Point, ring: &[f64], from: usize, tol: f64) -> usize
 {
     let n = ring.len() / 2;
     let mut c = point_at(ring, from);
-    let mut starts = point_on_segment(c, a, b, tol);
+    let mut starts = is_on(c, a, b, tol);
     let mut i = from;
     while i < n {
         let d = point_at(ring, next(i, n));
-        let ends = point_on_segment(d, a, b, tol);
+        let ends = is_on(d, a, b, tol);
         if aligned(starts, ends, a, b, c, d) {
             return i;
         }

@@ -3,6 +3,7 @@ use crate::Pose;
 use crate::Step;
 use collision::Collision;
 use collision::check_translation_collision;
+use near::is_near;
 use plane::Point;
 use plane::vector::distance;
 use plane::vector::plus;
@@ -46,7 +47,7 @@ fn closes(path: &[f64], at: Point, start: Point, tol: f64) -> bool
     ensures { λ r. ⌜ r ≡ closesOf (now (path .entry)) at start tol ⌝ }
 {
     if path.len() / 2 > 2 {
-        distance(at, start) < tol * 10.0
+        is_near(at, start, tol * 10.0)
     } else {
         false
     }

@@ -44,3 +44,7 @@ module _ (m a : ℕ) (h : Leading m a) where
   one-less (suc q) u d l =
       let e : a * 2 ^ 27 + suc q - 1 ≡ a * 2 ^ 27 + q = omega arith in
       rw e (omega arith)
+
+-- the root of a square ends with its first half
+pub whole-half : (m a : ℕ) → a * a ≡ m → WholeRoot (m * 2 ^ 54) (a * 2 ^ 27)
+whole-half m a e = rw (← e) (omega arith, omega arith)

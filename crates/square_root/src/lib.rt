@@ -43,6 +43,9 @@ fn whole_root(m: u64) -> u64
 {
     let a = guess(m);
     let s = a * a;
+    if s == m {
+        return a * 0x0800_0000; // the root of a square ends with its first half
+    }
     if s <= m {
         if m - s <= 2 * a {
             return lengthened(m, a);

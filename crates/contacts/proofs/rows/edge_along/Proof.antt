@@ -19,11 +19,11 @@ abbrev μ-loop : tie.MeasureT-loop
 point-at-requires : tie.Need-point-at-requires Inv-loop μ-loop
 point-at-requires c κs = search needs
 
-point-on-segment-requires : tie.Need-point-on-segment-requires Inv-loop μ-loop
-point-on-segment-requires c κs = search needs
+is-on-requires : tie.Need-is-on-requires Inv-loop μ-loop
+is-on-requires c κs = search needs
 
 loop-holds : tie.Need-loop-holds Inv-loop μ-loop
-loop-holds c = (begun _ _ _ (omega (arith, c .before .before .before .pre)), λ h. c .before .point-at .ensures, λ h. c .point-on-segment .ensures ∙ (rw (c .before .point-at .ensures) refl))
+loop-holds c = (begun _ _ _ (omega (arith, c .before .before .before .pre)), λ h. c .before .point-at .ensures, λ h. c .is-on .ensures ∙ (rw (c .before .point-at .ensures) refl))
 
 next-requires : tie.Need-next-requires Inv-loop μ-loop
 next-requires c κs = search needs
@@ -31,8 +31,8 @@ next-requires c κs = search needs
 point-at-requires-2 : tie.Need-point-at-requires-2 Inv-loop μ-loop
 point-at-requires-2 c κs = search needs
 
-point-on-segment-requires-2 : tie.Need-point-on-segment-requires-2 Inv-loop μ-loop
-point-on-segment-requires-2 c κs = search needs
+is-on-requires-2 : tie.Need-is-on-requires-2 Inv-loop μ-loop
+is-on-requires-2 c κs = search needs
 
 aligned-requires : tie.Need-aligned-requires Inv-loop μ-loop
 aligned-requires c κs = search needs
@@ -42,7 +42,7 @@ returns c =
     let l = c .before .before .before .before .before .before in
     let t = c .before .before .before .before .before .loop-test .taken in
     let d = c .before .before .before .point-at2 .ensures ∙ ap (pointAt _) (c .before .before .before .before .next .ensures .0) in
-    found _ _ _ (l .loop .inv .0) t (is-along _ _ _ _ _ (l .loop .inv .1 t) d (l .loop .inv .2 t) (c .before .before .point-on-segment2 .ensures) (c .before .aligned .ensures) ∙ c .if1 .taken)
+    found _ _ _ (l .loop .inv .0) t (is-along _ _ _ _ _ (l .loop .inv .1 t) d (l .loop .inv .2 t) (c .before .before .is-on2 .ensures) (c .before .aligned .ensures) ∙ c .if1 .taken)
 
 add-i : tie.Need-add-i Inv-loop μ-loop
 add-i c = omega arith
@@ -55,7 +55,7 @@ loop-again c =
     let l = c .before .before .before .before .before .before in
     let t = c .before .before .before .before .before .loop-test .taken in
     let d = c .before .before .before .point-at2 .ensures ∙ ap (pointAt _) (c .before .before .before .before .next .ensures .0) in
-    (onward _ _ _ (l .loop .inv .0) t (is-along _ _ _ _ _ (l .loop .inv .1 t) d (l .loop .inv .2 t) (c .before .before .point-on-segment2 .ensures) (c .before .aligned .ensures) ∙ c .if1 .left), λ h. next-start _ _ _ d h, λ h. c .before .before .point-on-segment2 .ensures ∙ (rw (next-start _ _ _ d h) refl))
+    (onward _ _ _ (l .loop .inv .0) t (is-along _ _ _ _ _ (l .loop .inv .1 t) d (l .loop .inv .2 t) (c .before .before .is-on2 .ensures) (c .before .aligned .ensures) ∙ c .if1 .left), λ h. next-start _ _ _ d h, λ h. c .before .before .is-on2 .ensures ∙ (rw (next-start _ _ _ d h) refl))
 
 returns-2 : tie.Need-returns-2 Inv-loop μ-loop
 returns-2 c = none-found _ _ _ (c .before .loop .inv .0) (c .loop-test .left)
@@ -67,11 +67,11 @@ edge-along-spec =
     Inv-loop
     μ-loop
     point-at-requires
-    point-on-segment-requires
+    is-on-requires
     loop-holds
     next-requires
     point-at-requires-2
-    point-on-segment-requires-2
+    is-on-requires-2
     aligned-requires
     returns
     add-i

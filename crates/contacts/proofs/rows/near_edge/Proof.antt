@@ -5,7 +5,7 @@ use Prim.Native.Nat.{_-_, _<_}
 use mathlib.Core.Path.{_≡_, ap, _∙_}
 use Rattle.ring.specs.Ring.{pointAt}
 use Rattle.contacts.specs.Rows.{onEdge}
-use Rattle.contacts.proofs.Rowing.{Sought, begun, onward, found, none-found, next-start, is-on}
+use Rattle.contacts.proofs.Rowing.{Sought, begun, onward, found, none-found, next-start, on-edge}
 use Rattle.contacts.proofs.rows.near_edge.Statement.{statement}
 use Rattle.contacts.proofs.rows.near_edge.Tie as tie
 
@@ -27,13 +27,13 @@ next-requires c κs = search needs
 point-at-requires-2 : tie.Need-point-at-requires-2 Inv-loop μ-loop
 point-at-requires-2 c κs = search needs
 
-point-on-segment-requires : tie.Need-point-on-segment-requires Inv-loop μ-loop
-point-on-segment-requires c κs = search needs
+is-on-requires : tie.Need-is-on-requires Inv-loop μ-loop
+is-on-requires c κs = search needs
 
 returns : tie.Need-returns Inv-loop μ-loop
 returns c =
     let l = c .before .before .before .before .before in
-    found _ _ _ (l .loop .inv .0) (c .before .before .before .before .loop-test .taken) (is-on _ _ _ _ (l .loop .inv .1 (c .before .before .before .before .loop-test .taken)) (c .before .before .point-at2 .ensures ∙ ap (pointAt _) (c .before .before .before .next .ensures .0)) (c .before .point-on-segment .ensures) ∙ c .if1 .taken)
+    found _ _ _ (l .loop .inv .0) (c .before .before .before .before .loop-test .taken) (on-edge _ _ _ _ (l .loop .inv .1 (c .before .before .before .before .loop-test .taken)) (c .before .before .point-at2 .ensures ∙ ap (pointAt _) (c .before .before .before .next .ensures .0)) (c .before .is-on .ensures) ∙ c .if1 .taken)
 
 add-i : tie.Need-add-i Inv-loop μ-loop
 add-i c = omega arith
@@ -46,7 +46,7 @@ loop-again c =
     let l = c .before .before .before .before .before in
     let t = c .before .before .before .before .loop-test .taken in
     let b = c .before .before .point-at2 .ensures ∙ ap (pointAt _) (c .before .before .before .next .ensures .0) in
-    (onward _ _ _ (l .loop .inv .0) t (is-on _ _ _ _ (l .loop .inv .1 t) b (c .before .point-on-segment .ensures) ∙ c .if1 .left), λ h. next-start _ _ _ b h)
+    (onward _ _ _ (l .loop .inv .0) t (on-edge _ _ _ _ (l .loop .inv .1 t) b (c .before .is-on .ensures) ∙ c .if1 .left), λ h. next-start _ _ _ b h)
 
 returns-2 : tie.Need-returns-2 Inv-loop μ-loop
 returns-2 c = none-found _ _ _ (c .before .loop .inv .0) (c .loop-test .left)
@@ -61,7 +61,7 @@ near-edge-spec =
     loop-holds
     next-requires
     point-at-requires-2
-    point-on-segment-requires
+    is-on-requires
     returns
     add-i
     loop-less

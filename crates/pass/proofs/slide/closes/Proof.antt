@@ -6,16 +6,16 @@ use Rattle.pass.specs.Slide.{closesOf}
 use Rattle.pass.proofs.slide.closes.Statement.{statement}
 use Rattle.pass.proofs.slide.closes.Tie as tie
 
-distance-requires : tie.Need-distance-requires
-distance-requires c κs = search needs
+is-near-requires : tie.Need-is-near-requires
+is-near-requires c κs = search needs
 
 returns : tie.Need-returns
 unfolding closesOf
-returns c = rw (lt-ltb _ _ (c .before .if1 .taken), c .distance .ensures) refl
+returns c = rw (lt-ltb _ _ (c .before .if1 .taken), c .is-near .ensures) refl
 
 returns-2 : tie.Need-returns-2
 unfolding closesOf
 returns-2 c = rw (le-ltb _ _ (c .if1 .left)) refl
 
 pub closes-spec : {M : Type 1} → statement M
-closes-spec = tie.close (tie.spec distance-requires returns returns-2)
+closes-spec = tie.close (tie.spec is-near-requires returns returns-2)
