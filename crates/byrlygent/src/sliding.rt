@@ -15,7 +15,7 @@ ghost use lib.ListN.{length};
 ghost use Rattle.plane.specs.Vector.{point};
 ghost use Rattle.handed.specs.Handed.{returned, told, toldFound, itself, flag, isFound, xOf, yOf, hitDistance, hitKind, hitStationary, hitOrbiting};
 ghost use Rattle.projection.specs.Calls.{projectCall, distanceCall, nearCall};
-ghost use Rattle.contacts.specs.Calls.{findCall, findWhich, findPoints};
+ghost use Rattle.find_contacts.specs.Calls.{findCall, findWhich, findPoints};
 ghost use Rattle.translation_vectors.specs.Calls.{vectorsCall, vectorsRoom, sourcesRoom, fitCall, fitRoom, fitSources};
 ghost use Rattle.selection.specs.Calls.{selectCall};
 ghost use Rattle.collision.specs.Calls.{collisionCall};
@@ -111,7 +111,7 @@ pub extern "C" fn byr_find_contacts(
     ensures { λ _. ⌜ now (points .exit) ≡ findPoints (now (stationary .entry)) (now (orbiting .entry)) tolerance (now (which .entry)) (now (points .entry)) ⌝ }
 {
     hand_count(
-        contacts::calls::find_contacts(stationary, orbiting, tolerance, which, points),
+        find_contacts::calls::find_contacts(stationary, orbiting, tolerance, which, points),
         count,
     )
 }

@@ -12,7 +12,7 @@ use Rattle.ring.specs.Ring.{count}
 use Rattle.first_best.specs.Best.{over, better}
 use Rattle.pairs.specs.Pairs.{pairCount}
 use Rattle.contacts.specs.Contacts.{contactsFrom}
-use Rattle.contacts.proofs.Counting.{FoundAt}
+use Rattle.contacts.proofs.Following.{FoundAt}
 use Rattle.vectors.specs.Vectors.{Sourced, sourced, numbersOf, vectorOf, vectorsFrom, vectorsOf}
 use Rattle.vectors.specs.Fit.{kept}
 use Rattle.vectors.specs.declared.TranslationVector.{TranslationVector}

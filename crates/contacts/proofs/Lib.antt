@@ -1,10 +1,7 @@
 -- The modules that belong to no one function.
 pub mod ByKind
 pub mod Picks
-pub mod Counting
-pub mod Filling
-pub mod Writing
-pub mod Screened
+pub mod Following
 pub mod Worked
 pub mod Rowing
 pub mod Skipped

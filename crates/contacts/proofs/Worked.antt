@@ -1,21 +1,16 @@
 -- Worked examples, by computation: the contacts of document 01's S and Q where Q starts. Assumes nothing.
 use mathlib.Core.Path.{_≡_, refl}
 use mathlib.Core.List.{List, [], _∷_}
-use lib.Ieee.{Float, add, sub, mul, div, lt, le, eq, neg, ofBits}
+use lib.Ieee.{Float, add, sub, mul, div, lt, neg, ofBits}
 use Rattle.scalar.specs.Float.{float, f0, f1}
 use Rattle.scalar.specs.Scalar.{absOf, clampOf}
 use Rattle.square_root.specs.Root.{sqrtOf}
 use Rattle.plane.specs.Vector.{minusOf, dotOf, crossOf, lengthOf, distanceOf, parallelOf}
 use Rattle.plane.specs.Segment.{clampedFoot, projectOf, alongOf, toSegmentOf, onSegmentOf}
 use Rattle.ring.specs.Ring.{pointAt}
-use Rattle.refusals.specs.Refusals.{refuse}
-use Rattle.refusals.specs.Bounds.{coordinate, every}
-use Rattle.refusals.specs.Screens.{ofTwoPolygons}
-use Rattle.refusals.specs.Answers.{answers, refuses}
 use Rattle.pairs.specs.Pairs.{pairOf}
 use Rattle.contacts.specs.Touching.{edgeEnd, edgesOf, edgesTouch, touchesBy, touching, f2, pointBy, contactPoint}
 use Rattle.contacts.specs.Contacts.{picks, contactsOf, whichOf, pointsOf}
-use Rattle.contacts.specs.Calls.{findRefusal, findCall}
 
 abbrev pub four : Float
 four = float 0x4010_0000_0000_0000
@@ -49,25 +44,3 @@ contacts = rw numbers
 pub points : pointsOf S Q (contactsOf S Q tol) ≡ f2 ∷ f0 ∷ f0 ∷ f0 ∷ f0 ∷ f0 ∷ f0 ∷ f0 ∷ f0 ∷ f0 ∷ f1 ∷ f0 ∷ []
 unfolding pointsOf contactPoint pointBy edgesOf edgeEnd pairOf pointAt add div neg ofBits
 points = rw numbers
-
--- rooms of exactly six entries, and rooms that are one number short
-pub exact : findCall S Q tol 18 12 ≡ answers 6
-unfolding findRefusal ofTwoPolygons every coordinate lt le eq neg ofBits
-exact = rw numbers
-
-pub which-short : findCall S Q tol 17 12 ≡ refuses (refuse 5)
-unfolding findRefusal ofTwoPolygons every coordinate lt le eq neg ofBits
-which-short = rw numbers
-
-pub points-short : findCall S Q tol 18 11 ≡ refuses (refuse 5)
-unfolding findRefusal ofTwoPolygons every coordinate lt le eq neg ofBits
-points-short = rw numbers
-
--- a polygon of two vertices comes before a tolerance of 0, and that before the rooms
-pub two-vertices : findCall (f0 ∷ f0 ∷ four ∷ f0 ∷ []) Q f0 0 0 ≡ refuses (refuse 1)
-unfolding findRefusal ofTwoPolygons
-two-vertices = refl
-
-pub tolerance-0 : findCall S Q f0 0 0 ≡ refuses (refuse 3)
-unfolding findRefusal ofTwoPolygons every coordinate lt neg ofBits
-tolerance-0 = refl

@@ -1,5 +1,4 @@
--- The definitions that the contracts of contacts, and of the vectors over them, cite.
+-- The definitions that the contracts of contacts, and of what stands on them, cite.
 pub mod Touching
 pub mod Rows
 pub mod Contacts
-pub mod Calls

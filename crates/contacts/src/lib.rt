@@ -1,8 +1,5 @@
-// The contacts of a stationary and an orbiting ring, in the order of the pairs' numbers: `find_contacts` of `nfp_sliding.rs`.
-pub mod calls;
+// The contacts of a stationary and an orbiting ring, one after the other, in the order of the pairs' numbers.
 mod rows;
-pub mod screen;
-mod write;
 
 use bounds::Bounds;
 use bounds::bounds_of;
@@ -14,12 +11,11 @@ use rows::scan_edges;
 use rows::scan_vertices;
 ghost use mathlib.Core.Path.{_≡_};
 ghost use Prim.Native.Nat.{_*_, _<_, _≤_};
-ghost use lib.ListN.{length};
 ghost use Rattle.ring.specs.Ring.{count};
 ghost use Rattle.pairs.specs.Pairs.{Sides, Within, pairCount};
-ghost use Rattle.contacts.specs.Touching.{edgeEnd, edgesOf, pointBy, contactPoint};
+ghost use Rattle.contacts.specs.Touching.{edgeEnd, edgesOf};
 ghost use Rattle.contacts.specs.Rows.{Framed};
-ghost use Rattle.contacts.specs.Contacts.{contactsFrom, contactsOf, nextOf};
+ghost use Rattle.contacts.specs.Contacts.{contactsFrom, nextOf};
 
 // The two edges of a pair: a b of the stationary ring, c d of the orbiting one.
 pub struct Edges {
@@ -62,28 +58,6 @@ pub fn edges_of(stationary: &[f64], orbiting: &[f64], pair: Pair) -> Edges
         c: point_at(orbiting, o),
         d: edge_end(orbiting, o),
     }
-}
-
-// The point at which a pair with these edges touches: the vertex, or the middle of the orbiting edge.
-fn point_by(kind: u8, e: Edges) -> Point
-    ensures { λ r. ⌜ r ≡ pointBy kind e ⌝ }
-{
-    match kind {
-        0 => e.c,
-        1 => e.a,
-        _ => Point {
-            x: (e.c.x + e.d.x) / 2.0,
-            y: (e.c.y + e.d.y) / 2.0,
-        },
-    }
-}
-
-// The point at which a pair touches.
-fn contact_point(stationary: &[f64], orbiting: &[f64], pair: Pair) -> Point
-    requires { ⌜ Within (count (now stationary)) (count (now orbiting)) pair ⌝ }
-    ensures { λ r. ⌜ r ≡ contactPoint (now (stationary .entry)) (now (orbiting .entry)) pair ⌝ }
-{
-    point_by(pair.kind, edges_of(stationary, orbiting, pair))
 }
 
 // The first contact of two edges from the pair number `from` on.
@@ -129,7 +103,13 @@ fn next_later(stationary: &[f64], orbiting: &[f64], frames: Frames, tol: f64, fr
 }
 
 // The first contact from the pair number `from` on, with the bounds around both rings at hand.
-pub fn next_within(stationary: &[f64], orbiting: &[f64], frames: Frames, tol: f64, from: usize) -> Next
+pub fn next_within(
+    stationary: &[f64],
+    orbiting: &[f64],
+    frames: Frames,
+    tol: f64,
+    from: usize,
+) -> Next
     requires { ⌜ Sides (count (now stationary)) (count (now orbiting)) ⌝ }
     requires { ⌜ from ≤ pairCount (count (now stationary)) (count (now orbiting)) ⌝ }
     requires { ⌜ Framed frames (now stationary) (now orbiting) ⌝ }
@@ -138,7 +118,14 @@ pub fn next_within(stationary: &[f64], orbiting: &[f64], frames: Frames, tol: f6
     let sn = stationary.len() / 2;
     let m = sn * (orbiting.len() / 2);
     if from < m {
-        let k = scan_vertices(orbiting, stationary, frames.stationary, from / sn, from % sn, tol);
+        let k = scan_vertices(
+            orbiting,
+            stationary,
+            frames.stationary,
+            from / sn,
+            from % sn,
+            tol,
+        );
         if k < m {
             return Next::At(k);
         }
@@ -164,24 +151,11 @@ pub fn next_contact(stationary: &[f64], orbiting: &[f64], tol: f64, from: usize)
     requires { ⌜ from ≤ pairCount (count (now stationary)) (count (now orbiting)) ⌝ }
     ensures { λ r. ⌜ r ≡ nextOf (contactsFrom (now (stationary .entry)) (now (orbiting .entry)) tol from) ⌝ }
 {
-    next_within(stationary, orbiting, frames_of(stationary, orbiting), tol, from)
-}
-
-// How many contacts there are.
-pub fn count_contacts(stationary: &[f64], orbiting: &[f64], tol: f64) -> usize
-    requires { ⌜ Sides (count (now stationary)) (count (now orbiting)) ⌝ }
-    ensures { λ r. ⌜ (r ≡ length (contactsOf (now (stationary .entry)) (now (orbiting .entry)) tol)) × (r ≤ 196608) ⌝ }
-{
-    let frames = frames_of(stationary, orbiting);
-    let mut n = 0;
-    let mut k = 0;
-    loop {
-        match next_within(stationary, orbiting, frames, tol, k) {
-            Next::Nothing => return n,
-            Next::At(j) => {
-                n += 1;
-                k = j + 1;
-            }
-        }
-    }
+    next_within(
+        stationary,
+        orbiting,
+        frames_of(stationary, orbiting),
+        tol,
+        from,
+    )
 }

@@ -98,7 +98,14 @@ fn edge_along(a: Point, b: Point, ring: &[f64], from: usize, tol: f64) -> usize
 }
 
 // The same, with the ring's bounds at hand: an edge apart from them has no edge along it.
-fn edge_along_within(a: Point, b: Point, ring: &[f64], around: Bounds, from: usize, tol: f64) -> usize
+fn edge_along_within(
+    a: Point,
+    b: Point,
+    ring: &[f64],
+    around: Bounds,
+    from: usize,
+    tol: f64,
+) -> usize
     requires { ⌜ from < count (now ring) ⌝ }
     requires { ⌜ Around around (now ring) (count (now ring)) ⌝ }
     ensures { λ r. ⌜ First (alongEdge a b (now (ring .entry)) tol) from (count (now (ring .entry))) r ⌝ }
@@ -111,7 +118,14 @@ fn edge_along_within(a: Point, b: Point, ring: &[f64], around: Bounds, from: usi
 
 // The first pair of a vertex of one list and an edge of a ring, in bounds that are around it, that are near, from the vertex v and the edge e on,
 // or the number of pairs.
-pub fn scan_vertices(points: &[f64], ring: &[f64], around: Bounds, v: usize, e: usize, tol: f64) -> usize
+pub fn scan_vertices(
+    points: &[f64],
+    ring: &[f64],
+    around: Bounds,
+    v: usize,
+    e: usize,
+    tol: f64,
+) -> usize
     requires { ⌜ (v < count (now points)) × (e < count (now ring)) ⌝ }
     requires { ⌜ (count (now points) ≤ 256) × (count (now ring) ≤ 256) ⌝ }
     requires { ⌜ Around around (now ring) (count (now ring)) ⌝ }
@@ -133,7 +147,14 @@ pub fn scan_vertices(points: &[f64], ring: &[f64], around: Bounds, v: usize, e: 
 }
 
 // The same of edges of both that touch.
-pub fn scan_edges(stationary: &[f64], orbiting: &[f64], around: Bounds, s: usize, o: usize, tol: f64) -> usize
+pub fn scan_edges(
+    stationary: &[f64],
+    orbiting: &[f64],
+    around: Bounds,
+    s: usize,
+    o: usize,
+    tol: f64,
+) -> usize
     requires { ⌜ (s < count (now stationary)) × (o < count (now orbiting)) ⌝ }
     requires { ⌜ (count (now stationary) ≤ 256) × (count (now orbiting) ≤ 256) ⌝ }
     requires { ⌜ Around around (now orbiting) (count (now orbiting)) ⌝ }

@@ -9,7 +9,7 @@ use Rattle.plane.specs.Vector.{root}
 use Rattle.refusals.specs.Answers.{answers}
 use Rattle.projection.specs.Calls.{projectCall, distanceCall}
 use Rattle.start_position.specs.Calls.{startCall}
-use Rattle.contacts.specs.Calls.{findCall, findWhich, findPoints}
+use Rattle.find_contacts.specs.Calls.{findCall, findWhich, findPoints}
 use Rattle.collision.specs.Calls.{collisionCall}
 use Rattle.collision.specs.Nearest.{pairIs, pairAt, rayAt}
 use Rattle.collision.specs.declared.Ray.the-variants.{At}

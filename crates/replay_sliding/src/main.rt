@@ -104,7 +104,7 @@ fn on_rooms(
     numbers: &mut [u64],
 ) -> Told {
     match call {
-        0 => told::count(contacts::calls::find_contacts(s, o, x[0], numbers, room)),
+        0 => told::count(find_contacts::calls::find_contacts(s, o, x[0], numbers, room)),
         1 => told::count(translation_vectors::calls::compute_translation_vectors(
             s,
             o,

@@ -11,7 +11,7 @@ use Rattle.ring.specs.Ring.{count}
 use Rattle.ring.specs.Room.{laid}
 use Rattle.pairs.specs.Pairs.{Sides}
 use Rattle.pairs.proofs.Numbers.{most}
-use Rattle.contacts.proofs.Filling.{Filling, begun, put, fits, filled}
+use Rattle.find_contacts.proofs.Filling.{Filling, begun, put, fits, filled}
 use Rattle.vectors.specs.Vectors.{Sourced, sourced, vectorsOf, numbersOf, sourcesOf}
 use Rattle.vectors.specs.Fit.{kept}
 use Rattle.vectors.specs.Places.{Ready, Behind, leftAt, far, front}

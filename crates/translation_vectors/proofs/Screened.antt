@@ -13,8 +13,8 @@ use Rattle.refusals.specs.Screens.{wrongNumber, wrongPosition, wrongInfinite, w
 use Rattle.refusals.specs.declared.Refusal.{Refusal}
 use Rattle.refusals.proofs.Sized.{two-polygons}
 use Rattle.pairs.specs.Pairs.{Sides}
-use Rattle.contacts.specs.Calls.{wrongFit, ofRooms, ofTouching}
-use Rattle.contacts.proofs.Screened.{two-parts, sides}
+use Rattle.find_contacts.specs.Calls.{wrongFit, ofRooms, ofTouching}
+use Rattle.find_contacts.proofs.Screened.{two-parts, sides}
 use Rattle.vectors.specs.Vectors.{Sourced, vectorsOf}
 use Rattle.vectors.specs.Fit.{visitedOf, keeps, kept, fitOf}
 use Rattle.translation_vectors.specs.Calls.{lengthTests, numberTests, fitLengths, fitNumbers, ofFit, vectorsRefusal, fitRefusal}

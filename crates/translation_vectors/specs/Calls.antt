@@ -9,7 +9,7 @@ use Rattle.refusals.specs.Refusals.{firstOf}
 use Rattle.refusals.specs.Screens.{wrongPolygon, wrongList, wrongNumber, wrongPosition, wrongInfinite, wrongTolerance, ofTwoPolygons}
 use Rattle.refusals.specs.Answers.{Outcome, outcome, left}
 use Rattle.refusals.specs.declared.Refusal.{Refusal}
-use Rattle.contacts.specs.Calls.{wrongFit}
+use Rattle.find_contacts.specs.Calls.{wrongFit}
 use Rattle.vectors.specs.Vectors.{vectorsOf, numbersOf, sourcesOf}
 use Rattle.vectors.specs.Fit.{fitOf}
 

@@ -18,7 +18,7 @@ pub fn compute_translation_vectors(
 ) -> Count
     ensures { λ r. ⌜ (count r ≡ vectorsCall (now (stationary .entry)) (now (orbiting .entry)) tolerance (length (now (vectors .entry))) (length (now (sources .entry)))) × (now (vectors .exit) ≡ vectorsRoom (now (stationary .entry)) (now (orbiting .entry)) tolerance (now (vectors .entry)) (now (sources .entry))) × (now (sources .exit) ≡ sourcesRoom (now (stationary .entry)) (now (orbiting .entry)) tolerance (now (vectors .entry)) (now (sources .entry))) ⌝ }
 {
-    let no = contacts::screen::lent(stationary, orbiting, tolerance);
+    let no = find_contacts::screen::lent(stationary, orbiting, tolerance);
     if no.passed() {
         let origin = Point { x: 0.0, y: 0.0 };
         let nowhere = [0.0; 0];

@@ -1,5 +1,5 @@
 // The vectors that lead to no visited position, counted, and written to rooms that the caller lends.
-use contacts::screen::rooms;
+use find_contacts::screen::rooms;
 use plane::Point;
 use refusals::answer::Count;
 use vectors::Place;
@@ -15,7 +15,7 @@ ghost use Rattle.pairs.specs.Pairs.{Sides};
 ghost use Rattle.vectors.specs.Vectors.{numbersOf, sourcesOf};
 ghost use Rattle.refusals.specs.Answers.{count as counted, outcome, left};
 ghost use Rattle.vectors.specs.Fit.{fitOf};
-ghost use Rattle.contacts.specs.Calls.{ofRooms};
+ghost use Rattle.find_contacts.specs.Calls.{ofRooms};
 
 // How many there are.
 pub fn count_vectors(

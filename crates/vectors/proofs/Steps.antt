@@ -11,7 +11,7 @@ use borrow.Author.Tests.{eq-eqb, ne-eqb}
 use Rattle.ring.specs.Ring.{count}
 use Rattle.pairs.specs.Pairs.{pairCount}
 use Rattle.contacts.specs.Contacts.{contactsFrom}
-use Rattle.contacts.proofs.Counting.{FoundAt}
+use Rattle.contacts.proofs.Following.{FoundAt}
 use Rattle.vectors.specs.Vectors.{Sourced, sourced, vectorOf, vectorsFrom}
 use Rattle.vectors.specs.Fit.{kept}
 use Rattle.vectors.specs.Places.{Ready, Behind, leftAt, far, allLeft}

@@ -9,7 +9,7 @@ use Rattle.plane.specs.Vector.{lengthOf, dotOf}
 use Rattle.ring.specs.Ring.{count}
 use Rattle.pairs.specs.Pairs.{pairCount}
 use Rattle.pairs.proofs.Numbers.{most}
-use Rattle.contacts.proofs.Counting.{next-at, next-none}
+use Rattle.contacts.proofs.Following.{next-at, next-none}
 use Rattle.vectors.specs.Fit.{keeps}
 use Rattle.selection.specs.Select.{startOf}
 use Rattle.courses.specs.Courses.{vectorIs}

@@ -1,7 +1,7 @@
 -- `pass::pass_at` meets its contract: `proofs/Cases.antt` has its three cases. Assumes nothing.
 use borrow.Author.Needs.{needs}
 use Rattle.pass.proofs.Cases.{loose, stuck, slides}
-use Rattle.contacts.proofs.Counting.{next-at, next-none}
+use Rattle.contacts.proofs.Following.{next-at, next-none}
 use Rattle.pass.proofs.pass_at.Statement.{statement}
 use Rattle.pass.proofs.pass_at.Tie as tie
 

@@ -2,7 +2,7 @@
 use native.Mathlib.Omega.{arith}
 use borrow.Author.Needs.{needs}
 use Rattle.pairs.proofs.Numbers.{most}
-use Rattle.contacts.proofs.Counting.{FoundAt, next-at, next-none}
+use Rattle.contacts.proofs.Following.{FoundAt, next-at, next-none}
 use Rattle.vectors.proofs.Steps.{first-step, second-step, no-step, second-below}
 use Rattle.vectors.proofs.next_vector.Statement.{statement}
 use Rattle.vectors.proofs.next_vector.Tie as tie

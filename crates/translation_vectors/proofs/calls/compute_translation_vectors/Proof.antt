@@ -1,7 +1,7 @@
 -- `translation_vectors::calls::compute_translation_vectors` meets its contract: the tests, then the answer. Assumes nothing.
 use borrow.Author.Needs.{needs}
 use Rattle.refusals.proofs.Calls.{stops, kept}
-use Rattle.contacts.proofs.Screened.{refuses-first, answers-second, leaves-second, lent-is}
+use Rattle.find_contacts.proofs.Screened.{refuses-first, answers-second, leaves-second, lent-is}
 use Rattle.translation_vectors.proofs.Screened.{all-fit, vectors-row}
 use Rattle.translation_vectors.proofs.calls.compute_translation_vectors.Statement.{statement}
 use Rattle.translation_vectors.proofs.calls.compute_translation_vectors.Tie as tie

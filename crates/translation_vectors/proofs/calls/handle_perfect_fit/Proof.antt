@@ -1,7 +1,7 @@
 -- `translation_vectors::calls::handle_perfect_fit` meets its contract: the tests, then the answer. Assumes nothing.
 use borrow.Author.Needs.{needs}
 use Rattle.refusals.proofs.Calls.{stops, kept}
-use Rattle.contacts.proofs.Screened.{refuses-first, answers-second, leaves-second}
+use Rattle.find_contacts.proofs.Screened.{refuses-first, answers-second, leaves-second}
 use Rattle.translation_vectors.proofs.Screened.{lent-is, fit-row}
 use Rattle.translation_vectors.proofs.calls.handle_perfect_fit.Statement.{statement}
 use Rattle.translation_vectors.proofs.calls.handle_perfect_fit.Tie as tie
