@@ -1,22 +1,16 @@
 -- Along one axis the foot of a point on an edge lies within the edge's bounds. So where these lie beyond the point's by more than so far, the foot does too, or is a NaN. A difference
 -- grows with what is lessened and shrinks with what is taken away, as it is rounded too. Assumes nothing.
-use Prim.Native.Nat.{ℕ, zero, suc, _+_, _*_, _≤_, _<_}
 use native.Mathlib.Omega.{arith}
-use native.Mathlib.Nat.{mul-pos, add-comm, mul-comm}
-use mathlib.Core.Path.{_≡_, refl, sym, ap, _∙_, subst}
+use mathlib.Core.Path.{_≡_, refl, sym, _∙_, subst}
 use mathlib.Core.Logic.{_⊎_, inl, inr}
-use mathlib.Core.Bool.{Bool, true, false, not, _&&_, _||_, cond, true≢false}
-use lib.IntN.{ℤ, pos}
-use lib.Dec.{T, ltb, eqb}
-use lib.Ieee.{Float, nan, inf, fin, binary64, unlike, up, down, fits, round, neg, ofBits, add, sub, mul, lt, le}
-use lib.Ieee.Fits.{up-pos, down-pos, sub-fits, mul-fits}
-use lib.Ieee.Positive.{positive, above-of-le, mul-mono}
+use mathlib.Core.Bool.{true, false, not, true≢false}
+use lib.Dec.{T}
+use lib.Ieee.{Float, nan, inf, fin, binary64, fits, neg, add, sub, lt, le}
 use Rattle.scalar.specs.Float.{f0, f1, _⊕_, _⊖_, _⊗_}
-use Rattle.square_root.proofs.Compare.{number-or-infinite, above-zero, lt-of-infinity, le-of-lt}
-use Rattle.bounds.proofs.Signed.{parts-of-le, le-of-parts, finite-mono, round-plain, Plain, infinite, number}
-use Rattle.bounds.proofs.Ordered.{total, clash, le-trans, lt-le, le-lt, lt-nan, nan-above, no-nan}
-use Rattle.bounds.proofs.Sums.{rises, adds-more}
-use Rattle.bounds.proofs.Foot.{Between, between}
+use Rattle.bounds.proofs.Signed.{parts-of-le, le-of-parts, finite-mono}
+use Rattle.bounds.proofs.Ordered.{total, le-trans, lt-le, le-lt, lt-nan, nan-above, no-nan}
+use Rattle.bounds.proofs.Sums.{adds-more}
+use Rattle.bounds.proofs.Foot.{between}
 
 -- ---- a sum grows with both
 

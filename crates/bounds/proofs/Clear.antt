@@ -1,20 +1,19 @@
 -- A point that lies apart from an edge by their bounds is not near it: along one axis the foot is farther from it than twice the tolerance, the square of that is not above the sum of
 -- both squares, and no root of such a sum is below the tolerance. Assumes nothing.
-use Prim.Native.Nat.{ℕ, suc, _+_, _*_}
+use Prim.Native.Nat.{ℕ, _*_}
 use native.Mathlib.Nat.{add-comm, mul-comm}
 use mathlib.Core.Path.{_≡_, refl, sym, ap, _∙_, subst}
 use mathlib.Core.Logic.{_⊎_, inl, inr}
-use mathlib.Core.Bool.{Bool, true, false, not, _&&_, _||_, cond, true≢false}
-use lib.IntN.{ℤ, pos}
+use mathlib.Core.Bool.{Bool, true, false, _&&_, _||_, cond, true≢false}
 use lib.Dec.{T, ltb}
-use lib.Ieee.{Float, nan, inf, fin, binary64, unlike, up, down, fits, round, neg, ofBits, add, sum, mul, lt, le}
+use lib.Ieee.{Float, nan, inf, fin, binary64, up, down, fits, neg, ofBits, add, sum, mul, lt, le}
 use lib.Ieee.Fits.{sub-fits, mul-fits}
 use lib.Ieee.Positive.{positive, above-of-le, mul-mono}
 use Rattle.scalar.specs.Float.{f0, f1, _⊕_, _⊖_, _⊗_}
 use Rattle.scalar.specs.Scalar.{clampOf}
 use Rattle.square_root.specs.Root.{sqrtOf}
 use Rattle.square_root.proofs.Compare.{number-or-infinite, above-zero, lt-of-infinity, le-of-lt, lt-self}
-use Rattle.plane.specs.Vector.{point, minusOf, plusOf, dotOf, lengthOf, distanceOf}
+use Rattle.plane.specs.Vector.{minusOf, plusOf, dotOf, lengthOf, distanceOf}
 use Rattle.plane.specs.Segment.{clampedFoot, projectOf, alongOf, toSegmentOf, onSegmentOf, f1e-20}
 use Rattle.plane.specs.declared.Point.{Point}
 use Rattle.near.proofs.Below.{no-root}
@@ -23,7 +22,7 @@ use Rattle.bounds.specs.declared.Bounds.{Bounds}
 use Rattle.bounds.proofs.Signed.{round-plain, Plain, infinite, number}
 use Rattle.bounds.proofs.Ordered.{lt-le, lt-nan, not-less}
 use Rattle.bounds.proofs.Sums.{rises}
-use Rattle.bounds.proofs.Beyond.{Far, by-low, by-high, highest}
+use Rattle.bounds.proofs.Beyond.{Far, by-low, by-high}
 
 -- ---- squares
 

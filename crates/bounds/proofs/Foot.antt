@@ -1,18 +1,17 @@
 -- A point of a segment, a + t * w with t from 0 to 1, lies between a and a + w along each axis, as it is rounded too: t * w lies between 0 and w. Assumes nothing.
-use Prim.Native.Nat.{ℕ, zero, suc, _+_, _*_, _≤_, _<_}
+use Prim.Native.Nat.{ℕ, zero, suc, _*_, _≤_}
 use native.Mathlib.Omega.{arith}
 use native.Mathlib.Nat.{zero-lt-suc, mul-pos, mul-le-mul-right}
-use mathlib.Core.Path.{_≡_, refl, sym, ap, _∙_, subst}
+use mathlib.Core.Path.{_≡_, refl, _∙_, subst}
 use mathlib.Core.Logic.{_⊎_, inl, inr}
-use mathlib.Core.Bool.{Bool, true, false, not, Bool·beq, cond, true≢false}
+use mathlib.Core.Bool.{Bool, true, false, cond, true≢false}
 use lib.IntN.{ℤ, pos}
 use lib.Dec.{T, eqb}
 use lib.Ieee.{Float, nan, inf, fin, binary64, unlike, up, down, fits, round, neg, ofBits, add, mul, lt, le}
 use lib.Ieee.Fits.{up-pos, down-pos}
 use lib.Ieee.Scale.{round-same}
-use lib.Ieee.Positive.{den}
 use Rattle.scalar.specs.Float.{f0, f1, _⊕_, _⊗_}
-use Rattle.bounds.proofs.Signed.{plus, less, NotAbove, parts-of-le, Rounds, upward, downward, rounds-mono, round-minus, round-plain, Plain, infinite, number}
+use Rattle.bounds.proofs.Signed.{plus, less, parts-of-le, upward, downward, rounds-mono, round-minus, round-plain, Plain, infinite, number}
 use Rattle.bounds.proofs.Ordered.{not-above, le-trans}
 use Rattle.bounds.proofs.Sums.{own, own-rounds, own-zero, rounded, rises, falls, adds-more}
 

@@ -1,13 +1,13 @@
 -- The order of all values that are no NaN: it is total, and it goes through. Assumes nothing.
-use Prim.Native.Nat.{ℕ, _+_, _*_, _≤_, _<_}
+use Prim.Native.Nat.{ℕ, _+_, _*_, _<_}
 use native.Mathlib.Omega.{arith}
 use native.Mathlib.Nat.{mul-le-mul-right, le-of-mul-le-mul-right}
-use mathlib.Core.Path.{_≡_, refl, sym, _∙_, subst}
+use mathlib.Core.Path.{_≡_, refl, sym, _∙_}
 use mathlib.Core.Logic.{_⊎_, inl, inr}
-use mathlib.Core.Bool.{Bool, true, false, not, true≢false}
+use mathlib.Core.Bool.{Bool, true, false, true≢false}
 use borrow.Author.Tests.{ltb-true, ltb-false}
 use lib.IntN.{ℤ}
-use lib.Dec.{T, ltb, ltb→lt}
+use lib.Dec.{T}
 use lib.Ieee.{Float, nan, inf, fin, up, down, lt, le}
 use lib.Ieee.Fits.{down-pos}
 use lib.Ieee.Positive.{den}

@@ -6,13 +6,13 @@ use native.Mathlib.Nat.{mul-pos, mul-le-mul-right, eq-or-lt-of-le, le-of-eq, eq-
 use mathlib.Core.Path.{_≡_, refl, sym, ap, _∙_, subst}
 use mathlib.Core.Logic.{_⊎_, inl, inr}
 use mathlib.Core.Bool.{Bool, true, false, not, _&&_, _||_, cond}
-use lib.IntN.{ℤ, pos}
+use lib.IntN.{ℤ}
 use lib.Dec.{T, ltb, eqb, eqb→eq, ltb→lt, lt→ltb, nltb→le}
 use lib.Ieee.{Float, nan, inf, fin, Format, binary32, prec, emax, low, binary64, up, down, odd, units, round, sum, add, neg, le}
 use lib.Ieee.Fits.{down-pos, and-l, and-r, and-i, eq→eqb, round-is}
 use lib.Ieee.Order.{round-mono}
 use lib.Ieee.Scale.{round-same}
-use lib.Ieee.Positive.{den, den-pos}
+use lib.Ieee.Positive.{den}
 
 abbrev pub plus : Float → ℕ
 plus nan = 0

@@ -1,18 +1,17 @@
 -- A value is its own rounding, so a sum with what is not below zero is not below the other, and of a square and a square not below either. Assumes nothing.
-use Prim.Native.Nat.{ℕ, zero, suc, _+_, _*_, _^_, _≤_, _<_}
+use Prim.Native.Nat.{ℕ, zero, suc, _+_, _*_}
 use native.Mathlib.Omega.{arith}
-use native.Mathlib.Nat.{zero-lt-suc, mul-pos, le-refl, zero-mul, mul-le-mul-right}
-use mathlib.Core.Path.{_≡_, refl, sym, ap, _∙_, subst}
-use mathlib.Core.Logic.{_⊎_, inl, inr}
+use native.Mathlib.Nat.{zero-lt-suc, mul-pos, le-refl, mul-le-mul-right}
+use mathlib.Core.Path.{_≡_, refl, sym, _∙_, subst}
 use mathlib.Core.Bool.{Bool, true, false}
 use lib.IntN.{ℤ, pos}
 use lib.Dec.{T, lt→ltb}
 use lib.Pow.{pow-pos}
-use lib.Ieee.{Float, nan, inf, fin, binary64, up, down, fits, round, neg, toBits, add, le}
+use lib.Ieee.{Float, fin, binary64, up, down, fits, round, neg, toBits, add, le}
 use lib.Ieee.Fits.{down-pos, neg-fits}
 use lib.Ieee.Order.{le-of-values}
 use lib.Ieee.Scale.{round-same}
-use lib.Ieee.Positive.{positive, num, den, value→cross}
+use lib.Ieee.Positive.{positive, den, value→cross}
 use Rattle.square_root.specs.Nearest.{val}
 use Rattle.square_root.proofs.Above.{value-is, bits-lt}
 use Rattle.near.proofs.Below.{own-round, unit}
@@ -46,9 +45,10 @@ own-plain (suc m) e F =
     let n = val (toBits binary64 x) in
     let has = own-round (toBits binary64 x) (bits-lt x F P) in
     let v = value-is x F P in
-    let same = round-same binary64 false n unit (suc m * up e) (down e) (pow-pos 1074) (down-pos e) (sym (value→cross x n unit v)) in
-    (subst (λ (y : Float). T (le x y)) same (le-of-values x (round binary64 false n unit) n unit n unit (pow-pos 1074) (pow-pos 1074) v has (le-refl (n * unit))),
-    subst (λ (y : Float). T (le y x)) same (le-of-values (round binary64 false n unit) x n unit n unit (pow-pos 1074) (pow-pos 1074) has v (le-refl (n * unit))))
+    let same = round-same binary64 false n unit (suc m * up e) (down e) (pow-pos 1074) (down-pos e) (sym (value→cross x n unit v)) in (
+      subst (λ (y : Float). T (le x y)) same (le-of-values x (round binary64 false n unit) n unit n unit (pow-pos 1074) (pow-pos 1074) v has (le-refl (n * unit))),
+      subst (λ (y : Float). T (le y x)) same (le-of-values (round binary64 false n unit) x n unit n unit (pow-pos 1074) (pow-pos 1074) has v (le-refl (n * unit))),
+    )
 
 pub own : (s : Bool) (m : ℕ) (e : ℤ) → T (fits binary64 (fin s m e)) → Own s m e
 unfolding neg

@@ -1,13 +1,13 @@
 -- Bounds widened by a point hold it, and hold all that they held. Assumes nothing.
-use Prim.Native.Nat.{ℕ, _+_, _<_, _≤_}
+use Prim.Native.Nat.{ℕ, _+_, _<_}
 use native.Mathlib.Omega.{arith}
 use native.Mathlib.Nat.{eq-or-lt-of-le, mod-eq-of-lt}
 use mathlib.Core.Path.{_≡_, refl, sym, ap, _∙_, subst}
-use mathlib.Core.Logic.{_⊎_, inl, inr}
+use mathlib.Core.Logic.{inl, inr}
 use mathlib.Core.Bool.{Bool, true, false, cond, true≢false}
 use mathlib.Core.List.{List}
 use lib.Dec.{T}
-use lib.Ieee.{Float, nan, binary64, fits, lt}
+use lib.Ieee.{Float, binary64, fits, lt}
 use Rattle.square_root.proofs.Compare.{lt-self, le-of-lt}
 use Rattle.plane.specs.Vector.{minusOf, plusOf}
 use Rattle.plane.specs.declared.Point.{Point}
@@ -64,14 +64,18 @@ pub with-point : (q : Bounds) (p : Point) {l r b t : Float}
     → (l ≡ lowerOf (q .left) (p .x)) × T (fits binary64 (p .x)) → r ≡ higherOf (q .right) (p .x)
     → (b ≡ lowerOf (q .low) (p .y)) × T (fits binary64 (p .y)) → t ≡ higherOf (q .high) (p .y) →
     let w : Bounds = record { left = l; right = r; low = b; high = t } in Inside w p × (Within q w × Held p)
-with-point q p e f g h =
-    (record { not-left = rw (e .0) (lower-at (q .left) (p .x)); not-right = rw f (higher-at (q .right) (p .x)); not-below = rw (g .0) (lower-at (q .low) (p .y)); not-above = rw h (higher-at (q .high) (p .y)) },
-    (λ z i. record {
+with-point q p e f g h = (
+  record { not-left = rw (e .0) (lower-at (q .left) (p .x)); not-right = rw f (higher-at (q .right) (p .x)); not-below = rw (g .0) (lower-at (q .low) (p .y)); not-above = rw h (higher-at (q .high) (p .y)) },
+  (
+    λ z i. record {
       not-left = rw (e .0) (lower-keeps (q .left) (p .x) (z .x) (i .not-left));
       not-right = rw f (higher-keeps (q .right) (p .x) (z .x) (i .not-right));
       not-below = rw (g .0) (lower-keeps (q .low) (p .y) (z .y) (i .not-below));
       not-above = rw h (higher-keeps (q .high) (p .y) (z .y) (i .not-above));
-    }, (e .1, g .1)))
+    },
+    (e .1, g .1),
+  ),
+)
 
 -- ---- an edge, and the edges of a ring
 

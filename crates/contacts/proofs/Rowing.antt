@@ -1,11 +1,10 @@
 -- The first number of which a test holds, sought one by one and row by row. The invariant: from `from` on the test fails before i. Assumes nothing.
-use Prim.Native.Nat.{ℕ, zero, suc, _+_, _*_, _-_, _/_, _%_, _≤_, _<_}
+use Prim.Native.Nat.{ℕ, _+_, _*_, _-_, _≤_, _<_}
 use native.Mathlib.Omega.{arith}
-use native.Mathlib.Numerals.{add-one}
-use native.Mathlib.Nat.{eq-or-lt-of-le, mod-eq-of-lt, mul-le-mul, mul-le-mul-right}
+use native.Mathlib.Nat.{eq-or-lt-of-le, mul-le-mul, mul-le-mul-right}
 use native.Mathlib.Decide.{decLe}
 use mathlib.Core.Logic.{inl, inr}
-use mathlib.Core.Path.{_≡_, refl, sym, ap, _∙_}
+use mathlib.Core.Path.{_≡_, refl, _∙_}
 use mathlib.Core.Bool.{Bool, true, false, _&&_}
 use mathlib.Core.List.{List}
 use lib.Ieee.{Float}
@@ -47,10 +46,6 @@ module _ (f : ℕ → Bool) (from n : ℕ) where
           clear = λ k l u. s .clear k l (omega (arith, e));
           hit = λ l. absurd (omega (arith, l));
         }
-
--- the vertex at the end of an edge is the next one's start
-pub next-start : (r : List Float) (i n : ℕ) {b : Point} → b ≡ pointAt r (nextOf i n) → i + 1 < n → b ≡ pointAt r (i + 1)
-next-start r i n e h = e ∙ ap (pointAt r) (mod-eq-of-lt h)
 
 -- one turn of `near_edge` and of `edge_along`
 module _ (r : List Float) (tol : Float) (i : ℕ) where

@@ -1,9 +1,8 @@
 -- A distance of 1.5 or more reaches 1.0. Assumes nothing.
-use Prim.Native.Nat.{ℕ, _+_, _*_, _≤_}
+use Prim.Native.Nat.{_+_, _*_, _≤_}
 use native.Mathlib.Omega.{arith}
 use mathlib.Core.Path.{_≡_, refl, sym, _∙_}
-use mathlib.Core.Bool.{Bool, true, false, cond, true≢false}
-use lib.Dec.{ltb}
+use mathlib.Core.Bool.{true, false, true≢false}
 use lib.Ieee.{Float, nan, inf, fin, binary64, up, down, lt, ofBits}
 use lib.Ieee.Fits.{down-pos}
 use borrow.Author.Tests.{lt-ltb, ltb-false}

@@ -1,13 +1,13 @@
 -- A length is a NaN or not below zero, so a sum of two is not below what the first is not below. Assumes nothing.
 use Prim.Native.Nat.{ℕ, zero, suc, _+_, _-_, _*_, _/_, _^_, compare}
 use native.Mathlib.Omega.{arith}
-use mathlib.Core.Path.{_≡_, refl, sym, _∙_, subst}
+use mathlib.Core.Path.{_≡_, refl, subst}
 use mathlib.Core.Logic.{_⊎_, inl, inr}
 use mathlib.Core.Bool.{Bool, true, false}
 use lib.IntN.{ℤ, pos}
 use lib.Dec.{T}
 use lib.Ieee.{Float, nan, inf, fin, binary64, up, down, size, nearest, fits, add, sum, lt, le}
-use Rattle.scalar.specs.Float.{_⊕_, _⊗_}
+use Rattle.scalar.specs.Float.{_⊕_}
 use Rattle.square_root.specs.Root.{isqrt, rooted, sqrtOf}
 use Rattle.square_root.proofs.Compare.{lt-of-infinity, le-of-infinity}
 use Rattle.plane.specs.Vector.{dotOf, lengthOf}
@@ -15,7 +15,7 @@ use Rattle.plane.specs.declared.Point.{Point}
 use Rattle.bounds.proofs.Signed.{Plain, infinite, number, units-plain, round-plain, le-of-parts}
 use Rattle.bounds.proofs.Ordered.{total, le-trans, lt-nan, not-less, no-nan}
 use Rattle.bounds.proofs.Sums.{rises}
-use Rattle.bounds.proofs.Beyond.{InOrder, sums}
+use Rattle.bounds.proofs.Beyond.{sums}
 use Rattle.bounds.proofs.Clear.{square-plain, plain-nan}
 
 sum-plain : {x y : Float} → Plain x → Plain y → Plain (x ⊕ y)

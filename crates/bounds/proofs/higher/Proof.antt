@@ -1,5 +1,4 @@
 -- `bounds::higher` meets its contract. Assumes nothing.
-use Prim.Native.Nat.{_-_}
 use mathlib.Core.Path.{refl}
 use Rattle.bounds.proofs.higher.Statement.{statement}
 use Rattle.bounds.proofs.higher.Tie as tie

@@ -1,5 +1,4 @@
 -- `bounds::is_apart` meets its contract. Assumes nothing.
-use Prim.Native.Nat.{_-_}
 use mathlib.Core.Path.{refl}
 use borrow.Author.Needs.{needs}
 use Rattle.bounds.proofs.is_apart.Statement.{statement}

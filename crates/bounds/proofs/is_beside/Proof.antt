@@ -1,5 +1,4 @@
 -- `bounds::is_beside` meets its contract: `proofs/Clear.antt` has the laws. Assumes nothing.
-use Prim.Native.Nat.{_-_}
 use borrow.Author.Needs.{needs}
 use Rattle.bounds.proofs.is_beside.Statement.{statement}
 use Rattle.bounds.proofs.is_beside.Tie as tie

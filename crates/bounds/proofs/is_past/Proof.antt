@@ -1,5 +1,4 @@
 -- `bounds::is_past` meets its contract. Assumes nothing.
-use Prim.Native.Nat.{_-_}
 use mathlib.Core.Path.{refl, sym}
 use Rattle.bounds.proofs.is_past.Statement.{statement}
 use Rattle.bounds.proofs.is_past.Tie as tie

@@ -1,5 +1,4 @@
 -- `bounds::is_wide` meets its contract. Assumes nothing.
-use Prim.Native.Nat.{_-_}
 use mathlib.Core.Path.{refl}
 use Rattle.bounds.proofs.is_wide.Statement.{statement}
 use Rattle.bounds.proofs.is_wide.Tie as tie

@@ -1,5 +1,4 @@
 -- `bounds::lower` meets its contract. Assumes nothing.
-use Prim.Native.Nat.{_-_}
 use mathlib.Core.Path.{refl}
 use Rattle.bounds.proofs.lower.Statement.{statement}
 use Rattle.bounds.proofs.lower.Tie as tie

@@ -1,5 +1,4 @@
 -- `bounds::margin` meets its contract. Assumes nothing.
-use Prim.Native.Nat.{_-_}
 use mathlib.Core.Path.{refl, sym}
 use borrow.Author.Needs.{needs}
 use Rattle.bounds.proofs.margin.Statement.{statement}

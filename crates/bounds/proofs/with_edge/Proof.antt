@@ -1,5 +1,4 @@
 -- `bounds::with_edge` meets its contract: `proofs/Widened.antt` has the law. Assumes nothing.
-use Prim.Native.Nat.{_-_}
 use borrow.Author.Needs.{needs}
 use Rattle.bounds.proofs.with_edge.Statement.{statement}
 use Rattle.bounds.proofs.with_edge.Tie as tie

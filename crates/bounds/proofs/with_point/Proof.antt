@@ -1,5 +1,4 @@
 -- `bounds::with_point` meets its contract: `proofs/Widened.antt` has the laws. Assumes nothing.
-use Prim.Native.Nat.{_-_}
 use borrow.Author.Needs.{needs}
 use Rattle.bounds.proofs.with_point.Statement.{statement}
 use Rattle.bounds.proofs.with_point.Tie as tie

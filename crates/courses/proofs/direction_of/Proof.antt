@@ -1,5 +1,4 @@
 -- `courses::direction_of` meets its contract. Assumes nothing.
-use Prim.Native.Nat.{_-_}
 use mathlib.Core.Path.{refl}
 use borrow.Author.Needs.{needs}
 use Rattle.courses.proofs.direction_of.Statement.{statement}

@@ -1,5 +1,4 @@
 -- `courses::is_below` meets its contract: a sum is not below what its first part is not below. Assumes nothing.
-use Prim.Native.Nat.{_-_}
 use mathlib.Core.Path.{refl, sym, _∙_}
 use borrow.Author.Needs.{needs}
 use Rattle.courses.proofs.is_below.Statement.{statement}

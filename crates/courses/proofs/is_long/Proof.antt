@@ -1,5 +1,4 @@
 -- `courses::is_long` meets its contract: a square above that of 1.5 has no root below it. Assumes nothing.
-use Prim.Native.Nat.{_-_}
 use borrow.Author.Needs.{needs}
 use Rattle.courses.proofs.is_long.Statement.{statement}
 use Rattle.courses.proofs.is_long.Tie as tie

@@ -1,5 +1,4 @@
 -- `courses::over_both` meets its contract. Assumes nothing.
-use Prim.Native.Nat.{_-_}
 use mathlib.Core.Path.{refl}
 use borrow.Author.Needs.{needs}
 use Rattle.courses.proofs.over_both.Statement.{statement}

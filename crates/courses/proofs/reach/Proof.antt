@@ -1,5 +1,4 @@
 -- `courses::reach` meets its contract: what is 1.5 or longer reaches 1.0. Assumes nothing.
-use Prim.Native.Nat.{_-_}
 use mathlib.Core.Path.{refl, sym}
 use borrow.Author.Needs.{needs}
 use Rattle.courses.proofs.reach.Statement.{statement}

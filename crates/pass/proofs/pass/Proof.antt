@@ -1,5 +1,4 @@
 -- `pass::pass` meets its contract: the front of the array is the moved polygon. Assumes nothing.
-use Prim.Native.Nat.{_-_}
 use mathlib.Core.Path.{refl, sym, _∙_}
 use native.Mathlib.Omega.{arith}
 use borrow.Author.Needs.{needs}

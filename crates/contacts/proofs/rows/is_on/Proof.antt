@@ -1,5 +1,4 @@
 -- `contacts::rows::is_on` meets its contract. Assumes nothing.
-use Prim.Native.Nat.{_-_}
 use mathlib.Core.Path.{sym}
 use borrow.Author.Needs.{needs}
 use Rattle.contacts.proofs.rows.is_on.Statement.{statement}

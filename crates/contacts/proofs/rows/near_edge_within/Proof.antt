@@ -1,5 +1,4 @@
 -- `contacts::rows::near_edge_within` meets its contract: `proofs/Skipped.antt` has the row passed over. Assumes nothing.
-use Prim.Native.Nat.{_-_}
 use borrow.Author.Needs.{needs}
 use Rattle.contacts.proofs.rows.near_edge_within.Statement.{statement}
 use Rattle.contacts.proofs.rows.near_edge_within.Tie as tie
