@@ -125,23 +125,9 @@ pub fn pass(
     requires { ⌜ Sides (count (now stationary)) (count (now orbiting)) ⌝ }
     ensures { λ r. ⌜ r ≡ passOf (scene (now (stationary .entry)) (now (orbiting .entry)) settings centroid start) (now (path .entry)) pose ⌝ }
 {
-    let len = orbiting.len();
-    if len <= 32 {
-        let mut few = [0.0; 32]; // which takes less time to set up
-        move_ring(orbiting, pose.position, &mut few);
-        return pass_at(
-            stationary,
-            orbiting,
-            &few[..len],
-            settings,
-            centroid,
-            start,
-            path,
-            pose,
-        );
-    }
     let mut room = [0.0; 512];
     move_ring(orbiting, pose.position, &mut room);
+    let len = orbiting.len();
     pass_at(
         stationary,
         orbiting,
