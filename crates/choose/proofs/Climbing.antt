@@ -21,9 +21,12 @@ use Rattle.selection.specs.Score.{scoreOf}
 use Rattle.selection.specs.Select.{vectorAt, scoreAt, scoredAt, above, startOf, selectOf}
 use Rattle.selection.specs.declared.Previous.{Previous}
 use Rattle.selection.specs.declared.Scored.{Scored}
-use Rattle.choose.specs.Choose.{vectorNo, choiceOf, Standing, stands, standing, unset, raised, weighOf, climbOf}
+use Rattle.choose.specs.Choose.{vectorNo, choiceOf, Standing, stands, standing, unset, raised, weighOf, raisedBy, weighedBy, takenBy, climbOf}
 use Rattle.courses.specs.Courses.{vectorIs}
 use Rattle.choose.specs.declared.Best.{Best}
+use Rattle.choose.specs.declared.Weighed.{Weighed}
+use Rattle.choose.specs.declared.Weighed.the-variants.{Passed, Raised}
+use Rattle.courses.specs.declared.Course.{Course}
 use Rattle.choose.specs.declared.Choice.{Choice}
 use Rattle.choose.specs.declared.Choice.the-variants.{Nothing, Vector}
 
@@ -145,6 +148,34 @@ module _ (keep : TranslationVector → Bool) (previous : Previous) (ccw : Point)
           → climbOf previous ccw b (kept keep (s ∷ rest)) ≡ climbOf previous ccw (weighOf keep previous ccw b (s .slide)) (kept keep rest)
       by true t = rw t refl
       by false t = rw t refl
+
+-- both steps of weighing
+taken-is : (keep : TranslationVector → Bool) (previous : Previous) (ccw : Point) (b : Standing) (v : TranslationVector)
+    → takenBy (weighedBy keep previous ccw (b .found) (b .score) v) b v ≡ weighOf keep previous ccw b v
+unfolding takenBy weighedBy raisedBy weighOf raised
+taken-is keep previous ccw b v = by (keep v) (lt (b .score) (scoreOf v previous ccw)) (b .found)
+  where
+    s : Float
+    s = scoreOf v previous ccw
+
+    by : (k t f : Bool) → takenBy (cond k (cond t (Raised s) (cond f Passed (Raised (b .score)))) Passed) b v ≡ cond k (cond t (stands true s v) (cond f b (stands true (b .score) v))) b
+    by false t f = refl
+    by true true f = refl
+    by true false true = refl
+    by true false false = refl
+
+module _ (keep : TranslationVector → Bool) (previous : Previous) (ccw : Point) where
+  one-side : (b r : Best) (c : Course) {w : Weighed} {v : TranslationVector}
+      → w ≡ weighedBy keep previous ccw (b .found) (b .score) (vectorIs c) → standing r ≡ takenBy w (standing b) (vectorIs c) → vectorIs c ≡ v
+      → standing r ≡ weighOf keep previous ccw (standing b) v
+  one-side b r c h k e = k ∙ (rw (h, ← e) (taken-is keep previous ccw (standing b) (vectorIs c)))
+
+  pub both-sides : (b f r : Best) (c d : Course) {w x : Weighed} {v u : TranslationVector}
+      → w ≡ weighedBy keep previous ccw (b .found) (b .score) (vectorIs c) → standing f ≡ takenBy w (standing b) (vectorIs c) → vectorIs c ≡ v
+      → x ≡ weighedBy keep previous ccw (f .found) (f .score) (vectorIs d) → standing r ≡ takenBy x (standing f) (vectorIs d) → vectorIs d ≡ u
+      → standing r ≡ weighOf keep previous ccw (weighOf keep previous ccw (standing b) v) u
+  both-sides b f r c d {u = u} h k e h' k' e' =
+      one-side f r d h' k' e' ∙ ap (λ (z : Standing). weighOf keep previous ccw z u) (one-side b f c h k e)
 
 -- the loop of `climb`: from where it is on, the vectors left give what all of them give from nothing
 module _ (st orb : List Float) (tol : Float) (keep : TranslationVector → Bool) (previous : Previous) (ccw : Point) where

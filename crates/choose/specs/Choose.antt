@@ -15,6 +15,8 @@ use Rattle.selection.specs.declared.Previous.{Previous}
 use Rattle.choose.specs.declared.Choice.{Choice}
 use Rattle.choose.specs.declared.Choice.the-variants.{Nothing, Vector}
 use Rattle.choose.specs.declared.Best.{Best}
+use Rattle.choose.specs.declared.Weighed.{Weighed}
+use Rattle.choose.specs.declared.Weighed.the-variants.{Passed, Raised}
 
 -- vector i of a list, where it has one
 unfoldable pub vectorNo : List Sourced → ℕ → Choice
@@ -51,6 +53,17 @@ raised previous ccw b v =
 -- the same of a vector of which a test holds
 unfoldable pub weighOf : (TranslationVector → Bool) → Previous → Point → Standing → TranslationVector → Standing
 weighOf keep previous ccw b v = cond (keep v) (raised previous ccw b v) b
+
+-- the same in two steps: what a vector makes of the best, by whether one is found and its score, and what the best is then
+unfoldable pub raisedBy : Bool → Float → Float → Weighed
+raisedBy found top s = cond (lt top s) (Raised s) (cond found Passed (Raised top))
+
+unfoldable pub weighedBy : (TranslationVector → Bool) → Previous → Point → Bool → Float → TranslationVector → Weighed
+weighedBy keep previous ccw found top v = cond (keep v) (raisedBy found top (scoreOf v previous ccw)) Passed
+
+unfoldable pub takenBy : Weighed → Standing → TranslationVector → Standing
+takenBy Passed b v = b
+takenBy (Raised s) b v = stands true s v
 
 -- the best so far, and the vectors of a list
 unfoldable pub climbOf : Previous → Point → Standing → List Sourced → Standing

@@ -27,7 +27,7 @@ ghost use Rattle.vectors.specs.Vectors.{vectorBy, vectorOf};
 ghost use Rattle.vectors.specs.Fit.{keeps, fitOf};
 ghost use Rattle.selection.specs.Score.{scoreOf};
 ghost use Rattle.courses.specs.Courses.{vectorIs};
-ghost use Rattle.choose.specs.Choose.{standing, raised, weighOf, unset, climbOf, choiceOf};
+ghost use Rattle.choose.specs.Choose.{standing, raisedBy, weighedBy, takenBy, weighOf, unset, climbOf, choiceOf};
 
 // A vector, or nothing.
 pub enum Choice {
@@ -40,6 +40,12 @@ pub struct Best {
     pub found: bool,
     pub score: f64,
     pub course: Course,
+}
+
+// What a vector makes of the best so far: nothing, or it is the best, with this score.
+pub enum Weighed {
+    Passed,
+    Raised(f64),
 }
 
 // Whether a vector leads to no visited position.
@@ -64,45 +70,51 @@ fn score(course: Course, previous: Previous, ccw: Point) -> f64
     if is_below(course, 1e-6) { s - 100.0 } else { s }
 }
 
-// Of the best so far and a new vector: only a strictly greater score replaces, but the first is always taken.
-fn raise(best: Best, course: Course, previous: Previous, ccw: Point) -> Best
-    ensures { λ r. ⌜ standing r ≡ raised previous ccw (standing best) (vectorIs course) ⌝ }
+// What a vector of score s makes of the best so far, whose score is `top`: only a strictly greater score replaces, but the first is always taken.
+fn raise(found: bool, top: f64, s: f64) -> Weighed
+    ensures { λ r. ⌜ r ≡ raisedBy found top s ⌝ }
 {
-    let s = score(course, previous, ccw);
-    if s > best.score {
-        return Best {
-            found: true,
-            score: s,
-            course,
-        };
+    if s > top {
+        return Weighed::Raised(s);
     }
-    if best.found {
-        best
+    if found {
+        Weighed::Passed
     } else {
-        Best {
-            found: true,
-            score: best.score,
-            course,
-        }
+        Weighed::Raised(top)
     }
 }
 
 // The same, where the vector leads to no visited position.
 fn weigh(
-    best: Best,
+    found: bool,
+    top: f64,
     course: Course,
     from: Point,
     visited: &[f64],
     tol: f64,
     previous: Previous,
     ccw: Point,
-) -> Best
-    ensures { λ r. ⌜ standing r ≡ weighOf (keeps from (now (visited .entry)) tol) previous ccw (standing best) (vectorIs course) ⌝ }
+) -> Weighed
+    ensures { λ r. ⌜ r ≡ weighedBy (keeps from (now (visited .entry)) tol) previous ccw found top (vectorIs course) ⌝ }
 {
     if is_kept(course, from, visited, tol) {
-        raise(best, course, previous, ccw)
+        raise(found, top, score(course, previous, ccw))
     } else {
-        best
+        Weighed::Passed
+    }
+}
+
+// The best, after a vector was weighed.
+fn taken(best: Best, course: Course, weighed: Weighed) -> Best
+    ensures { λ r. ⌜ standing r ≡ takenBy weighed (standing best) (vectorIs course) ⌝ }
+{
+    match weighed {
+        Weighed::Passed => best,
+        Weighed::Raised(score) => Best {
+            found: true,
+            score,
+            course,
+        },
     }
 }
 
@@ -121,9 +133,11 @@ fn weigh_both(
 {
     let along = along_by(kind, e);
     let one = course_by(kind, e, along, 0);
-    let first = weigh(best, one, from, visited, tol, previous, ccw);
+    let w1 = weigh(best.found, best.score, one, from, visited, tol, previous, ccw);
+    let first = taken(best, one, w1);
     let two = course_by(kind, e, along, 1);
-    weigh(first, two, from, visited, tol, previous, ccw)
+    let w2 = weigh(first.found, first.score, two, from, visited, tol, previous, ccw);
+    taken(first, two, w2)
 }
 
 // Both vectors of the contact with the pair number k.

@@ -2,6 +2,7 @@
 use borrow.Author.Needs.{needs}
 use Rattle.choose.proofs.weigh_both.Statement.{statement}
 use Rattle.choose.proofs.weigh_both.Tie as tie
+use Rattle.choose.proofs.Climbing.{both-sides}
 
 along-by-requires : tie.Need-along-by-requires
 along-by-requires c κs = search needs
@@ -12,16 +13,24 @@ course-by-requires c κs = c .along-by .ensures
 weigh-requires : tie.Need-weigh-requires
 weigh-requires c κs = search needs
 
+taken-requires : tie.Need-taken-requires
+taken-requires c κs = search needs
+
 course-by-requires-2 : tie.Need-course-by-requires-2
-course-by-requires-2 c κs = c .before .before .along-by .ensures
+course-by-requires-2 c κs = c .before .before .before .along-by .ensures
 
 weigh-requires-2 : tie.Need-weigh-requires-2
 weigh-requires-2 c κs = search needs
 
+taken-requires-2 : tie.Need-taken-requires-2
+taken-requires-2 c κs = search needs
+
 returns : tie.Need-returns
 returns c =
-    let w = c .before .before in
-    rw (← c .before .course-by2 .ensures, ← w .before .course-by .ensures, ← w .weigh .ensures) (c .weigh2 .ensures)
+    let w2 = c .before in
+    let t1 = w2 .before .before in
+    let w1 = t1 .before in
+    both-sides _ _ _ _ _ _ _ _ (w1 .weigh .ensures) (t1 .taken .ensures) (w1 .before .course-by .ensures) (w2 .weigh2 .ensures) (c .taken2 .ensures) (w2 .before .course-by2 .ensures)
 
 pub weigh-both-spec : {M : Type 1} → statement M
 weigh-both-spec =
@@ -30,6 +39,8 @@ weigh-both-spec =
     along-by-requires
     course-by-requires
     weigh-requires
+    taken-requires
     course-by-requires-2
     weigh-requires-2
+    taken-requires-2
     returns)
