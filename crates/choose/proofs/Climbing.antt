@@ -149,6 +149,26 @@ module _ (keep : TranslationVector → Bool) (previous : Previous) (ccw : Point)
       by true t = rw t refl
       by false t = rw t refl
 
+-- what a vector makes of the best: nothing where its score does not raise it, visited or not
+module _ (keep : TranslationVector → Bool) (previous : Previous) (ccw : Point) (found : Bool) (top : Float) (v : TranslationVector) {s : Float} {w : Weighed}
+    (e : s ≡ scoreOf v previous ccw) (h : w ≡ raisedBy found top s) where
+  pub not-raised : w ≡ Passed → Passed ≡ weighedBy keep previous ccw found top v
+  unfolding weighedBy
+  not-raised k = rw (← e, ← h, k) (by (keep v))
+    where
+      by : (b : Bool) → Passed ≡ cond b Passed Passed
+      by true = refl
+      by false = refl
+
+  pub raised-kept : {t : Float} → w ≡ Raised t → keep v ≡ true → Raised t ≡ weighedBy keep previous ccw found top v
+  unfolding weighedBy
+  raised-kept k l = rw (l, ← e, ← h, k) refl
+
+pub visited-passed : (keep : TranslationVector → Bool) (previous : Previous) (ccw : Point) (found : Bool) (top : Float) (v : TranslationVector)
+    → keep v ≡ false → Passed ≡ weighedBy keep previous ccw found top v
+unfolding weighedBy
+visited-passed keep previous ccw found top v l = rw l refl
+
 -- both steps of weighing
 taken-is : (keep : TranslationVector → Bool) (previous : Previous) (ccw : Point) (b : Standing) (v : TranslationVector)
     → takenBy (weighedBy keep previous ccw (b .found) (b .score) v) b v ≡ weighOf keep previous ccw b v

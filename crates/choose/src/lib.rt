@@ -84,7 +84,7 @@ fn raise(found: bool, top: f64, s: f64) -> Weighed
     }
 }
 
-// The same, where the vector leads to no visited position.
+// The same, where the vector leads to no visited position. The path is gone through only for a vector that would be the best.
 fn weigh(
     found: bool,
     top: f64,
@@ -97,10 +97,15 @@ fn weigh(
 ) -> Weighed
     ensures { λ r. ⌜ r ≡ weighedBy (keeps from (now (visited .entry)) tol) previous ccw found top (vectorIs course) ⌝ }
 {
-    if is_kept(course, from, visited, tol) {
-        raise(found, top, score(course, previous, ccw))
-    } else {
-        Weighed::Passed
+    match raise(found, top, score(course, previous, ccw)) {
+        Weighed::Passed => Weighed::Passed,
+        Weighed::Raised(s) => {
+            if is_kept(course, from, visited, tol) {
+                Weighed::Raised(s)
+            } else {
+                Weighed::Passed
+            }
+        }
     }
 }
 
@@ -133,10 +138,28 @@ fn weigh_both(
 {
     let along = along_by(kind, e);
     let one = course_by(kind, e, along, 0);
-    let w1 = weigh(best.found, best.score, one, from, visited, tol, previous, ccw);
+    let w1 = weigh(
+        best.found,
+        best.score,
+        one,
+        from,
+        visited,
+        tol,
+        previous,
+        ccw,
+    );
     let first = taken(best, one, w1);
     let two = course_by(kind, e, along, 1);
-    let w2 = weigh(first.found, first.score, two, from, visited, tol, previous, ccw);
+    let w2 = weigh(
+        first.found,
+        first.score,
+        two,
+        from,
+        visited,
+        tol,
+        previous,
+        ccw,
+    );
     taken(first, two, w2)
 }
 
