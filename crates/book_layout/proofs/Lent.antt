@@ -23,7 +23,7 @@ use Rattle.book_layout.specs.Writer.{ringsFrom, sizedAll, lengthsOk, boo
 use Rattle.book_layout.specs.Reader.{numbersOf}
 use Rattle.book_layout.proofs.Each.{each-take, each-drop}
 use Rattle.book_layout.proofs.Passing.{both, and-both, within-true, is-within}
-use Rattle.refusals.proofs.Sized.{held-last}
+use Rattle.refusals.proofs.Sized.{holds}
 use Rattle.book_layout.proofs.Found.{Byte, corners, coords-hold, length-coordsIn, length-countsIn}
 use Rattle.book_layout.proofs.Exact.{checked, listing}
 
@@ -43,11 +43,11 @@ module _ (xs : List Float) (ns : List ℕ) (size : ℕ) where
   pub takes : writeRefusal xs ns size passes → Held xs ns × (bookSize ns ≤ size)
   unfolding writeRefusal
   takes h =
-      let p = both (unless (lengthsOk xs ns) 1) (first (unless (coordinates xs) 2) (unless (leb (bookSize ns) size) 4)) h in
-      let q = both (unless (coordinates xs) 2) (unless (leb (bookSize ns) size) 4) (p .1) in
-      let l = lengths-held xs ns (held-last (lengthsOk xs ns) 1 refl (p .0)) in (
-        record { one = l .0; few = l .1; sized = l .2; whole = l .3; bounded = held-last (coordinates xs) 2 refl (q .0) },
-        leb-true (bookSize ns) size (held-last (leb (bookSize ns) size) 4 refl (q .1)),
+      let p = both (unless (lengthsOk xs ns) 1 0) (first (unless (coordinates xs) 2 0) (unless (leb (bookSize ns) size) 4 0)) h in
+      let q = both (unless (coordinates xs) 2 0) (unless (leb (bookSize ns) size) 4 0) (p .1) in
+      let l = lengths-held xs ns (holds (lengthsOk xs ns) 1 0 refl (p .0)) in (
+        record { one = l .0; few = l .1; sized = l .2; whole = l .3; bounded = holds (coordinates xs) 2 0 refl (q .0) },
+        leb-true (bookSize ns) size (holds (leb (bookSize ns) size) 4 0 refl (q .1)),
       )
 
   pub taken : Held xs ns → bookSize ns ≤ size → writeRefusal xs ns size passes

@@ -38,7 +38,7 @@ same-bytes xs ys ns ms s t f g h k =
 pub again : (f : List ℕ) (room counts : ℕ) → Each Byte f → readRefusal f room counts passes → Writes (numbersOf f) (countsOf f) f
 unfolding readRefusal
 again f room counts bytes h =
-    let ok = both (bookCheck f) (unless (holdsAll f room counts) 4) h .0 in
+    let ok = both (bookCheck f) (unless (holdsAll f room counts) 4 0) h .0 in
     record {
       formed = formed (coordsOf f);
       taken = taken (numbersOf f) (countsOf f) (length f) (read-held f bytes ok) (omega (arith, read-size f bytes ok));

@@ -103,27 +103,27 @@ pub written : writeRefusal lent (3 ∷ []) 64 ≡ none
 unfolding writeRefusal lengthsOk sizedAll total every coordinate
 written = refl
 
-pub small-room : writeRefusal lent (3 ∷ []) 63 ≡ refuse 4
+pub small-room : writeRefusal lent (3 ∷ []) 63 ≡ refuse 4 0
 unfolding writeRefusal lengthsOk sizedAll total every coordinate
 small-room = refl
 
-pub number-before-room : writeRefusal huge (3 ∷ []) 63 ≡ refuse 2
+pub number-before-room : writeRefusal huge (3 ∷ []) 63 ≡ refuse 2 0
 unfolding writeRefusal lengthsOk sizedAll total every coordinate
 number-before-room = refl
 
-pub length-before-number : writeRefusal huge (4 ∷ []) 63 ≡ refuse 1
+pub length-before-number : writeRefusal huge (4 ∷ []) 63 ≡ refuse 1 0
 unfolding writeRefusal lengthsOk sizedAll total every coordinate
 length-before-number = refl
 
-pub odd-list : writeRefusal (zero ∷ lent) (3 ∷ []) 64 ≡ refuse 1
+pub odd-list : writeRefusal (zero ∷ lent) (3 ∷ []) 64 ≡ refuse 1 0
 unfolding writeRefusal lengthsOk sizedAll total every coordinate
 odd-list = refl
 
-pub no-counts : writeRefusal [] [] 64 ≡ refuse 1
+pub no-counts : writeRefusal [] [] 64 ≡ refuse 1 0
 unfolding writeRefusal lengthsOk sizedAll total every coordinate
 no-counts = refl
 
-pub pair : writeRefusal (take 4 lent) (2 ∷ []) 64 ≡ refuse 1
+pub pair : writeRefusal (take 4 lent) (2 ∷ []) 64 ≡ refuse 1 0
 unfolding writeRefusal lengthsOk sizedAll total every coordinate
 pair = refl
 
@@ -133,11 +133,11 @@ pub accepted : readRefusal book 6 1 ≡ none
 unfolding readRefusal coordsOf bookCheck entriesCheck coordsCheck leastCheck coordinateBits coordinate ofBits numberOf coordsIn countsIn countsOf ringCount entryOffset total bestOf best less ord
 accepted = refl
 
-pub small-numbers : readRefusal book 5 1 ≡ refuse 4
+pub small-numbers : readRefusal book 5 1 ≡ refuse 4 0
 unfolding readRefusal coordsOf bookCheck entriesCheck coordsCheck leastCheck coordinateBits coordinate ofBits numberOf coordsIn countsIn countsOf ringCount entryOffset total bestOf best less ord
 small-numbers = refl
 
-pub small-counts : readRefusal book 6 0 ≡ refuse 4
+pub small-counts : readRefusal book 6 0 ≡ refuse 4 0
 unfolding readRefusal coordsOf bookCheck entriesCheck coordsCheck leastCheck coordinateBits coordinate ofBits numberOf coordsIn countsIn countsOf ringCount entryOffset total bestOf best less ord
 small-counts = refl
 

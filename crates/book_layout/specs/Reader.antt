@@ -22,7 +22,7 @@ holdsAll f room counts = leb (length (numbersOf f)) room && leb (length (countsO
 
 -- the first of the tests that fails: 7 before 4
 unfoldable pub readRefusal : List ℕ → ℕ → ℕ → Refusal
-readRefusal f room counts = firstOf (bookCheck f ∷ unless (holdsAll f room counts) 4 ∷ [])
+readRefusal f room counts = firstOf (bookCheck f ∷ unless (holdsAll f room counts) 4 0 ∷ [])
 
 -- what the call answers, and the two rooms as it leaves them
 abbrev pub readCall : List ℕ → ℕ → ℕ → Outcome ℕ

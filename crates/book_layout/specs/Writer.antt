@@ -35,7 +35,7 @@ lengthsOk xs ns = eqb (length xs % 2) 0 && (within 1 8 (length ns) && (sizedAll 
 
 -- the first of the tests that fails, for a room of so many bytes
 unfoldable pub writeRefusal : List Float → List ℕ → ℕ → Refusal
-writeRefusal xs ns size = firstOf (unless (lengthsOk xs ns) 1 ∷ unless (coordinates xs) 2 ∷ unless (leb (bookSize ns) size) 4 ∷ [])
+writeRefusal xs ns size = firstOf (unless (lengthsOk xs ns) 1 0 ∷ unless (coordinates xs) 2 0 ∷ unless (leb (bookSize ns) size) 4 0 ∷ [])
 
 -- what the call answers, and the room as it leaves it
 abbrev pub writeCall : List Float → List ℕ → ℕ → Outcome ℕ

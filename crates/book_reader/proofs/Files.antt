@@ -9,7 +9,7 @@ use lib.Dec.{leb, eqb}
 use lib.Ieee.{Float}
 use borrow.Author.Tests.{le-leb, lt-leb, leb-true, eqb-true}
 use Rattle.refusals.specs.Refusals.{none, refuse, passed, unless, first}
-use Rattle.refusals.specs.Answers.{count}
+use Rattle.refusals.specs.Answers.{counted}
 use Rattle.refusals.specs.declared.Refusal.{Refusal}
 use Rattle.refusals.specs.declared.answer.Count.{Count}
 use Rattle.refusals.proofs.First.{first-assoc}
@@ -17,7 +17,7 @@ use Rattle.book_layout.specs.Layout.{within, total, ringCount, entryOffset, cou
 use Rattle.book_layout.specs.Faults.{faultAt, fault, _passes, entriesCheck, coordsCheck, leastCheck, bookCheck}
 use Rattle.book_layout.specs.Reader.{numbersOf, holdsAll, readRefusal, readCall, readRoom, readCounts}
 use Rattle.book_layout.proofs.Passing.{both, held, and-both, is-within}
-use Rattle.refusals.proofs.Sized.{held-last}
+use Rattle.refusals.proofs.Sized.{holds}
 use Rattle.book_layout.proofs.Lent.{length-numbers, length-counts}
 use Rattle.refusals.proofs.Calls.{unique, count-only}
 use Rattle.book_reader.specs.Parts.{tailCheck, listCheck}
@@ -103,29 +103,29 @@ module _ (f : List ℕ) (room counts : ℕ) where
   at-fault h = rw h
 
   module _ (ok : bookCheck f passes) where
-    pub small-room : room < entryOffset f / 8 → refuse 4 ≡ readRefusal f room counts
+    pub small-room : room < entryOffset f / 8 → refuse 4 0 ≡ readRefusal f room counts
     unfolding readRefusal
     small-room h = rw (ok, lt-leb (length (numbersOf f)) room (omega (arith, length-numbers f)))
 
-    pub large-room : entryOffset f / 8 ≤ room → unless (leb (ringCount f) counts) 4 ≡ readRefusal f room counts
+    pub large-room : entryOffset f / 8 ≤ room → unless (leb (ringCount f) counts) 4 0 ≡ readRefusal f room counts
     unfolding readRefusal
     large-room h = rw (ok, le-leb (length (numbersOf f)) room (omega (arith, length-numbers f)), length-counts f)
 
   pub reads : readRefusal f room counts passes → (bookCheck f passes) × (length (numbersOf f) ≤ room) × (length (countsOf f) ≤ counts)
   unfolding readRefusal
   reads h =
-      let p = both (bookCheck f) (unless (holdsAll f room counts) 4) h in
-      let q = and-both (leb (length (numbersOf f)) room) (leb (length (countsOf f)) counts) (held-last (holdsAll f room counts) 4 refl (p .1)) in
+      let p = both (bookCheck f) (unless (holdsAll f room counts) 4 0) h in
+      let q = and-both (leb (length (numbersOf f)) room) (leb (length (countsOf f)) counts) (holds (holdsAll f room counts) 4 0 refl (p .1)) in
       (p .0, leb-true (length (numbersOf f)) room (q .0), leb-true (length (countsOf f)) counts (q .1))
 
 -- ---- the answer and the rooms
 
 -- what `read_book` promises of its answer and of the two rooms that it leaves
 abbrev pub Promised : List ℕ → List Float → List ℕ → Count → List Float → List ℕ → Type 0
-Promised f room counts r x n = (count r ≡ readCall f (length room) (length counts)) × (x ≡ readRoom f room (length counts)) × (n ≡ readCounts f (length room) counts)
+Promised f room counts r x n = (counted r ≡ readCall f (length room) (length counts)) × (x ≡ readRoom f room (length counts)) × (n ≡ readCounts f (length room) counts)
 
 -- Two answers of the reader that meet its promise are equal, and so are the rooms.
 pub read-only : (f : List ℕ) (room : List Float) (counts : List ℕ) (r r' : Count) (x x' : List Float) (n n' : List ℕ)
     → Promised f room counts r x n → Promised f room counts r' x' n' → (r ≡ r') × (x ≡ x') × (n ≡ n')
 read-only f room counts r r' x x' n n' p q =
-    (unique count count-only (readCall f (length room) (length counts)) r r' (p .0) (q .0), p .1 ∙ sym (q .1), p .2 ∙ sym (q .2))
+    (unique counted count-only (readCall f (length room) (length counts)) r r' (p .0) (q .0), p .1 ∙ sym (q .1), p .2 ∙ sym (q .2))

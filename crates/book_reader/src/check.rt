@@ -196,7 +196,7 @@ pub fn refusal(f: &[u8], room: usize, counts: usize) -> Refusal
         return no;
     }
     if room < entry_offset(f) / COORDINATE_BYTES {
-        return Refusal::new(4);
+        return Refusal::new(4, 0);
     }
-    unless(ring_count(f) <= counts, 4)
+    unless(ring_count(f) <= counts, 4, 0)
 }

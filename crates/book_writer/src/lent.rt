@@ -68,7 +68,7 @@ fn are_lengths(xs: &[f64], counts: &[u32]) -> bool
 pub fn refusal(xs: &[f64], counts: &[u32], size: usize) -> Refusal
     ensures { λ r. ⌜ r ≡ writeRefusal (now (xs .entry)) (now (counts .entry)) size ⌝ }
 {
-    let lengths = unless(are_lengths(xs, counts), 1);
+    let lengths = unless(are_lengths(xs, counts), 1, 0);
     if !lengths.passed() {
         return lengths;
     }
@@ -76,5 +76,5 @@ pub fn refusal(xs: &[f64], counts: &[u32], size: usize) -> Refusal
     if !bounds.passed() {
         return bounds;
     }
-    unless(size_of(counts) <= size, 4)
+    unless(size_of(counts) <= size, 4, 0)
 }

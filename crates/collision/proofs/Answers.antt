@@ -8,10 +8,11 @@ use native.Mathlib.Decide.{decLt}
 use lib.Ieee.{Float}
 use Rattle.plane.specs.declared.Point.{Point}
 use Rattle.refusals.specs.Refusals.{passed}
+use Rattle.refusals.specs.Rows.{ofMoving}
 use Rattle.refusals.specs.Answers.{answers, refuses}
 use Rattle.collision.specs.Check.{collisionOf}
 use Rattle.collision.specs.Nearest.{Pair, pairIs, pairAt, rayAt, Told, nothing, hit}
-use Rattle.collision.specs.Calls.{Values, values, checked, collisionRefusal, collisionCall}
+use Rattle.collision.specs.Calls.{Values, values, checked, collisionCall}
 use Rattle.collision.specs.declared.Ray.the-variants.{At}
 use Rattle.collision.specs.declared.Collision.{Collision}
 use Rattle.collision.specs.declared.Collision.the-variants.{Nothing, Hit}
@@ -35,9 +36,9 @@ checked-only (Refused r) (Refused s) h = cc
 
 -- an answer that keeps the call's promise is what the theorem demands
 pub answer-told : (st orb : List Float) (move : Point) (tol : Float) (x : Collision) → checked (Is x) ≡ collisionCall st orb move tol → Told st orb move tol x
-answer-told st orb move tol x h = go (passed (collisionRefusal st orb move tol)) h
+answer-told st orb move tol x h = go (passed (ofMoving st orb move tol)) h
   where
-    go : (b : Bool) → answers (values x) ≡ cond b (answers (values (collisionOf st orb move tol))) (refuses (collisionRefusal st orb move tol)) → Told st orb move tol x
+    go : (b : Bool) → answers (values x) ≡ cond b (answers (values (collisionOf st orb move tol))) (refuses (ofMoving st orb move tol)) → Told st orb move tol x
     go true e = rw (values-only x (collisionOf st orb move tol) (cc)) (collision-told st orb move tol)
     go false e = absurd (let z : _≡_ {A = ℕ} 0 1 = cc in omega arith)
 

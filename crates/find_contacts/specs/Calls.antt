@@ -2,27 +2,14 @@
 use Prim.Native.Nat.{ℕ, _*_}
 use mathlib.Core.List.{List, [], _∷_}
 use lib.ListN.{length}
-use lib.Dec.{leb}
 use lib.Ieee.{Float}
 use Rattle.ring.specs.Ring.{count}
 use Rattle.ring.specs.Room.{laid}
-use Rattle.refusals.specs.Refusals.{unless, firstOf}
-use Rattle.refusals.specs.Screens.{ofTwoPolygons, wrongTolerance}
+use Rattle.refusals.specs.Refusals.{firstOf}
+use Rattle.refusals.specs.Rows.{ofTouching, ofRooms}
 use Rattle.refusals.specs.Answers.{Outcome, outcome, left}
 use Rattle.refusals.specs.declared.Refusal.{Refusal}
 use Rattle.contacts.specs.Contacts.{contactsOf, whichOf, pointsOf}
-
--- 5: so many numbers do not fit a room
-abbrev pub wrongFit : ℕ → ℕ → Refusal
-wrongFit needed size = unless (leb needed size) 5
-
--- so many numbers for each of two rooms
-unfoldable pub ofRooms : ℕ → ℕ → ℕ → ℕ → Refusal
-ofRooms needed size needed2 size2 = firstOf (wrongFit needed size ∷ wrongFit needed2 size2 ∷ [])
-
--- two polygons and a tolerance
-unfoldable pub ofTouching : List Float → List Float → Float → Refusal
-ofTouching st orb tol = firstOf (ofTwoPolygons st orb ∷ wrongTolerance tol ∷ [])
 
 abbrev pub contactCount : List Float → List Float → Float → ℕ
 contactCount st orb tol = length (contactsOf st orb tol)
@@ -31,7 +18,7 @@ contactCount st orb tol = length (contactsOf st orb tol)
 unfoldable pub findRefusal : List Float → List Float → Float → ℕ → ℕ → Refusal
 findRefusal st orb tol which points =
     let n = contactCount st orb tol in
-    firstOf (ofTwoPolygons st orb ∷ wrongTolerance tol ∷ wrongFit (3 * n) which ∷ wrongFit (2 * n) points ∷ [])
+    firstOf (ofTouching st orb tol ∷ ofRooms (3 * n) which (2 * n) points ∷ [])
 
 abbrev pub findCall : List Float → List Float → Float → ℕ → ℕ → Outcome ℕ
 findCall st orb tol which points = outcome (findRefusal st orb tol which points) (contactCount st orb tol)

@@ -1,10 +1,10 @@
 // The public call: find_contacts.
-use crate::screen;
 use crate::write::answer;
 use refusals::answer::Count;
+use refusals::row;
 ghost use mathlib.Core.Path.{_≡_};
 ghost use lib.ListN.{length};
-ghost use Rattle.refusals.specs.Answers.{count};
+ghost use Rattle.refusals.specs.Answers.{counted};
 ghost use Rattle.find_contacts.specs.Calls.{findCall, findWhich, findPoints};
 
 // The contacts of two polygons: per contact kind, stationary index and orbiting index in `which`, x and y in `points`.
@@ -15,9 +15,9 @@ pub fn find_contacts(
     which: &mut [u64],
     points: &mut [f64],
 ) -> Count
-    ensures { λ r. ⌜ (count r ≡ findCall (now (stationary .entry)) (now (orbiting .entry)) tolerance (length (now (which .entry))) (length (now (points .entry)))) × (now (which .exit) ≡ findWhich (now (stationary .entry)) (now (orbiting .entry)) tolerance (now (which .entry)) (now (points .entry))) × (now (points .exit) ≡ findPoints (now (stationary .entry)) (now (orbiting .entry)) tolerance (now (which .entry)) (now (points .entry))) ⌝ }
+    ensures { λ r. ⌜ (counted r ≡ findCall (now (stationary .entry)) (now (orbiting .entry)) tolerance (length (now (which .entry))) (length (now (points .entry)))) × (now (which .exit) ≡ findWhich (now (stationary .entry)) (now (orbiting .entry)) tolerance (now (which .entry)) (now (points .entry))) × (now (points .exit) ≡ findPoints (now (stationary .entry)) (now (orbiting .entry)) tolerance (now (which .entry)) (now (points .entry))) ⌝ }
 {
-    let no = screen::lent(stationary, orbiting, tolerance);
+    let no = row::touching(stationary, orbiting, tolerance);
     if no.passed() {
         answer(stationary, orbiting, tolerance, which, points)
     } else {

@@ -1,5 +1,4 @@
 // The contacts, counted, and written to rooms that the caller lends.
-use crate::screen::rooms;
 use contacts::Edges;
 use contacts::Next;
 use contacts::edges_of;
@@ -9,16 +8,18 @@ use pairs::Pair;
 use pairs::pair_at;
 use plane::Point;
 use refusals::answer::Count;
+use refusals::row::rooms;
 ghost use mathlib.Core.Path.{_≡_};
 ghost use Prim.Native.Nat.{_+_, _*_, _<_, _≤_};
 ghost use lib.ListN.{length, set};
 ghost use Rattle.ring.specs.Ring.{count};
 ghost use Rattle.ring.specs.Room.{laid};
 ghost use Rattle.pairs.specs.Pairs.{Sides, Within};
-ghost use Rattle.refusals.specs.Answers.{count as counted, outcome, left};
+ghost use Rattle.refusals.specs.Rows.{ofRooms};
+ghost use Rattle.refusals.specs.Answers.{counted, outcome, left};
 ghost use Rattle.contacts.specs.Touching.{pointBy, contactPoint};
 ghost use Rattle.contacts.specs.Contacts.{contactsOf, whichOf, pointsOf};
-ghost use Rattle.find_contacts.specs.Calls.{contactCount, ofRooms};
+ghost use Rattle.find_contacts.specs.Calls.{contactCount};
 
 // The point at which a pair with these edges touches: the vertex, or the middle of the orbiting edge.
 fn point_by(kind: u8, e: Edges) -> Point

@@ -41,11 +41,11 @@ unfolding toldPlace
 wrong-place = refl
 
 -- a room too short: 4, and no place
-short-number : returned {A = ℕ} (refuses (refuse 4)) ≡ 4
+short-number : returned {A = ℕ} (refuses (refuse 4 0)) ≡ 4
 unfolding returned
 short-number = refl
 
-short-place : toldPlace {A = ℕ} (refuses (refuse 4)) 9 ≡ 9
+short-place : toldPlace {A = ℕ} (refuses (refuse 4 0)) 9 ≡ 9
 unfolding toldPlace
 short-place = refl
 

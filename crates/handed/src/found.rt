@@ -2,12 +2,12 @@
 // returns the refusal's number and leaves the cells as they were.
 use collision::Collision;
 use collision::answer::Checked;
-use moved::answer::Found;
-use moved::answer::Position;
+use refusals::answer::Found;
+use refusals::answer::Position;
 use selection::answer::Selected;
 ghost use mathlib.Core.Path.{_≡_};
 ghost use Rattle.collision.specs.Calls.{checked};
-ghost use Rattle.moved.specs.Answers.{position};
+ghost use Rattle.refusals.specs.Answers.{position};
 ghost use Rattle.selection.specs.Calls.{selected};
 ghost use Rattle.handed.specs.Handed.{returned, told, toldFound, itself, isFound, xOf, yOf, hitDistance, hitKind, hitStationary, hitOrbiting};
 

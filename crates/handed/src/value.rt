@@ -7,7 +7,7 @@ use refusals::answer::Turn;
 use start_position::answer::Start;
 ghost use mathlib.Core.Path.{_≡_};
 ghost use Rattle.plane.specs.Orientation.{turnNumber};
-ghost use Rattle.refusals.specs.Answers.{truth, turn, number, count};
+ghost use Rattle.refusals.specs.Answers.{truth, turn, number, counted};
 ghost use Rattle.start_position.specs.Calls.{started};
 ghost use Rattle.handed.specs.Handed.{returned, told, toldPlace, itself, flag, xOf, yOf};
 
@@ -66,7 +66,7 @@ pub fn hand_number(answer: Number, out: &mut f64) -> u32
 
 // How many entries were written.
 pub fn hand_count(answer: Count, out: &mut u64) -> u32
-    ensures { λ r. ⌜ (r ≡ returned (count answer)) × (now (out .exit) ≡ told itself (count answer) (now (out .entry))) ⌝ }
+    ensures { λ r. ⌜ (r ≡ returned (counted answer)) × (now (out .exit) ≡ told itself (counted answer) (now (out .entry))) ⌝ }
 {
     match answer {
         Count::Is(n) => {
@@ -79,7 +79,7 @@ pub fn hand_count(answer: Count, out: &mut u64) -> u32
 
 // How many rings a book has, or the place of its first fault.
 pub fn hand_count_or_place(answer: Count, out: &mut u64, place: &mut u64) -> u32
-    ensures { λ r. ⌜ (r ≡ returned (count answer)) × (now (out .exit) ≡ told itself (count answer) (now (out .entry))) × (now (place .exit) ≡ toldPlace (count answer) (now (place .entry))) ⌝ }
+    ensures { λ r. ⌜ (r ≡ returned (counted answer)) × (now (out .exit) ≡ told itself (counted answer) (now (out .entry))) × (now (place .exit) ≡ toldPlace (counted answer) (now (place .entry))) ⌝ }
 {
     match answer {
         Count::Is(rings) => {

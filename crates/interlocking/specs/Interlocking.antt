@@ -10,8 +10,8 @@ use Rattle.plane.specs.Vector.{minusOf, dotOf, normalizeOf, turnOf, root}
 use Rattle.plane.specs.declared.Point.{Point}
 use Rattle.ring.specs.Ring.{count, pointAt, nextOf}
 use Rattle.moved.specs.Moved.{movedOf, aheadOf, half}
-use Rattle.moved.specs.declared.answer.Found.{Found}
-use Rattle.moved.specs.declared.answer.Found.the-variants.{Nothing, At}
+use Rattle.refusals.specs.declared.answer.Found.{Found}
+use Rattle.refusals.specs.declared.answer.Found.the-variants.{Nothing, At}
 use Rattle.overlap.specs.Extent.{boxOf}
 use Rattle.overlap.specs.Overlap.{edgeOf, overlapOf, f1e-6}
 

@@ -2,7 +2,6 @@
 pub mod calls;
 
 use moved::ahead;
-use moved::answer::Found;
 use moved::move_ring;
 use overlap::compute_bbox;
 use overlap::edge_vector;
@@ -12,6 +11,7 @@ use plane::vector::dot;
 use plane::vector::minus;
 use plane::vector::normalize;
 use plane::vector::turn;
+use refusals::answer::Found;
 use ring::next;
 use ring::point_at;
 use scalar::abs;

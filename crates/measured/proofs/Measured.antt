@@ -10,8 +10,8 @@ use Rattle.ring.specs.Each.{each}
 use Rattle.ring.specs.Ring.{pointAt}
 use Rattle.moved.specs.Points.{points}
 use Rattle.moved.specs.Moved.{movedOf}
+use Rattle.refusals.specs.Rows.{ofPoints3, ofRing, ofTwoPolygons, ofTouching, ofMoving, ofRooms, ofList}
 use Rattle.refusals.specs.Bounds.{coordinate, finite, every}
-use Rattle.refusals.specs.Screens.{ofPoints3, ofRing, ofTwoPolygons}
 use Rattle.first_best.specs.Best.{better, over, nest}
 use Rattle.start_position.specs.Start.{lowerOf, upperOf, vertexOf, startOf}
 use Rattle.pairs.specs.Pairs as pairs
@@ -22,7 +22,6 @@ use Rattle.collision.specs.Ray.{rayWithin, rayOf, edgeRay}
 use Rattle.collision.specs.Hit.{countedOf, nearer}
 use Rattle.collision.specs.Check.{pairOf, scanOf, backOf, bothOf, sweepOf, collisionOf}
 use Rattle.collision.specs.Nearest.{pairAt, rayAt}
-use Rattle.collision.specs.Calls.{collisionRefusal}
 use Rattle.simplify.specs.Simplify.{prevOf, staysOf, piece, survivors, simplified}
 use Rattle.simplify.specs.Calls.{simplifyRefusal}
 use Rattle.reading.specs.Reading.{ord, less, best, bestOf, leastReading}
@@ -53,15 +52,15 @@ unfolding picks touching touchesBy edgesOf edgeEnd edgesTouch pairs.pairOf point
 numbers = refl
 
 contacts-hold : AllHold contacts
-unfolding contacts findRefusal ofTwoPolygons every coordinate lt le eq neg ofBits round movedOf points plusOf add whichOf pairs.pairOf pointsOf contactPoint pointBy edgesOf edgeEnd pointAt div
+unfolding contacts findRefusal ofTouching ofTwoPolygons ofRooms every coordinate lt le eq neg ofBits round movedOf points plusOf add whichOf pairs.pairOf pointsOf contactPoint pointBy edgesOf edgeEnd pointAt div
 contacts-hold = (rw numbers refl, (rw numbers refl, (rw numbers refl, record {})))
 
 moves-hold : AllHold moves
-unfolding moves collisionRefusal every coordinate finite collisionOf sweepOf bothOf backOf scanOf pairOf nest over better nearer countedOf edgeRay rayOf rayWithin pairAt rayAt largerOf orNumber ahead minusZero absOf pointAt minusOf crossOf lengthOf dotOf sqrtOf add sub mul div lt le eq neg ofBits round movedOf points plusOf
+unfolding moves ofMoving ofTwoPolygons every coordinate finite collisionOf sweepOf bothOf backOf scanOf pairOf nest over better nearer countedOf edgeRay rayOf rayWithin pairAt rayAt largerOf orNumber ahead minusZero absOf pointAt minusOf crossOf lengthOf dotOf sqrtOf add sub mul div lt le eq neg ofBits round movedOf points plusOf
 moves-hold = (refl, (refl, (refl, (refl, (refl, (refl, record {}))))))
 
 path-holds : AllHold path
-unfolding path simplifyRefusal every finite simplified survivors piece staysOf prevOf pointAt turnOf toSegmentOf alongOf projectOf clampedFoot clampOf distanceOf lengthOf minusOf dotOf crossOf sqrtOf add sub mul div lt le eq ofBits round
+unfolding path simplifyRefusal ofList every finite simplified survivors piece staysOf prevOf pointAt turnOf toSegmentOf alongOf projectOf clampedFoot clampOf distanceOf lengthOf minusOf dotOf crossOf sqrtOf add sub mul div lt le eq ofBits round
 path-holds = (refl, (refl, (refl, record {})))
 
 ring-holds : AllHold ring

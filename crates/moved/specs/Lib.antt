@@ -1,4 +1,3 @@
--- The definitions that the contracts of moved, and of the calls that answer a position, cite.
+-- The definitions that the contracts of moved cite.
 pub mod Points
 pub mod Moved
-pub mod Answers

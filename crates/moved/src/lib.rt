@@ -1,6 +1,4 @@
-// A ring moved by a point, written to an array that the caller lends; and a position to move to, or nothing, as calls answer it.
-pub mod answer;
-
+// A ring moved by a point, written to an array that the caller lends.
 use plane::Point;
 use plane::vector::plus;
 use ring::point_at;

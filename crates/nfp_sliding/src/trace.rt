@@ -16,7 +16,7 @@ ghost use Prim.Native.Nat.{_*_, _≤_};
 ghost use lib.ListN.{length, take};
 ghost use Rattle.ring.specs.Room.{laid};
 ghost use Rattle.nfp_sliding.specs.Path.{ended, endOf, Ready, traceFrom, tracedOf};
-ghost use Rattle.nfp_sliding.specs.Calls.{traced, told, resultAfter};
+ghost use Rattle.nfp_sliding.specs.Calls.{traced, cameTo, resultAfter};
 
 // The trace of two counter-clockwise polygons.
 fn follow(stationary: &[f64], orbiting: &[f64], settings: Settings, work: &mut [f64]) -> End
@@ -55,7 +55,7 @@ pub fn trace(stationary: &[f64], orbiting: &[f64], settings: Settings, work: &mu
 pub fn finish(end: End, tol: f64, work: &[f64], result: &mut [f64]) -> Traced
     requires { ⌜ 2 * end .stored ≤ length (now work) ⌝ }
     requires { ⌜ length (now work) ≤ length (now result) ⌝ }
-    ensures { λ r. ⌜ (traced r ≡ told (ended (end .full) (end .reason) (end .passes) (take (2 * end .stored) (now (work .entry)))) tol) × (now (result .exit) ≡ resultAfter (ended (end .full) (end .reason) (end .passes) (take (2 * end .stored) (now (work .entry)))) tol (now (result .entry))) ⌝ }
+    ensures { λ r. ⌜ (traced r ≡ cameTo (ended (end .full) (end .reason) (end .passes) (take (2 * end .stored) (now (work .entry)))) tol) × (now (result .exit) ≡ resultAfter (ended (end .full) (end .reason) (end .passes) (take (2 * end .stored) (now (work .entry)))) tol (now (result .entry))) ⌝ }
 {
     let stored = end.stored;
     if end.full {

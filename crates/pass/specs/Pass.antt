@@ -11,8 +11,8 @@ use Rattle.contacts.specs.Contacts.{contactsOf}
 use Rattle.vectors.specs.Fit.{fitOf}
 use Rattle.selection.specs.Score.{preferredOf}
 use Rattle.moved.specs.Moved.{movedOf}
-use Rattle.moved.specs.declared.answer.Found.{Found}
-use Rattle.moved.specs.declared.answer.Found.the-variants as found-is
+use Rattle.refusals.specs.declared.answer.Found.{Found}
+use Rattle.refusals.specs.declared.answer.Found.the-variants as found-is
 use Rattle.recovery.specs.Recovery.{recoverOf}
 use Rattle.interlocking.specs.Interlocking.{interlockOf}
 use Rattle.choose.specs.Choose.{choiceOf}

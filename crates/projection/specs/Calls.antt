@@ -4,7 +4,7 @@ use lib.Ieee.{Float}
 use Rattle.plane.specs.Segment.{projectOf, toSegmentOf, onSegmentOf}
 use Rattle.plane.specs.declared.Point.{Point}
 use Rattle.refusals.specs.Answers.{Outcome, outcome}
-use Rattle.refusals.specs.Screens.{ofPoints3, ofNear}
+use Rattle.refusals.specs.Rows.{ofPoints3, ofNear}
 
 abbrev pub projectCall : Point → Point → Point → Outcome Float
 projectCall p a b = outcome (ofPoints3 p a b) (projectOf p a b)

@@ -10,8 +10,8 @@ use Rattle.plane.specs.declared.Point.{Point}
 use Rattle.ring.specs.Ring.{count, pointAt, nextOf}
 use Rattle.first_best.specs.Best.{nest}
 use Rattle.moved.specs.Moved.{aheadOf, half}
-use Rattle.moved.specs.declared.answer.Found.{Found}
-use Rattle.moved.specs.declared.answer.Found.the-variants.{Nothing, At}
+use Rattle.refusals.specs.declared.answer.Found.{Found}
+use Rattle.refusals.specs.declared.answer.Found.the-variants.{Nothing, At}
 use Rattle.centroid.specs.Centroid.{centroidOf}
 use Rattle.recovery.specs.declared.Closest.{Closest}
 

@@ -3,13 +3,13 @@ pub mod calls;
 
 use centroid::centroid;
 use moved::ahead;
-use moved::answer::Found;
 use plane::Point;
 use plane::segment::along;
 use plane::segment::project_point_to_segment;
 use plane::vector::distance;
 use plane::vector::minus;
 use plane::vector::normalize;
+use refusals::answer::Found;
 use ring::next;
 use ring::point_at;
 ghost use mathlib.Core.Path.{_≡_};

@@ -49,6 +49,10 @@ polygonLength r = leb 6 (length r) && ringLength r
 abbrev pub listLength : List Float → Bool
 listLength r = eqb (length r % 2) 0 && leb (length r) 20002
 
+-- three numbers for each vector
+abbrev pub vectorsLength : List Float → Bool
+vectorsLength vs = eqb (length vs % 3) 0
+
 -- above 0, at most 1
 abbrev pub toleranceOk : Float → Bool
 toleranceOk x = lt f0 x && le x f1

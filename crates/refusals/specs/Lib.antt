@@ -2,4 +2,5 @@
 pub mod Refusals
 pub mod Bounds
 pub mod Screens
+pub mod Rows
 pub mod Answers

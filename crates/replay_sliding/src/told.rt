@@ -1,10 +1,10 @@
 // What a call of the sliding answers, as words: the refusal's number or 0, and up to five values, 0 where there is none.
 use collision::Collision;
 use collision::answer::Checked;
-use moved::answer::Found;
-use moved::answer::Position;
 use refusals::Refusal;
 use refusals::answer::Count;
+use refusals::answer::Found;
+use refusals::answer::Position;
 use refusals::answer::Truth;
 use replay::bits;
 use selection::answer::Selected;

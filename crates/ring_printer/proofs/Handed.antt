@@ -12,7 +12,7 @@ use lib.Ieee.{Float, nan, isNan}
 use Rattle.ring.specs.Room.{laid}
 use Rattle.refusals.specs.Refusals.{passed}
 use Rattle.refusals.specs.Bounds.{coordinate, every, coordinates}
-use Rattle.refusals.specs.Answers.{answers, refuses, outcome, count}
+use Rattle.refusals.specs.Answers.{answers, refuses, outcome, counted}
 use Rattle.refusals.specs.declared.Refusal.{Refusal}
 use Rattle.refusals.specs.declared.answer.Count.{Count}
 use Rattle.refusals.specs.declared.answer.Count.the-variants.{Is}
@@ -42,7 +42,7 @@ numbers-in (x ∷ xs) t (suc i) h = numbers-in xs (and-both (coordinate x) (coor
 
 module _ (f : List ℕ) (bytes : (i : ℕ) → getD f i 0 < 256) (room x : List Float) (counts n : List ℕ) (r : Count) (k : ℕ) (e : r ≡ Is k) (p : Promised f room counts r x n) where
   accepted : (readRefusal f (length room) (length counts) passes) × (k ≡ length (countsOf f))
-  accepted = answered (readRefusal f (length room) (length counts)) k (length (countsOf f)) (ap count (sym e) ∙ p .0)
+  accepted = answered (readRefusal f (length room) (length counts)) k (length (countsOf f)) (ap counted (sym e) ∙ p .0)
 
   room-is : x ≡ laid (numbersOf f) room
   room-is = p .1 ∙ (rw (accepted .0))

@@ -36,5 +36,5 @@ empty : selectCall [] None (point f0 f0) (point f0 f0) ≡ answers none
 unfolding choice
 empty = refl
 
-odd-length : selectCall (f0 ∷ f0 ∷ []) None (point f0 f0) (point f0 f0) ≡ refuses (refuse 1)
+odd-length : selectCall (f0 ∷ f0 ∷ []) None (point f0 f0) (point f0 f0) ≡ refuses (refuse 1 0)
 odd-length = refl

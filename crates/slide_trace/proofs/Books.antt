@@ -9,7 +9,7 @@ use lib.Seq.{take-append-le, drop-append-le}
 use lib.Ieee.{Float, binary64, ofBits}
 use Rattle.ring.specs.Room.{laid}
 use Rattle.refusals.specs.Refusals.{passed}
-use Rattle.refusals.specs.Answers.{Outcome, answers, refuses, outcome, count}
+use Rattle.refusals.specs.Answers.{Outcome, answers, refuses, outcome, counted}
 use Rattle.refusals.specs.declared.Refusal.{Refusal}
 use Rattle.refusals.specs.declared.Settings.{Settings}
 use Rattle.refusals.specs.declared.answer.Count.{Count}
@@ -76,7 +76,7 @@ counts = replicate 8 0
 module _ (f : List ℕ) (bytes : (i : ℕ) → getD f i 0 < 256) (s : Settings) (x : List Float) (n : List ℕ) (r : Count) (p : Promised f room counts r x n) where
   module _ (k : ℕ) (e : r ≡ Is k) where
     taken : readRefusal f (length room) (length counts) passes
-    taken = answered (readRefusal f (length room) (length counts)) _ k (length (countsOf f)) refl (ap count (sym e) ∙ p .0)
+    taken = answered (readRefusal f (length room) (length counts)) _ k (length (countsOf f)) refl (ap counted (sym e) ∙ p .0)
 
     fine : bookCheck f passes
     fine = reads f (length room) (length counts) taken .0
@@ -127,7 +127,7 @@ module _ (f : List ℕ) (bytes : (i : ℕ) → getD f i 0 < 256) (s : Settings) 
     refusal = readRefusal f (length room) (length counts)
 
     not-read : (passed refusal ≡ false) × (told ≡ refusal)
-    not-read = refused refusal told (passed refusal) (length (countsOf f)) refl (ap count (sym e) ∙ p .0)
+    not-read = refused refusal told (passed refusal) (length (countsOf f)) refl (ap counted (sym e) ∙ p .0)
 
     read-all : bookCheck f passes → refusal passes
     unfolding readRefusal

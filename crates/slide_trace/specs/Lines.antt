@@ -42,8 +42,8 @@ pathText points passes stop xs = headingLine points passes stop ++ pointLines xs
 abbrev pub answerText : Traced → List Float → List ℕ
 answerText (Is points stored passes stop) xs = pathText points passes stop xs
 answerText (Refused r) xs = refusalLine r
-answerText (Full passes) xs = refusalLine (refuse 5)
-answerText (Short passes stop) xs = refusalLine (refuse 6)
+answerText (Full passes) xs = refusalLine (refuse 5 0)
+answerText (Short passes stop) xs = refusalLine (refuse 6 0)
 
 -- the points are in a list of so many numbers
 abbrev pub InList : Traced → ℕ → Type 0

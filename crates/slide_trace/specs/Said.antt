@@ -12,7 +12,7 @@ use Rattle.book_layout.specs.Layout.{countsOf}
 use Rattle.book_layout.specs.Faults.{bookCheck}
 use Rattle.book_layout.specs.Reader.{numbersOf}
 use Rattle.nfp_sliding.specs.Path.{tracedOf}
-use Rattle.nfp_sliding.specs.Calls.{Answer, traces, refuses, overfull, tooShort, traceCall}
+use Rattle.nfp_sliding.specs.Calls.{Answer, traces, denied, overfull, tooShort, traceCall}
 use Rattle.slide_trace.specs.Lines.{refusalLine, pathText}
 
 -- the numbers that each of the trace's two rooms holds: the start and a point for each of 10,000 passes
@@ -22,9 +22,9 @@ roomSize = 20002
 -- an answer of the trace, and the points of its result: the path, or the refusal's line
 abbrev pub textOf : Answer → List Float → List ℕ
 textOf (traces points stored passes stop) result = pathText points passes stop result
-textOf (refuses r) result = refusalLine r
-textOf (overfull passes) result = refusalLine (refuse 5)
-textOf (tooShort passes stop) result = refusalLine (refuse 6)
+textOf (denied r) result = refusalLine r
+textOf (overfull passes) result = refusalLine (refuse 5 0)
+textOf (tooShort passes stop) result = refusalLine (refuse 6 0)
 
 -- the trace of two polygons
 unfoldable pub traceText : List Float → List Float → Settings → List ℕ

@@ -87,7 +87,7 @@ pub fn put_answer(traced: Traced, result: &[f64], out: &mut [u8]) -> usize
             stop,
         } => put_path(points, passes, stop, result, out),
         Traced::Refused(no) => put_refusal(no, out),
-        Traced::Full(passes) => put_refusal(Refusal::new(5), out),
-        Traced::Short { passes, stop } => put_refusal(Refusal::new(6), out),
+        Traced::Full(passes) => put_refusal(Refusal::new(5, 0), out),
+        Traced::Short { passes, stop } => put_refusal(Refusal::new(6, 0), out),
     }
 }

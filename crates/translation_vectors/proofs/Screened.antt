@@ -2,22 +2,21 @@
 use Prim.Native.Nat.{ℕ, _*_}
 use mathlib.Core.Path.{_≡_, refl}
 use mathlib.Core.Bool.{Bool, true}
-use mathlib.Core.List.{List, [], _∷_, _++_}
+use mathlib.Core.List.{List, [], _∷_}
 use lib.ListN.{length}
 use lib.Ieee.{Float}
 use Rattle.plane.specs.declared.Point.{Point}
 use Rattle.ring.specs.Ring.{count}
 use Rattle.ring.specs.Each.{each}
 use Rattle.refusals.specs.Refusals.{passed, first}
-use Rattle.refusals.specs.Screens.{wrongNumber, wrongPosition, wrongInfinite, wrongTolerance, ofTwoPolygons}
+use Rattle.refusals.specs.Rows.{ofTouching, ofFit, ofRooms}
 use Rattle.refusals.specs.declared.Refusal.{Refusal}
-use Rattle.refusals.proofs.Sized.{two-polygons}
+use Rattle.refusals.proofs.Sized.{fit-polygons}
 use Rattle.pairs.specs.Pairs.{Sides}
-use Rattle.find_contacts.specs.Calls.{wrongFit, ofRooms, ofTouching}
-use Rattle.find_contacts.proofs.Screened.{two-parts, sides}
+use Rattle.find_contacts.proofs.Screened.{sides}
 use Rattle.vectors.specs.Vectors.{Sourced, vectorsOf}
 use Rattle.vectors.specs.Fit.{visitedOf, keeps, kept, fitOf}
-use Rattle.translation_vectors.specs.Calls.{lengthTests, numberTests, fitLengths, fitNumbers, ofFit, vectorsRefusal, fitRefusal}
+use Rattle.translation_vectors.specs.Calls.{vectorsRefusal, fitRefusal}
 
 keep-all : (from : Point) (tol : Float) (l : List Sourced) → kept (keeps from [] tol) l ≡ l
 unfolding kept keeps visitedOf each
@@ -29,29 +28,17 @@ module _ (st orb : List Float) (tol : Float) where
   all-fit from = keep-all from tol (vectorsOf st orb tol)
 
   pub vectors-row : (vectors sources : ℕ)
-      → vectorsRefusal st orb tol vectors sources ≡ first (ofTouching st orb tol) (ofRooms (3 * length (vectorsOf st orb tol)) vectors (length (vectorsOf st orb tol)) sources)
-  unfolding ofTouching vectorsRefusal ofRooms
-  vectors-row vectors sources =
-      let n = length (vectorsOf st orb tol) in
-      two-parts (ofTwoPolygons st orb ∷ wrongTolerance tol ∷ []) (wrongFit (3 * n) vectors) (wrongFit n sources ∷ [])
+      → vectorsRefusal st orb tol vectors sources
+      ≡ first (ofTouching st orb tol) (ofRooms (3 * length (vectorsOf st orb tol)) vectors (length (vectorsOf st orb tol)) sources)
+  unfolding vectorsRefusal
+  vectors-row vectors sources = refl
 
   module _ (from : Point) (visited : List Float) where
-    pub lent-row : ofFit st orb from visited tol ≡ first (fitLengths st orb visited) (fitNumbers st orb from visited tol)
-    unfolding ofFit fitLengths fitNumbers
-    lent-row =
-        two-parts (lengthTests st orb visited) (wrongNumber st) (wrongNumber orb ∷ wrongPosition from ∷ wrongInfinite visited ∷ wrongTolerance tol ∷ [])
-
     pub fit-row : (vectors sources : ℕ)
         → fitRefusal st orb from visited tol vectors sources
         ≡ first (ofFit st orb from visited tol) (ofRooms (3 * length (fitOf st orb from visited tol)) vectors (length (fitOf st orb from visited tol)) sources)
-    unfolding ofFit fitRefusal ofRooms
-    fit-row vectors sources =
-        let n = length (fitOf st orb from visited tol) in
-        two-parts (lengthTests st orb visited ++ numberTests st orb from visited tol) (wrongFit (3 * n) vectors) (wrongFit n sources ∷ [])
-
-    fit-sides : passed (ofFit st orb from visited tol) ≡ true → Sides (count st) (count orb)
-    unfolding ofFit
-    fit-sides h = let p = two-polygons st orb _ h in sides st orb (p .0) (p .1)
+    unfolding fitRefusal
+    fit-row vectors sources = refl
 
     pub lent-is : {n : Refusal} {p : Bool} → n ≡ ofFit st orb from visited tol → p ≡ passed n → p ≡ true → Sides (count st) (count orb)
-    lent-is e h t = fit-sides (rw (← e, ← h) t)
+    lent-is e h t = let p = fit-polygons st orb from visited tol e h t in sides st orb (p .0) (p .1)

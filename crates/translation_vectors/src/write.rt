@@ -1,7 +1,7 @@
 // The vectors that lead to no visited position, counted, and written to rooms that the caller lends.
-use find_contacts::screen::rooms;
 use plane::Point;
 use refusals::answer::Count;
+use refusals::row::rooms;
 use vectors::Place;
 use vectors::Step;
 use vectors::TranslationVector;
@@ -13,9 +13,9 @@ ghost use Rattle.ring.specs.Ring.{count};
 ghost use Rattle.ring.specs.Room.{laid};
 ghost use Rattle.pairs.specs.Pairs.{Sides};
 ghost use Rattle.vectors.specs.Vectors.{numbersOf, sourcesOf};
-ghost use Rattle.refusals.specs.Answers.{count as counted, outcome, left};
+ghost use Rattle.refusals.specs.Rows.{ofRooms};
+ghost use Rattle.refusals.specs.Answers.{counted, outcome, left};
 ghost use Rattle.vectors.specs.Fit.{fitOf};
-ghost use Rattle.find_contacts.specs.Calls.{ofRooms};
 
 // How many there are.
 pub fn count_vectors(

@@ -58,7 +58,7 @@ returns-3 c =
     let e = o .before in
     let a = e .before .before .before .before .args in
     c .unless .ensures
-    ∙ ap (λ (n : ℕ). unless (leb n (a .counts)) 4) (k .ring-count .ensures .0)
+    ∙ ap (λ (n : ℕ). unless (leb n (a .counts)) 4 0) (k .ring-count .ensures .0)
     ∙ large-room (a .f .now) (a .room) (a .counts) (fine e) (omega (arith, o .entry-offset .ensures .0, k .before .if2 .left))
 
 pub refusal-spec : {M : Type 1} → statement M

@@ -8,7 +8,7 @@ use lib.Dec.{leb}
 use Rattle.refusals.specs.Refusals.{unless, passed}
 use Rattle.refusals.proofs.First.{on, off}
 use Rattle.book_layout.specs.Writer.{lengthsOk, writeRefusal}
-use Rattle.refusals.proofs.Sized.{held-last}
+use Rattle.refusals.proofs.Sized.{holds}
 use Rattle.book_layout.proofs.Lent.{lengths-held}
 use Rattle.book_writer.proofs.lent.refusal.Statement.{statement}
 use Rattle.book_writer.proofs.lent.refusal.Tie as tie
@@ -23,8 +23,8 @@ passed-requires : tie.Need-passed-requires
 passed-requires c κs = search needs
 
 -- the test of the lengths
-lengths : (c : tie.After-unless) → c .unless .result ≡ unless (lengthsOk (c .before .before .before .before .args .xs .now) (c .before .before .before .before .args .counts .now)) 1
-lengths c = c .unless .ensures ∙ ap (λ (t : Bool). unless t 1) (c .before .are-lengths .ensures)
+lengths : (c : tie.After-unless) → c .unless .result ≡ unless (lengthsOk (c .before .before .before .before .args .xs .now) (c .before .before .before .before .args .counts .now)) 1 0
+lengths c = c .unless .ensures ∙ ap (λ (t : Bool). unless t 1 0) (c .before .are-lengths .ensures)
 
 returns : tie.Need-returns
 unfolding writeRefusal
@@ -55,7 +55,7 @@ size-of-requires c κs =
     let p = e .before in
     let a = p .before .before .before .before .before .args in
     let h = lengths-held (a .xs .now) (a .counts .now)
-    (held-last (lengthsOk (a .xs .now) (a .counts .now)) 1 refl (ap passed (sym (lengths (p .before))) ∙ sym (p .passed .ensures) ∙ not-false (p .passed .result) (e .if1 .left))) in
+    (holds (lengthsOk (a .xs .now) (a .counts .now)) 1 0 refl (ap passed (sym (lengths (p .before))) ∙ sym (p .passed .ensures) ∙ not-false (p .passed .result) (e .if1 .left))) in
     (h .1, h .2)
 
 unless-requires-2 : tie.Need-unless-requires-2
@@ -69,7 +69,7 @@ returns-3 c =
     let e = q .before .before in
     let p = e .before in
     c .unless2 .ensures
-    ∙ ap (λ (n : ℕ). unless (leb n (p .before .before .before .before .before .args .size)) 4) (c .before .size-of .ensures)
+    ∙ ap (λ (n : ℕ). unless (leb n (p .before .before .before .before .before .args .size)) 4 0) (c .before .size-of .ensures)
     ∙ sym
     (on _ _ (lengths (p .before)) (p .passed .ensures) (not-false (p .passed .result) (e .if1 .left))
     ∙ on _ _ (q .before .numbers .ensures) (q .passed2 .ensures) (not-false (q .passed2 .result) (f .if2 .left)))

@@ -1,12 +1,12 @@
 -- `find_contacts::calls::find_contacts` meets its contract: the tests, then the answer. Assumes nothing.
 use borrow.Author.Needs.{needs}
-use Rattle.refusals.proofs.Calls.{stops, kept}
-use Rattle.find_contacts.proofs.Screened.{refuses-first, answers-second, leaves-second, lent-is, find-row}
+use Rattle.refusals.proofs.Calls.{stops, kept, refuses-first, answers-second, leaves-second}
+use Rattle.find_contacts.proofs.Screened.{lent-is, find-row}
 use Rattle.find_contacts.proofs.calls.find_contacts.Statement.{statement}
 use Rattle.find_contacts.proofs.calls.find_contacts.Tie as tie
 
-lent-requires : tie.Need-lent-requires
-lent-requires c κs = search needs
+touching-requires : tie.Need-touching-requires
+touching-requires c κs = search needs
 
 passed-requires : tie.Need-passed-requires
 passed-requires c κs = search needs
@@ -14,7 +14,7 @@ passed-requires c κs = search needs
 answer-requires : tie.Need-answer-requires
 answer-requires c κs =
     let t = c .before .before in
-    lent-is _ _ _ (t .before .before .lent .ensures) (t .before .passed .ensures) (t .if1 .taken)
+    lent-is _ _ _ (t .before .before .touching .ensures) (t .before .passed .ensures) (t .if1 .taken)
 
 same-length : tie.Need-same-length
 same-length c = search needs
@@ -25,7 +25,7 @@ same-length-2 c = search needs
 returns : tie.Need-returns
 returns c =
     let t = c .before .before .before .before .before .before .before in
-    let e = t .before .before .lent .ensures in
+    let e = t .before .before .touching .ensures in
     let h = t .before .passed .ensures in
     let r = find-row _ _ _ _ _ in
     let a = c .before .before .before .before .answer .ensures in
@@ -34,14 +34,14 @@ returns c =
 returns-2 : tie.Need-returns-2
 returns-2 c =
     let h = c .before .passed .ensures in
-    let e = refuses-first _ _ (find-row _ _ _ _ _) (c .before .before .lent .ensures) h (c .if1 .left) in
+    let e = refuses-first _ _ (find-row _ _ _ _ _) (c .before .before .touching .ensures) h (c .if1 .left) in
     (stops _ e h _ (c .if1 .left), kept _ e h _ _ (c .if1 .left), kept _ e h _ _ (c .if1 .left))
 
 pub find-contacts-spec : {M : Type 1} → statement M
 find-contacts-spec =
     tie.close
     (tie.spec
-    lent-requires
+    touching-requires
     passed-requires
     answer-requires
     same-length

@@ -3,8 +3,9 @@ use borrow.Author.Needs.{needs}
 use Prim.Native.Nat.{_*_, _≤_}
 use mathlib.Core.Path.{_≡_}
 use lib.ListN.{length}
-use Rattle.find_contacts.specs.Calls.{ofRooms, contactCount}
-use Rattle.find_contacts.proofs.Screened.{rooms-fit}
+use Rattle.refusals.specs.Rows.{ofRooms}
+use Rattle.refusals.proofs.Sized.{rooms-fit}
+use Rattle.find_contacts.specs.Calls.{contactCount}
 use Rattle.refusals.proofs.Calls.{goes, stops, wrote, kept}
 use Rattle.find_contacts.proofs.write.answer.Statement.{statement}
 use Rattle.find_contacts.proofs.write.answer.Tie as tie

@@ -1,13 +1,12 @@
 -- `translation_vectors::calls::handle_perfect_fit` meets its contract: the tests, then the answer. Assumes nothing.
 use borrow.Author.Needs.{needs}
-use Rattle.refusals.proofs.Calls.{stops, kept}
-use Rattle.find_contacts.proofs.Screened.{refuses-first, answers-second, leaves-second}
+use Rattle.refusals.proofs.Calls.{stops, kept, refuses-first, answers-second, leaves-second}
 use Rattle.translation_vectors.proofs.Screened.{lent-is, fit-row}
 use Rattle.translation_vectors.proofs.calls.handle_perfect_fit.Statement.{statement}
 use Rattle.translation_vectors.proofs.calls.handle_perfect_fit.Tie as tie
 
-lent-requires : tie.Need-lent-requires
-lent-requires c κs = search needs
+perfect-fit-requires : tie.Need-perfect-fit-requires
+perfect-fit-requires c κs = search needs
 
 passed-requires : tie.Need-passed-requires
 passed-requires c κs = search needs
@@ -15,7 +14,7 @@ passed-requires c κs = search needs
 answer-requires : tie.Need-answer-requires
 answer-requires c κs =
     let t = c .before .before in
-    lent-is _ _ _ _ _ (t .before .before .lent .ensures) (t .before .passed .ensures) (t .if1 .taken)
+    lent-is _ _ _ _ _ (t .before .before .perfect-fit .ensures) (t .before .passed .ensures) (t .if1 .taken)
 
 same-length : tie.Need-same-length
 same-length c = search needs
@@ -26,7 +25,7 @@ same-length-2 c = search needs
 returns : tie.Need-returns
 returns c =
     let t = c .before .before .before .before .before .before .before in
-    let e = t .before .before .lent .ensures in
+    let e = t .before .before .perfect-fit .ensures in
     let h = t .before .passed .ensures in
     let r = fit-row _ _ _ _ _ _ _ in
     let a = c .before .before .before .before .answer .ensures in
@@ -35,14 +34,14 @@ returns c =
 returns-2 : tie.Need-returns-2
 returns-2 c =
     let h = c .before .passed .ensures in
-    let e = refuses-first _ _ (fit-row _ _ _ _ _ _ _) (c .before .before .lent .ensures) h (c .if1 .left) in
+    let e = refuses-first _ _ (fit-row _ _ _ _ _ _ _) (c .before .before .perfect-fit .ensures) h (c .if1 .left) in
     (stops _ e h _ (c .if1 .left), kept _ e h _ _ (c .if1 .left), kept _ e h _ _ (c .if1 .left))
 
 pub handle-perfect-fit-spec : {M : Type 1} → statement M
 handle-perfect-fit-spec =
     tie.close
     (tie.spec
-    lent-requires
+    perfect-fit-requires
     passed-requires
     answer-requires
     same-length

@@ -3,8 +3,8 @@ use borrow.Author.Needs.{needs}
 use Prim.Native.Nat.{_*_, _≤_}
 use mathlib.Core.Path.{_≡_}
 use lib.ListN.{length}
-use Rattle.find_contacts.specs.Calls.{ofRooms}
-use Rattle.find_contacts.proofs.Screened.{rooms-fit}
+use Rattle.refusals.specs.Rows.{ofRooms}
+use Rattle.refusals.proofs.Sized.{rooms-fit}
 use Rattle.vectors.specs.Fit.{fitOf}
 use Rattle.refusals.proofs.Calls.{goes, stops, wrote, kept}
 use Rattle.translation_vectors.proofs.write.answer.Statement.{statement}
