@@ -85,6 +85,13 @@ static double past_million(void) {
     return nextafter(1e6, 2e6);
 }
 
+/* ---- The interface ---- */
+
+static void interface(void) {
+    begin("byr_abi_version");
+    CHECK(byr_abi_version() == BYR_ABI_VERSION);
+}
+
 /* ---- Scalars ---- */
 
 static void scalars(void) {
@@ -534,6 +541,7 @@ static void reading(void) {
 }
 
 int main(void) {
+    interface();
     scalars();
     predicates();
     distances();

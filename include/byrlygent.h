@@ -36,6 +36,18 @@
 extern "C" {
 #endif
 
+/* The interface that this header declares: each change of a function's parameters
+ * or of what it returns raises the number. A program compares it with that of the
+ * archive it was linked with, once and before any other call:
+ *
+ *     if (byr_abi_version() != BYR_ABI_VERSION) { .. header and archive are not of one tree .. }
+ *
+ * An archive from before there was a number does not link with such a program. */
+#define BYR_ABI_VERSION 1
+
+/* The interface of the archive. This function itself stays as it is. */
+uint32_t byr_abi_version(void);
+
 /* Why a call was refused. */
 enum {
     BYR_REFUSED_LENGTH = 1,     /* a list is odd, too short or too long, or the lists of a book do not add up */

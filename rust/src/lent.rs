@@ -14,7 +14,7 @@ pub fn points(list: &[f64], count: u64) -> Vec<Point> {
 }
 
 /// A function of the library that measures a point against a segment.
-pub type Measuring = unsafe extern "C" fn(f64, f64, f64, f64, f64, f64, *mut f64) -> u32;
+pub type Measuring = unsafe fn(f64, f64, f64, f64, f64, f64, *mut f64) -> u32;
 
 /// What such a function measures of p against the segment a-b.
 pub fn measured(measuring: Measuring, p: Point, a: Point, b: Point) -> Result<f64> {

@@ -70,7 +70,7 @@ pub fn open_ring(vertices: &[Point]) -> Result<Vec<Point>> {
 }
 
 /// A function of the library that writes some of a ring's vertices to a room.
-type Copying = unsafe extern "C" fn(*const f64, usize, *mut f64, usize, *mut u64) -> u32;
+type Copying = unsafe fn(*const f64, usize, *mut f64, usize, *mut u64) -> u32;
 
 /// What a function that copies a ring writes.
 fn copied(vertices: &[Point], copying: Copying) -> Result<Vec<Point>> {

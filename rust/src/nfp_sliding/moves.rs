@@ -66,7 +66,7 @@ pub fn check_translation_collision(
 }
 
 /// A function of the library that may find a position.
-type Finding = unsafe extern "C" fn(
+type Finding = unsafe fn(
     *const f64,
     usize,
     *const f64,
