@@ -16,6 +16,14 @@
 //! assert_eq!((nfp.passes, nfp.stop), (8, StopReason::Closed));
 //! # Ok::<(), byrlygent::Refusal>(())
 //! ```
+//!
+//! Rings are lent open: the last vertex is joined to the first. A closed drawing,
+//! whose last vertex repeats the first, goes through [`polygon_ops::open_ring`]
+//! before any other call. Lent as it is, the repeat counts as a vertex with an
+//! edge of no length.
+//!
+//! Each call first compares the number of the archive's interface with the one
+//! that this crate is written for, and panics where they differ.
 
 mod ffi;
 mod lent;

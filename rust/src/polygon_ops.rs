@@ -23,13 +23,21 @@ pub fn on_segment(a: Point, b: Point, p: Point) -> Result<bool> {
     Ok(on != 0)
 }
 
-/// Whether the closed segments p1-p2 and p3-p4 meet.
+/// Whether the closed segments p1-p2 and p3-p4 meet, as [`orientation`] and
+/// [`on_segment`] tell it, with their margins: the ends of each turn opposite ways
+/// from the other, or an end of one has turn 0 from the other and lies in its
+/// widened box. So a gap below the margins counts as meeting. Segments so short
+/// that every determinant is within 1e-9 of 0 may cross and not meet; and the
+/// determinants are rounded, so a close case may change with the ends of a segment
+/// exchanged.
 ///
 /// ```
 /// use byrlygent::polygon_ops::segments_intersect;
 ///
 /// assert!(segments_intersect((0.0, 0.0), (4.0, 4.0), (0.0, 4.0), (4.0, 0.0))?);
 /// assert!(!segments_intersect((0.0, 0.0), (1.0, 1.0), (0.0, 4.0), (4.0, 0.0))?);
+/// assert!(segments_intersect((0.0, 0.0), (1.0, 0.0), (1.0 + 5e-10, 0.0), (2.0, 0.0))?);
+/// assert!(!segments_intersect((-1e-5, 0.0), (1e-5, 0.0), (0.0, -1e-5), (0.0, 1e-5))?);
 /// # Ok::<(), byrlygent::Refusal>(())
 /// ```
 pub fn segments_intersect(p1: Point, p2: Point, p3: Point, p4: Point) -> Result<bool> {
@@ -58,7 +66,8 @@ pub fn mirror_polygon(vertices: &[Point]) -> Result<Vec<Point>> {
 }
 
 /// The ring without its last vertex if there are more than three and the last
-/// equals the first, else the ring.
+/// equals the first, else the ring. A closed drawing is to go through this before
+/// any other call.
 ///
 /// ```
 /// let ring = [(0.0, 0.0), (4.0, 0.0), (0.0, 3.0), (0.0, 0.0)];
@@ -84,7 +93,8 @@ fn copied(vertices: &[Point], copying: Copying) -> Result<Vec<Point>> {
 }
 
 /// Whether the ring has three vertices or more, and no two edges meet but
-/// neighbours.
+/// neighbours, by [`segments_intersect`]. A ring with a closing repeat is not
+/// simple.
 ///
 /// ```
 /// let bow = [(0.0, 0.0), (2.0, 2.0), (2.0, 0.0), (0.0, 2.0)];
