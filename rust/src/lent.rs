@@ -4,8 +4,12 @@ use crate::refusal::plain;
 use crate::{Point, Result};
 
 /// The points as a list of numbers.
-pub fn flat(points: &[Point]) -> Vec<f64> {
-    points.iter().flat_map(|&(x, y)| [x, y]).collect()
+pub fn flat(points: &[impl Into<Point> + Copy]) -> Vec<f64> {
+    let numbers = |&point| {
+        let (x, y): Point = Into::into(point);
+        [x, y]
+    };
+    points.iter().flat_map(numbers).collect()
 }
 
 /// So many points from the front of a list of numbers.

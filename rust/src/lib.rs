@@ -36,5 +36,12 @@ pub mod scalar;
 
 pub use refusal::{Refusal, Result};
 
-/// A point, or a vector.
+/// A point, or a vector. A list of points may hold anything that converts to it,
+/// such as `[f64; 2]`; a bare `&[]` tells no type, and is written `&[] as &[Point]`.
+///
+/// ```
+/// let corners = [[0.0, 0.0], [4.0, 0.0], [0.0, 3.0]];
+/// assert_eq!(byrlygent::polygon_ops::signed_area2(&corners)?, 12.0);
+/// # Ok::<(), byrlygent::Refusal>(())
+/// ```
 pub type Point = (f64, f64);

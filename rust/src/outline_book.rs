@@ -28,7 +28,7 @@ const MOST_RINGS: usize = 8;
 /// assert_eq!(write_book(&[byrlygent::polygon_ops::open_ring(&elsewhere)?])?, monday);
 /// # Ok::<(), byrlygent::Refusal>(())
 /// ```
-pub fn write_book<R: AsRef<[Point]>>(rings: &[R]) -> Result<Vec<u8>> {
+pub fn write_book<R: AsRef<[P]>, P: Into<Point> + Copy>(rings: &[R]) -> Result<Vec<u8>> {
     let coordinates: Vec<f64> = rings.iter().flat_map(|ring| flat(ring.as_ref())).collect();
     // A ring that u32 cannot count is too long in any case.
     let count = |ring: &R| u32::try_from(ring.as_ref().len()).unwrap_or(u32::MAX);

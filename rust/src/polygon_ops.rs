@@ -61,7 +61,7 @@ pub fn point_segment_distance(p: Point, a: Point, b: Point) -> Result<f64> {
 /// assert_eq!(mirrored, [(-0.0, 3.0), (-4.0, 0.0), (-0.0, 0.0)]);
 /// # Ok::<(), byrlygent::Refusal>(())
 /// ```
-pub fn mirror_polygon(vertices: &[Point]) -> Result<Vec<Point>> {
+pub fn mirror_polygon(vertices: &[impl Into<Point> + Copy]) -> Result<Vec<Point>> {
     copied(vertices, ffi::byr_mirror_polygon)
 }
 
@@ -74,7 +74,7 @@ pub fn mirror_polygon(vertices: &[Point]) -> Result<Vec<Point>> {
 /// assert_eq!(byrlygent::polygon_ops::open_ring(&ring)?, ring[..3]);
 /// # Ok::<(), byrlygent::Refusal>(())
 /// ```
-pub fn open_ring(vertices: &[Point]) -> Result<Vec<Point>> {
+pub fn open_ring(vertices: &[impl Into<Point> + Copy]) -> Result<Vec<Point>> {
     copied(vertices, ffi::byr_open_ring)
 }
 
@@ -82,7 +82,7 @@ pub fn open_ring(vertices: &[Point]) -> Result<Vec<Point>> {
 type Copying = unsafe fn(*const f64, usize, *mut f64, usize, *mut u64) -> u32;
 
 /// What a function that copies a ring writes.
-fn copied(vertices: &[Point], copying: Copying) -> Result<Vec<Point>> {
+fn copied(vertices: &[impl Into<Point> + Copy], copying: Copying) -> Result<Vec<Point>> {
     let ring = flat(vertices);
     let (mut room, mut count) = (vec![0.0; ring.len()], 0);
     // SAFETY: both lists are as long as is said, and the answer has a place.
@@ -101,7 +101,7 @@ fn copied(vertices: &[Point], copying: Copying) -> Result<Vec<Point>> {
 /// assert!(!byrlygent::polygon_ops::is_simple_polygon(&bow)?);
 /// # Ok::<(), byrlygent::Refusal>(())
 /// ```
-pub fn is_simple_polygon(vertices: &[Point]) -> Result<bool> {
+pub fn is_simple_polygon(vertices: &[impl Into<Point> + Copy]) -> Result<bool> {
     let (ring, mut simple) = (flat(vertices), 0);
     // SAFETY: the list is as long as is said, and the answer has a place.
     plain(unsafe { ffi::byr_is_simple_polygon(ring.as_ptr(), ring.len(), &mut simple) })?;
@@ -110,7 +110,7 @@ pub fn is_simple_polygon(vertices: &[Point]) -> Result<bool> {
 
 /// The least distance from a vertex of one ring to an edge of the other, +infinity
 /// if a ring has no vertex; the rings' distance if they do not cross.
-pub fn ring_distance(a: &[Point], b: &[Point]) -> Result<f64> {
+pub fn ring_distance(a: &[impl Into<Point> + Copy], b: &[impl Into<Point> + Copy]) -> Result<f64> {
     let (a, b, mut distance) = (flat(a), flat(b), 0.0);
     // SAFETY: both lists are as long as is said, and the answer has a place.
     plain(unsafe {
@@ -120,7 +120,7 @@ pub fn ring_distance(a: &[Point], b: &[Point]) -> Result<f64> {
 }
 
 /// Twice the signed area, above 0 for counter-clockwise order.
-pub fn signed_area2(vertices: &[Point]) -> Result<f64> {
+pub fn signed_area2(vertices: &[impl Into<Point> + Copy]) -> Result<f64> {
     let (ring, mut area2) = (flat(vertices), 0.0);
     // SAFETY: the list is as long as is said, and the answer has a place.
     plain(unsafe { ffi::byr_signed_area2(ring.as_ptr(), ring.len(), &mut area2) })?;

@@ -117,8 +117,8 @@ impl Nfp {
 /// assert_eq!(compute_nfp_sliding(&square, &square, &config), Err(refused));
 /// ```
 pub fn compute_nfp_sliding(
-    stationary: &[Point],
-    orbiting: &[Point],
+    stationary: &[impl Into<Point> + Copy],
+    orbiting: &[impl Into<Point> + Copy],
     config: &SlidingNfpConfig,
 ) -> Result<Nfp> {
     let (stationary, orbiting) = (flat(stationary), flat(orbiting));
@@ -165,7 +165,10 @@ pub fn compute_nfp_sliding(
 /// assert_eq!(find_start_position(&stationary, &orbiting)?, (0.0, -2.0));
 /// # Ok::<(), byrlygent::Refusal>(())
 /// ```
-pub fn find_start_position(stationary: &[Point], orbiting: &[Point]) -> Result<Point> {
+pub fn find_start_position(
+    stationary: &[impl Into<Point> + Copy],
+    orbiting: &[impl Into<Point> + Copy],
+) -> Result<Point> {
     let (stationary, orbiting) = (flat(stationary), flat(orbiting));
     let mut start = (0.0, 0.0);
     // SAFETY: both lists are as long as is said, and both answers have a place.
@@ -198,7 +201,7 @@ pub fn find_start_position(stationary: &[Point], orbiting: &[Point]) -> Result<P
 /// assert_eq!(left, [(0.0, 0.0), (9.0, 0.0), (2.0, 0.0), (2.0, 2.0)]);
 /// # Ok::<(), byrlygent::Refusal>(())
 /// ```
-pub fn simplify_polygon(polygon: &[Point], tolerance: f64) -> Result<Vec<Point>> {
+pub fn simplify_polygon(polygon: &[impl Into<Point> + Copy], tolerance: f64) -> Result<Vec<Point>> {
     let list = flat(polygon);
     let (mut room, mut count) = (vec![0.0; list.len()], 0);
     // SAFETY: both lists are as long as is said, and the answer has a place.
