@@ -1,6 +1,6 @@
 /*
  * Calls every exported function from C and holds what it answers, refuses and
- * leaves alone to known values, most of them document 01's. Prints a line per
+ * leaves alone to known values, most of them docs/SCOPE.md's. Prints a line per
  * function with the checks it passed; the first wrong one ends the program with
  * status 1.
  */

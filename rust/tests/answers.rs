@@ -1,4 +1,4 @@
-//! Known answers through the safe calls: document 01's pieces, empty lists, and
+//! Known answers through the safe calls: docs/SCOPE.md's pieces, empty lists, and
 //! answers longer than the room that is tried first.
 
 use byrlygent::nfp_sliding::{self, Contact, ContactType, SlidingNfpConfig, StopReason};
