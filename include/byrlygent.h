@@ -18,11 +18,11 @@
  * whose last vertex repeats the first, goes through byr_open_ring before any other
  * call. Lent as it is, the repeat counts as a vertex with an edge of no length.
  *
- * Answers. All functions but the scalars return 0, or the number of a refusal,
- * BYR_REFUSED_. Answers are written through the last pointers, and to rooms, on
- * success only; the exceptions are told where they arise. What is not written is
- * as it was. A room may be longer than its answer, and part of an entry may be
- * left over at its end.
+ * Answers. All functions but byr_abi_version and the scalars return 0, or the
+ * number of a refusal, BYR_REFUSED_. Answers are written through the last pointers,
+ * and to rooms, on success only; the exceptions are told where they arise. What is
+ * not written is as it was. A room may be longer than its answer, and part of an
+ * entry may be left over at its end.
  *
  * Bounds. A polygon has 3 to 256 vertices, a ring 0 to 256. A coordinate, of a
  * single point or segment end too, is finite and at most 1000000 in size. Moves,

@@ -8,8 +8,10 @@
 /// The interface that is declared here: `BYR_ABI_VERSION` of the header.
 pub const ABI_VERSION: u32 = 1;
 
-/// Panics unless this is the number of the interface that is declared here.
-fn hold(number: u32) {
+/// Panics unless the archive has the interface that is declared here.
+pub fn hold_interface() {
+    // SAFETY: the function takes nothing, and is the same in every interface.
+    let number = unsafe { archive::byr_abi_version() };
     assert!(
         number == ABI_VERSION,
         "libbyrlygent.a has interface {number}, and this crate is written for {ABI_VERSION}: \
@@ -33,7 +35,7 @@ macro_rules! functions {
         $(
             /// The function of this name, of an archive with this interface.
             pub unsafe fn $name($($given: $kind),*) -> $answer {
-                hold(archive::byr_abi_version());
+                hold_interface();
                 archive::$name($($given),*)
             }
         )*
@@ -298,14 +300,12 @@ functions! {
 
 #[cfg(test)]
 mod tests {
-    use super::{archive, hold, ABI_VERSION};
+    use super::{hold_interface, ABI_VERSION};
 
     #[test]
-    fn the_archive_has_this_interface() {
-        // SAFETY: the function takes nothing, and every interface has it so.
-        assert_eq!(unsafe { archive::byr_abi_version() }, ABI_VERSION);
+    fn archive_and_header_have_this_interface() {
+        hold_interface();
         let declared = format!("#define BYR_ABI_VERSION {ABI_VERSION}\n");
         assert!(include_str!("../../include/byrlygent.h").contains(&declared));
-        hold(ABI_VERSION);
     }
 }

@@ -10,4 +10,4 @@ pub mod lent;
 pub mod lists;
 pub mod tally;
 
-pub use declared::{archive as ffi, ABI_VERSION};
+pub use declared::{archive as ffi, hold_interface, ABI_VERSION};

@@ -5,7 +5,7 @@
 
 use compare::lists::LISTS;
 use compare::tally::{Compared, Tally};
-use compare::{ffi, ABI_VERSION};
+use compare::{ffi, hold_interface, ABI_VERSION};
 use oracle::replay::list;
 use oracle::seeded::Seeded;
 use std::collections::BTreeSet;
@@ -57,6 +57,7 @@ fn main() -> ExitCode {
         eprintln!("give how many seeded cases to compare, and a seed");
         return ExitCode::FAILURE;
     };
+    hold_interface();
     println!("seed {seed}");
     let tally = run(count, seed);
     println!("{tally}");
