@@ -1,4 +1,4 @@
-//! The outline book, written from document 01 alone: a plain writer, reader and
+//! The outline book, written from docs/SCOPE.md alone: a plain writer, reader and
 //! printer for the proved ones to be compared with. Nothing is clever here; the
 //! least reading is found by laying all readings side by side.
 

@@ -1,4 +1,4 @@
-//! The answer that document 01 gives to each exported function but the book's
+//! The answer that docs/SCOPE.md gives to each exported function but the book's
 //! two: the refusals in their order, then the text over the fixed helpers.
 //! Lists are x, y alternating; a room is written on success only, at its front.
 
@@ -175,7 +175,7 @@ pub fn signed_area_robust(ring: &[f64]) -> Answer<f64> {
 // Contacts and vectors
 // ---------------------------------------------------------------------------
 
-/// Document 01's number of a contact's kind.
+/// docs/SCOPE.md's number of a contact's kind.
 fn kind_number(kind: ContactType) -> u64 {
     match kind {
         ContactType::VertexEdge => 0,

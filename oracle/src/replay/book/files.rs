@@ -6,7 +6,7 @@ use crate::book::{readings, LEAST_BYTES};
 use crate::calls::points_of;
 use crate::replay::{EDGES, NANS};
 
-/// The smallest book, of document 01's ring.
+/// The smallest book, of docs/SCOPE.md's ring.
 fn small() -> Vec<u8> {
     book_of(&[vec![4.0, 0.0, 0.0, 3.0, 0.0, 0.0]])
 }
