@@ -29,8 +29,8 @@ pub fn hand_traced(
             *stop = why;
         }
         Traced::Refused(_) => {}
-        Traced::Full(n) => {
-            *passes = n;
+        Traced::Full(begun) => {
+            *passes = begun;
         }
         Traced::Short {
             passes: n,

@@ -1,5 +1,6 @@
 // Answers that are a value or a point. Each function returns 0 and writes the answer, or returns the refusal's number and leaves the cells as they were.
 use plane::Orientation;
+use refusals::REFUSED_BOOK;
 use refusals::answer::Count;
 use refusals::answer::Number;
 use refusals::answer::Truth;
@@ -10,9 +11,6 @@ ghost use Rattle.plane.specs.Orientation.{turnNumber};
 ghost use Rattle.refusals.specs.Answers.{truth, turn, number, counted};
 ghost use Rattle.start_position.specs.Calls.{started};
 ghost use Rattle.handed.specs.Handed.{returned, told, toldPlace, itself, flag, xOf, yOf};
-
-// The number of the refusal that tells a place in a book.
-const WRONG_BOOK: u32 = 7;
 
 // Whether something holds, as 1 or 0.
 pub fn hand_truth(answer: Truth, out: &mut u32) -> u32
@@ -87,7 +85,7 @@ pub fn hand_count_or_place(answer: Count, out: &mut u64, place: &mut u64) -> u32
             0
         }
         Count::Refused(no) => {
-            if no.number == WRONG_BOOK {
+            if no.number == REFUSED_BOOK {
                 *place = no.place;
             }
             no.number

@@ -99,8 +99,8 @@ pub fn touching(stationary: &[f64], orbiting: &[f64], tol: f64) -> Refusal
 pub fn moving(stationary: &[f64], orbiting: &[f64], p: Point, tol: f64) -> Refusal
     ensures { λ r. ⌜ r ≡ ofMoving (now (stationary .entry)) (now (orbiting .entry)) p tol ⌝ }
 {
-    let rest = first(position(p), tolerance(tol));
-    first(two_polygons(stationary, orbiting), rest)
+    let last = first(position(p), tolerance(tol));
+    first(two_polygons(stationary, orbiting), last)
 }
 
 // The lengths of two polygons and of visited positions.
