@@ -13,6 +13,7 @@ use courses::reach;
 use courses::to_vector;
 use pairs::pair_at;
 use plane::Point;
+use plane::vector::ahead;
 use plane::vector::dot;
 use selection::Previous;
 use selection::continued;
@@ -52,12 +53,7 @@ pub enum Weighed {
 fn is_kept(course: Course, from: Point, visited: &[f64], tol: f64) -> bool
     ensures { λ r. ⌜ r ≡ keeps from (now (visited .entry)) tol (vectorIs course) ⌝ }
 {
-    let dir = direction_of(course);
-    let far = reach(course);
-    let at = Point {
-        x: from.x + dir.x * far,
-        y: from.y + dir.y * far,
-    };
+    let at = ahead(from, direction_of(course), reach(course));
     !is_visited(at, visited, tol)
 }
 

@@ -7,9 +7,9 @@ use Rattle.square_root.specs.Root.{sqrtOf}
 use Rattle.plane.specs.Vector.{minusOf, plusOf, dotOf, crossOf, lengthOf, distanceOf, parallelOf, turnOf}
 use Rattle.plane.specs.Segment.{clampedFoot, projectOf, alongOf, toSegmentOf, onSegmentOf}
 use Rattle.ring.specs.Each.{each}
-use Rattle.ring.specs.Ring.{pointAt}
-use Rattle.moved.specs.Points.{points}
-use Rattle.moved.specs.Moved.{movedOf}
+use Rattle.ring.specs.Ring.{pointAt, previousVertex}
+use Rattle.ring.specs.Points.{points}
+use Rattle.ring.specs.Moved.{movedOf}
 use Rattle.refusals.specs.Bounds.{coordinate, finite, every}
 use Rattle.refusals.specs.Screens.{ofPoints3, ofRing, ofTwoPolygons}
 use Rattle.first_best.specs.Best.{better, over, nest}
@@ -23,7 +23,7 @@ use Rattle.collision.specs.Hit.{countedOf, nearer}
 use Rattle.collision.specs.Check.{pairOf, scanOf, backOf, bothOf, sweepOf, collisionOf}
 use Rattle.collision.specs.Nearest.{pairAt, rayAt}
 use Rattle.collision.specs.Calls.{collisionRefusal}
-use Rattle.simplify.specs.Simplify.{prevOf, staysOf, piece, survivors, simplified}
+use Rattle.simplify.specs.Simplify.{staysOf, piece, survivors, simplified}
 use Rattle.simplify.specs.Calls.{simplifyRefusal}
 use Rattle.reading.specs.Reading.{ord, less, best, bestOf, leastReading}
 use Rattle.reading.specs.Lent.{kept}
@@ -61,7 +61,7 @@ unfolding moves collisionRefusal every coordinate finite collisionOf sweepOf bot
 moves-hold = (refl, (refl, (refl, (refl, (refl, (refl, record {}))))))
 
 path-holds : AllHold path
-unfolding path simplifyRefusal every finite simplified survivors piece staysOf prevOf pointAt turnOf toSegmentOf alongOf projectOf clampedFoot clampOf distanceOf lengthOf minusOf dotOf crossOf sqrtOf add sub mul div lt le eq ofBits round
+unfolding path simplifyRefusal every finite simplified survivors piece staysOf previousVertex pointAt turnOf toSegmentOf alongOf projectOf clampedFoot clampOf distanceOf lengthOf minusOf dotOf crossOf sqrtOf add sub mul div lt le eq ofBits round
 path-holds = (refl, (refl, (refl, record {})))
 
 ring-holds : AllHold ring

@@ -1,6 +1,3 @@
 -- The modules that belong to no one function.
-pub mod Points
-pub mod Moved
 pub mod Answers
 pub mod Lent
-pub mod Worked

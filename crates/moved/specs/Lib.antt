@@ -1,4 +1,2 @@
--- The definitions that the contracts of moved, and of the calls that answer a position, cite.
-pub mod Points
-pub mod Moved
+-- The definitions that the calls that answer a position cite.
 pub mod Answers

@@ -13,8 +13,7 @@ use lib.Ieee.{Float}
 use borrow.Author.Tests.{ltb-false}
 use Rattle.plane.specs.declared.Point.{Point}
 use Rattle.ring.specs.Ring.{count}
-use Rattle.ring.specs.Room.{laid}
-use Rattle.moved.specs.Moved.{putAt}
+use Rattle.ring.specs.Room.{laid, putAt}
 use Rattle.pass.specs.Pass.{Scene, passOf}
 use Rattle.pass.specs.declared.Pose.{Pose}
 use Rattle.pass.specs.declared.Step.{Step}

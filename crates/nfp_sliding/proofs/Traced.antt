@@ -17,9 +17,8 @@ use Rattle.refusals.specs.declared.Refusal.{Refusal}
 use Rattle.refusals.specs.declared.Settings.{Settings}
 use Rattle.refusals.proofs.Sized.{held as holds, held-last, two-polygons}
 use Rattle.ring.specs.Ring.{count}
-use Rattle.ring.specs.Room.{laid}
+use Rattle.ring.specs.Room.{laid, putAt}
 use Rattle.pairs.specs.Pairs.{Sides}
-use Rattle.moved.specs.Moved.{putAt}
 use Rattle.winding.specs.Winding.{ccwOf}
 use Rattle.winding.proofs.Order.{ccw-length, ccw-front}
 use Rattle.start_position.specs.Start.{startOf}

@@ -1,12 +1,12 @@
 // The trace of two polygons, its path in a room that the caller lends, and the path simplified.
 use crate::answer::Traced;
 use centroid::centroid;
-use moved::put;
 use pass::Pose;
 use passes::run::End;
 use passes::run::State;
 use passes::run::run;
 use refusals::Settings;
+use ring::room::put;
 use selection::Previous;
 use simplify::simplify;
 use start_position::find_start_position;

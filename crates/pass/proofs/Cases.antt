@@ -16,8 +16,8 @@ use Rattle.selection.specs.Score.{preferredOf}
 use Rattle.ring.specs.Ring.{count}
 use Rattle.ring.specs.Room.{laid}
 use Rattle.pairs.specs.Pairs.{Sides}
-use Rattle.moved.specs.Moved.{movedOf}
-use Rattle.moved.proofs.Moved.{moved-front, moved-count}
+use Rattle.ring.specs.Moved.{movedOf}
+use Rattle.ring.proofs.Moved.{moved-front, moved-count}
 use Rattle.choose.specs.Choose.{vectorNo, choiceOf}
 use Rattle.pass.specs.Slide.{slideOf}
 use Rattle.pass.specs.Pass.{Scene, regainOf, unstickOf, chosen, ifNone, passAt}

@@ -10,7 +10,7 @@ use Rattle.refusals.specs.declared.Settings.{Settings}
 use Rattle.contacts.specs.Contacts.{contactsOf}
 use Rattle.vectors.specs.Fit.{fitOf}
 use Rattle.selection.specs.Score.{preferredOf}
-use Rattle.moved.specs.Moved.{movedOf}
+use Rattle.ring.specs.Moved.{movedOf}
 use Rattle.moved.specs.declared.answer.Found.{Found}
 use Rattle.moved.specs.declared.answer.Found.the-variants as found-is
 use Rattle.recovery.specs.Recovery.{recoverOf}

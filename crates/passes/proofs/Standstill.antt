@@ -11,7 +11,7 @@ use lib.Ieee.Bits.{ofBits-toBits}
 use borrow.Author.Tests.{eqb-true}
 use Rattle.plane.specs.declared.Point.{Point}
 use Rattle.selection.specs.declared.Previous.{Previous}
-use Rattle.moved.specs.Moved.{putAt}
+use Rattle.ring.specs.Room.{putAt}
 use Rattle.pass.specs.Pass.{Scene, passOf}
 use Rattle.pass.specs.declared.Step.{Step}
 use Rattle.pass.specs.declared.Step.the-variants.{Stop, Stay, Store}

@@ -1,11 +1,11 @@
 // The run of the passes: `trace_nfp_boundary` of `nfp_sliding.rs`, the path stored in a room that the caller lends.
 use crate::still::same_pose;
-use moved::put;
 use pass::Pose;
 use pass::Step;
 use pass::pass;
 use plane::Point;
 use refusals::Settings;
+use ring::room::put;
 ghost use mathlib.Core.Path.{_≡_};
 ghost use Prim.Native.Nat.{_*_, _%_, _≤_};
 ghost use lib.ListN.{length};

@@ -50,3 +50,11 @@ parallelOf e1 e2 = lt (absOf (crossOf e1 e2)) (f1e-10 ⊗ lengthOf e1 ⊗ length
 -- (bx-ax)*(cy-ay) - (by-ay)*(cx-ax)
 unfoldable pub turnOf : Point → Point → Point → Float
 turnOf a b c = crossOf (minusOf b a) (minusOf c a)
+
+-- so far from a point in a direction
+unfoldable pub aheadOf : Point → Point → Float → Point
+aheadOf at dir far = point (at .x ⊕ dir .x ⊗ far) (at .y ⊕ dir .y ⊗ far)
+
+-- 0.5
+abbrev pub half : Float
+half = float 0x3fe0_0000_0000_0000

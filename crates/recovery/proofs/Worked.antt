@@ -7,16 +7,15 @@ use lib.Ieee.{Float, add, sub, mul, div, lt, le, eq, neg, ofBits}
 use Rattle.scalar.specs.Float.{_⊘_, float, f0, f1}
 use Rattle.scalar.specs.Scalar.{absOf, clampOf}
 use Rattle.square_root.specs.Root.{sqrtOf}
-use Rattle.plane.specs.Vector.{point, minusOf, dotOf, lengthOf, distanceOf, normalizeOf}
+use Rattle.plane.specs.Vector.{point, minusOf, dotOf, lengthOf, distanceOf, normalizeOf, aheadOf}
 use Rattle.plane.specs.Segment.{clampedFoot, projectOf, alongOf}
 use Rattle.ring.specs.Ring.{pointAt}
 use Rattle.refusals.specs.Refusals.{refuse}
 use Rattle.refusals.specs.Bounds.{coordinate, finite, every}
 use Rattle.refusals.specs.Answers.{answers, refuses}
 use Rattle.first_best.specs.Best.{better, over, nest}
-use Rattle.moved.specs.Moved.{aheadOf}
 use Rattle.moved.specs.Answers.{positionRefusal}
-use Rattle.moved.proofs.Worked.{f2, f3, f4, f6, f8, S}
+use Rattle.ring.proofs.Worked.{f2, f3, f4, f6, f8, S}
 use Rattle.centroid.specs.Centroid.{grownOf, momentsTo, centroidOf}
 use Rattle.recovery.specs.Recovery.{footAt, closestOf, towardOf, moveTo, recoverOf}
 use Rattle.recovery.specs.Calls.{recoverCall}

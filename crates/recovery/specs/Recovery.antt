@@ -4,12 +4,11 @@ use mathlib.Core.Bool.{Bool, false, cond}
 use mathlib.Core.List.{List}
 use lib.Ieee.{Float, inf, lt}
 use Rattle.scalar.specs.Float.{_⊖_, _⊗_}
-use Rattle.plane.specs.Vector.{minusOf, distanceOf, normalizeOf}
+use Rattle.plane.specs.Vector.{minusOf, distanceOf, normalizeOf, aheadOf, half}
 use Rattle.plane.specs.Segment.{projectOf, alongOf}
 use Rattle.plane.specs.declared.Point.{Point}
 use Rattle.ring.specs.Ring.{count, pointAt, nextOf}
 use Rattle.first_best.specs.Best.{nest}
-use Rattle.moved.specs.Moved.{aheadOf, half}
 use Rattle.moved.specs.declared.answer.Found.{Found}
 use Rattle.moved.specs.declared.answer.Found.the-variants.{Nothing, At}
 use Rattle.centroid.specs.Centroid.{centroidOf}

@@ -2,11 +2,11 @@
 pub mod calls;
 
 use centroid::centroid;
-use moved::ahead;
 use moved::answer::Found;
 use plane::Point;
 use plane::segment::along;
 use plane::segment::project_point_to_segment;
+use plane::vector::ahead;
 use plane::vector::distance;
 use plane::vector::minus;
 use plane::vector::normalize;

@@ -1,6 +1,7 @@
 // The public calls: mirror_polygon, open_ring.
 use refusals::answer::Count;
 use refusals::screen;
+use ring::room::copy;
 ghost use mathlib.Core.Path.{_≡_};
 ghost use lib.ListN.{length};
 ghost use Rattle.refusals.specs.Answers.{count};
@@ -27,7 +28,7 @@ pub fn open_ring(ring: &[f64], room: &mut [f64]) -> Count
     let n = crate::open_count(ring);
     let no = screen::first(screen::ring(ring), screen::room(n, room.len()));
     if no.passed() {
-        crate::copy(ring, 2 * n, room);
+        copy(ring, 2 * n, room);
         Count::Is(n)
     } else {
         Count::Refused(no)

@@ -6,7 +6,7 @@ use lib.Ieee.{Float, lt}
 use Rattle.scalar.specs.Float.{_⊕_, _⊖_, _⊗_, _⊘_, float, f0}
 use Rattle.plane.specs.declared.Point.{Point}
 use Rattle.ring.specs.Ring.{count, pointAt, nextOf}
-use Rattle.moved.specs.Points.{points}
+use Rattle.ring.specs.Points.{points}
 
 -- x_i * y_j is added, then x_j * y_i subtracted
 unfoldable pub addedOf : Float → Point → Point → Float

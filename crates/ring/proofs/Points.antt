@@ -9,11 +9,10 @@ use lib.ListN.{length, drop, length-append, List·getD-append}
 use lib.Seq.{getD-append-seam, getD-append-add}
 use lib.Ieee.{Float}
 use Rattle.plane.specs.declared.Point.{Point}
 use Rattle.ring.specs.Ring.{count, pointAt}
-use Rattle.ring.specs.Room.{laid}
+use Rattle.ring.specs.Room.{laid, putAt}
 use Rattle.ring.proofs.Emit.{emit2}
-use Rattle.moved.specs.Points.{points}
-use Rattle.moved.specs.Moved.{putAt}
+use Rattle.ring.specs.Points.{points}
 
 pub points-length : (f : ℕ → Point) (n : ℕ) → length (points f n) ≡ 2 * n
 unfolding points

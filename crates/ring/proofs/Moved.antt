@@ -8,10 +8,10 @@ use lib.Seq.{take-at}
 use lib.Ieee.{Float}
 use Rattle.plane.specs.declared.Point.{Point}
 use Rattle.plane.specs.Vector.{plusOf}
 use Rattle.ring.specs.Ring.{count, pointAt}
 use Rattle.ring.specs.Room.{laid}
-use Rattle.moved.specs.Moved.{movedAt, movedOf}
-use Rattle.moved.proofs.Points.{points-length, points-count, points-at}
+use Rattle.ring.specs.Moved.{movedAt, movedOf}
+use Rattle.ring.proofs.Points.{points-length, points-count, points-at}
 
 module _ (r : List Float) (p : Point) where
   -- vertex i, moved

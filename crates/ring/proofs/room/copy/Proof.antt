@@ -1,21 +1,20 @@
--- `simplify::copy` meets its contract. The invariant: the first i numbers are written, and the rest of the room is as it came. Assumes nothing.
+-- `ring::room::copy` meets its contract. The invariant: the first i numbers are written, and the rest of the room is as it came. Assumes nothing.
 use native.Mathlib.Omega.{arith}
 use borrow.Author.Needs.{needs}
 use Prim.Native.Nat.{_-_, _≤_}
 use mathlib.Core.Path.{_≡_, refl}
 use mathlib.Core.List.{_++_}
 use lib.ListN.{length, take, drop, length-set}
-use lib.Seq.{take-length}
 use lib.Ieee.{nan}
 use Rattle.ring.proofs.Emit.{emit-next, emit-all}
-use Rattle.simplify.proofs.copy.Statement.{statement}
-use Rattle.simplify.proofs.copy.Tie as tie
+use Rattle.ring.proofs.room.copy.Statement.{statement}
+use Rattle.ring.proofs.room.copy.Tie as tie
 
 abbrev Inv-loop : tie.InvT-loop
-Inv-loop list room₀ i₀ room i = (i ≤ length list) × (length room ≡ length room₀) × (room ≡ take i list ++ drop i room₀)
+Inv-loop list len room₀ i₀ room i = (i ≤ len) × (length room ≡ length room₀) × (room ≡ take i list ++ drop i room₀)
 
 abbrev μ-loop : tie.MeasureT-loop
-μ-loop list room₀ i₀ room i = length list - i
+μ-loop list len room₀ i₀ room i = len - i
 
 loop-holds : tie.Need-loop-holds Inv-loop μ-loop
 loop-holds c = (omega arith, refl, refl)
@@ -40,17 +39,15 @@ loop-less c = omega arith
 
 loop-again : tie.Need-loop-again Inv-loop μ-loop
 loop-again c =
-    let v = c .before .before .loop .inv in
+    let l = c .before .before in
+    let v = l .loop .inv in
     (omega arith, simp length-set (v .1), emit-next _ _ _ _ nan (omega arith) (omega arith) (v .2))
 
 same-length : tie.Need-same-length Inv-loop μ-loop
 same-length c = search needs
 
 returns : tie.Need-returns Inv-loop μ-loop
-returns c =
-    let l = c .before in
-    let a = l .before .args in
-    rw take-length at (emit-all (a .list .now) _ _ _ (length (a .list .now)) (l .loop .inv .0) (c .loop-test .left) (omega arith) (l .loop .inv .2))
+returns c = emit-all _ _ _ _ _ (c .before .loop .inv .0) (c .loop-test .left) (c .before .before .pre .0) (c .before .loop .inv .2)
 
 pub copy-spec : {M : Type 1} → statement M
 copy-spec =

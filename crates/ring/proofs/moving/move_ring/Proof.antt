@@ -1,16 +1,16 @@
--- `moved::move_ring` meets its contract. The invariant: the first i vertices are written, and the rest of the room is as it came. Assumes nothing.
+-- `ring::moving::move_ring` meets its contract. The invariant: the first i vertices are written, and the rest of the room is as it came. Assumes nothing.
 use native.Mathlib.Omega.{arith}
 use borrow.Author.Needs.{needs}
 use Prim.Native.Nat.{_*_, _-_, _≤_}
 use mathlib.Core.Path.{_≡_, refl}
 use mathlib.Core.List.{_++_}
 use lib.ListN.{length, drop}
-use Rattle.moved.specs.Points.{points}
-use Rattle.moved.specs.Moved.{movedAt, movedOf}
-use Rattle.moved.proofs.Points.{put-next, put-all}
-use Rattle.moved.proofs.Moved.{moved-at}
-use Rattle.moved.proofs.move_ring.Statement.{statement}
-use Rattle.moved.proofs.move_ring.Tie as tie
+use Rattle.ring.specs.Points.{points}
+use Rattle.ring.specs.Moved.{movedAt, movedOf}
+use Rattle.ring.proofs.Points.{put-next, put-all}
+use Rattle.ring.proofs.Moved.{moved-at}
+use Rattle.ring.proofs.moving.move_ring.Statement.{statement}
+use Rattle.ring.proofs.moving.move_ring.Tie as tie
 
 abbrev Inv-loop : tie.InvT-loop
 Inv-loop ring by room₀ n i₀ room i = (i ≤ n) × (length room ≡ length room₀) × (room ≡ points (movedAt ring by) i ++ drop (2 * i) room₀)

@@ -1,9 +1,9 @@
--- `moved::put` meets its contract: two stores. Assumes nothing.
+-- `ring::room::put` meets its contract: two stores. Assumes nothing.
 use borrow.Author.Needs.{needs}
 use mathlib.Core.Path.{refl}
-use Rattle.moved.specs.Moved.{putAt}
-use Rattle.moved.proofs.put.Statement.{statement}
-use Rattle.moved.proofs.put.Tie as tie
+use Rattle.ring.specs.Room.{putAt}
+use Rattle.ring.proofs.room.put.Statement.{statement}
+use Rattle.ring.proofs.room.put.Tie as tie
 
 mul-room : tie.Need-mul-room
 mul-room c = search needs

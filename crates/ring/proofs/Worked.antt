@@ -4,9 +4,9 @@ use mathlib.Core.List.{List, [], _∷_}
 use lib.Ieee.{Float, add, ofBits}
 use Rattle.scalar.specs.Float.{float, f0, f1}
 use Rattle.plane.specs.Vector.{point, plusOf}
 use Rattle.ring.specs.Ring.{pointAt}
-use Rattle.moved.specs.Points.{points}
-use Rattle.moved.specs.Moved.{movedOf}
+use Rattle.ring.specs.Points.{points}
+use Rattle.ring.specs.Moved.{movedOf}
 
 abbrev pub f2 : Float
 f2 = float 0x4000_0000_0000_0000
