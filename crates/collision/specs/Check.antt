@@ -43,5 +43,6 @@ sweepOf move tol =
     let len = lengthOf move in
     record { dir = point (move .x ⊘ len) (move .y ⊘ len); limit = len ⊖ tol; tolerance = tol }
 
+-- `check_translation_collision`: nothing where the move is shorter than the tolerance
 unfoldable pub collisionOf : List Float → List Float → Point → Float → Collision
 collisionOf st orb move tol = cond (lt (lengthOf move) tol) Nothing (bothOf st orb (sweepOf move tol))

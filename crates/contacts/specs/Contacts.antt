@@ -26,7 +26,7 @@ touchesAt st orb tol k = touching st orb tol (pairOf (count st) (count orb) k)
 abbrev pub contactsFrom : List Float → List Float → Float → ℕ → List ℕ
 contactsFrom st orb tol k = picks (touchesAt st orb tol) k (pairCount (count st) (count orb) - k)
 
--- all contacts
+-- `find_contacts`: all contacts
 abbrev pub contactsOf : List Float → List Float → Float → List ℕ
 contactsOf st orb tol = contactsFrom st orb tol 0
 

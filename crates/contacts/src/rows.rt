@@ -14,14 +14,14 @@ ghost use mathlib.Core.Path.{_≡_};
 ghost use mathlib.Core.Bool.{_&&_};
 ghost use Prim.Native.Nat.{_+_, _*_, _<_, _≤_};
 ghost use Rattle.plane.specs.Vector.{minusOf, parallelOf};
-ghost use Rattle.plane.specs.Segment.{onSegmentOf};
+ghost use Rattle.plane.specs.Segment.{nearSegmentOf};
 ghost use Rattle.ring.specs.Ring.{count};
 ghost use Rattle.bounds.specs.Bounds.{Around};
 ghost use Rattle.contacts.specs.Rows.{First, onEdge, alongEdge, onEdgeAt, alongEdgeAt};
 
 // Whether a point is nearer to a segment than tol; its foot is worked out only where the segment is not beside it.
 fn is_on(p: Point, a: Point, b: Point, tol: f64) -> bool
-    ensures { λ r. ⌜ r ≡ onSegmentOf p a b tol ⌝ }
+    ensures { λ r. ⌜ r ≡ nearSegmentOf p a b tol ⌝ }
 {
     if is_beside(p, a, b, tol) {
         return false;

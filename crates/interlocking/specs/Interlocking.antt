@@ -52,5 +52,6 @@ unfoldable pub firstFound : (ℕ → Found) → ℕ → ℕ → Found
 firstFound f k zero = Nothing
 firstFound f k (suc more) = orElse (f k) (firstFound f (suc k) more)
 
+-- `detect_interlocking_opportunity`: the first position that a vertex gives
 unfoldable pub interlockOf : List Float → List Float → Point → Float → Found
 interlockOf s o current tol = firstFound (candidateOf s o current tol (leastOf o)) 0 (count s)

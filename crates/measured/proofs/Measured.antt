@@ -5,7 +5,7 @@ use lib.Ieee.{round, add, sub, mul, div, lt, le, eq, neg, ofBits, toBits}
 use Rattle.scalar.specs.Scalar.{absOf, minusZero, ahead, orNumber, smallerOf, largerOf, clampOf}
 use Rattle.square_root.specs.Root.{sqrtOf}
 use Rattle.plane.specs.Vector.{minusOf, plusOf, dotOf, crossOf, lengthOf, distanceOf, parallelOf, turnOf}
-use Rattle.plane.specs.Segment.{clampedFoot, projectOf, alongOf, toSegmentOf, onSegmentOf}
+use Rattle.plane.specs.Segment.{clampedFoot, projectOf, alongOf, toSegmentOf, nearSegmentOf}
 use Rattle.ring.specs.Each.{each}
 use Rattle.ring.specs.Ring.{pointAt, previousVertex}
 use Rattle.ring.specs.Points.{points}
@@ -49,7 +49,7 @@ starting-holds = (refl, record {})
 
 -- the contacts' numbers in the scan
 numbers : contactsOf S there tolerance ≡ 8 ∷ 12 ∷ 15 ∷ 18 ∷ 19 ∷ 34 ∷ []
-unfolding picks touching touchesBy edgesOf edgeEnd edgesTouch pairs.pairOf pointAt onSegmentOf toSegmentOf alongOf projectOf clampedFoot clampOf parallelOf absOf crossOf minusOf dotOf lengthOf distanceOf sqrtOf add sub mul div lt neg ofBits round movedOf points plusOf
+unfolding picks touching touchesBy edgesOf edgeEnd edgesTouch pairs.pairOf pointAt nearSegmentOf toSegmentOf alongOf projectOf clampedFoot clampOf parallelOf absOf crossOf minusOf dotOf lengthOf distanceOf sqrtOf add sub mul div lt neg ofBits round movedOf points plusOf
 numbers = refl
 
 contacts-hold : AllHold contacts

@@ -4,7 +4,7 @@ use crate::vector::distance;
 use crate::vector::dot;
 use crate::vector::minus;
 ghost use mathlib.Core.Path.{_≡_};
-ghost use Rattle.plane.specs.Segment.{clampedFoot, projectOf, alongOf, toSegmentOf, segmentDistanceOf, footOf};
+ghost use Rattle.plane.specs.Segment.{clampedFoot, projectOf, alongOf, toSegmentOf, segmentDistanceOf, ringFootOf};
 
 // The parameter of the foot of p on the line from a along d, whose squared length is len2, cut to 0 .. 1.
 fn clamped_foot(p: Point, a: Point, d: Point, len2: f64) -> f64
@@ -46,7 +46,7 @@ pub fn point_to_segment_distance(point: Point, p1: Point, p2: Point) -> f64
 
 // The parameter of the foot of p on the segment a b, 0 where the segment has no length: the ring predicates' own form.
 fn foot(p: Point, a: Point, b: Point) -> f64
-    ensures { λ r. ⌜ r ≡ footOf p a b ⌝ }
+    ensures { λ r. ⌜ r ≡ ringFootOf p a b ⌝ }
 {
     let d = minus(b, a);
     let len2 = dot(d, d);

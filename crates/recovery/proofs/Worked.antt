@@ -17,7 +17,7 @@ use Rattle.first_best.specs.Best.{better, over, nest}
 use Rattle.moved.specs.Answers.{positionRefusal}
 use Rattle.ring.proofs.Worked.{f2, f3, f4, f6, f8, S}
 use Rattle.centroid.specs.Centroid.{grownOf, momentsTo, centroidOf}
-use Rattle.recovery.specs.Recovery.{footAt, closestOf, towardOf, moveTo, recoverOf}
+use Rattle.recovery.specs.Recovery.{closestOn, closestOf, towardOf, moveTo, recoverOf}
 use Rattle.recovery.specs.Calls.{recoverCall}
 
 -- 1e-6
@@ -32,11 +32,11 @@ abbrev beside : List Float
 beside = f4 ∷ f1 ∷ f6 ∷ f1 ∷ f6 ∷ f3 ∷ f4 ∷ f3 ∷ []
 
 drawn : recoverCall S away (point f6 f1) tolerance ≡ answers (some (point (float 0x4010_6918_dafa_053d) (float 0x3fd7_85d9_e535_7144)))
-unfolding positionRefusal every coordinate finite recoverOf moveTo towardOf closestOf nest over better footAt centroidOf momentsTo grownOf aheadOf projectOf clampedFoot alongOf clampOf pointAt minusOf dotOf lengthOf distanceOf normalizeOf absOf sqrtOf add sub mul div lt le eq neg ofBits
+unfolding positionRefusal every coordinate finite recoverOf moveTo towardOf closestOf nest over better closestOn centroidOf momentsTo grownOf aheadOf projectOf clampedFoot alongOf clampOf pointAt minusOf dotOf lengthOf distanceOf normalizeOf absOf sqrtOf add sub mul div lt le eq neg ofBits
 drawn = refl
 
 stays : recoverCall S beside (point f4 f1) tolerance ≡ answers none
-unfolding positionRefusal every coordinate finite recoverOf moveTo closestOf nest over better footAt projectOf clampedFoot alongOf clampOf pointAt minusOf dotOf lengthOf distanceOf absOf sqrtOf add sub mul div lt le eq neg ofBits
+unfolding positionRefusal every coordinate finite recoverOf moveTo closestOf nest over better closestOn projectOf clampedFoot alongOf clampOf pointAt minusOf dotOf lengthOf distanceOf absOf sqrtOf add sub mul div lt le eq neg ofBits
 stays = refl
 
 -- 2 of the position comes before 3

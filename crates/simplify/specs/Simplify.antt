@@ -28,7 +28,7 @@ unfoldable pub survivors : List Float → Float → ℕ → List Float
 survivors r tol zero = []
 survivors r tol (suc k) = survivors r tol k ++ piece r tol k
 
--- fewer than three points are kept as they are, and so is the whole list where fewer than three survive
+-- `simplify_polygon`: fewer than three points are kept as they are, and so is the whole list where fewer than three survive
 unfoldable pub simplified : List Float → Float → List Float
 simplified r tol =
     let s = survivors r tol (count r) in

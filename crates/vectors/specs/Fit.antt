@@ -39,6 +39,6 @@ unfoldable pub kept : (TranslationVector → Bool) → List Sourced → List Sou
 kept p [] = []
 kept p (s ∷ ss) = keepIf (p (s .slide)) s (kept p ss)
 
--- the vectors that lead to no visited position
+-- `handle_perfect_fit`: the vectors that lead to no visited position
 abbrev pub fitOf : List Float → List Float → Point → List Float → Float → List Sourced
 fitOf st orb from visited tol = kept (keeps from visited tol) (vectorsOf st orb tol)

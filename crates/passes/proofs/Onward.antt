@@ -1,4 +1,4 @@
--- The turn of a run by what its pass came to, and one unfolding of `runOf` by what a turn left. Assumes nothing.
+-- What comes after a pass, by what the pass came to, and one unfolding of `runOf` by what a pass left. Assumes nothing.
 use Prim.Native.Nat.{ℕ, zero, suc, _+_, _*_, _-_, _≤_, _<_}
 use native.Mathlib.Omega.{arith}
 use mathlib.Core.Path.{_≡_, refl, sym, ap, _∙_}
@@ -13,30 +13,30 @@ use Rattle.pass.specs.declared.Pose.{Pose}
 use Rattle.pass.specs.declared.Step.{Step}
 use Rattle.pass.specs.declared.Step.the-variants.{Stop, Stay, Store}
 use Rattle.passes.specs.declared.run.State.{State}
-use Rattle.passes.specs.declared.run.Turn.{Turn}
-use Rattle.passes.specs.declared.run.Turn.the-variants.{Halt, Full, Go}
-use Rattle.passes.specs.Run.{turned, turnBy, turnOf, runOf, done, state}
+use Rattle.passes.specs.declared.run.After.{After}
+use Rattle.passes.specs.declared.run.After.the-variants.{Halt, Full, Go}
+use Rattle.passes.specs.Run.{afterwards, afterBy, afterOf, runOf, done, state}
 
 module _ (s : Scene) (st : State) (room : List Float) {o : Step} (e : o ≡ passOf s (take (2 * st .stored) room) (st .pose)) where
-  pub turn-stop : {reason : ℕ} → o ≡ Stop reason → turnOf s st room ≡ turned (Halt reason) room
-  unfolding turnOf turnBy
-  turn-stop q = rw (← e, q) refl
+  pub after-stop : {reason : ℕ} → o ≡ Stop reason → afterOf s st room ≡ afterwards (Halt reason) room
+  unfolding afterOf afterBy
+  after-stop q = rw (← e, q) refl
 
-  pub turn-stay : {pose : Pose} → o ≡ Stay pose → turnOf s st room ≡ turned (Go (state pose (st .stored))) room
-  unfolding turnOf turnBy
-  turn-stay q = rw (← e, q) refl
+  pub after-stay : {pose : Pose} → o ≡ Stay pose → afterOf s st room ≡ afterwards (Go (state pose (st .stored))) room
+  unfolding afterOf afterBy
+  after-stay q = rw (← e, q) refl
 
-  pub turn-full : {pose : Pose} → o ≡ Store pose → length room - 2 * st .stored < 2 → turnOf s st room ≡ turned Full room
-  unfolding turnOf turnBy
-  turn-full q h = rw (← e, q, lt-ltb _ _ h) refl
+  pub after-full : {pose : Pose} → o ≡ Store pose → length room - 2 * st .stored < 2 → afterOf s st room ≡ afterwards Full room
+  unfolding afterOf afterBy
+  after-full q h = rw (← e, q, lt-ltb _ _ h) refl
 
-  pub turn-store : {pose : Pose} → o ≡ Store pose → 2 ≤ length room - 2 * st .stored
-      → turnOf s st room ≡ turned (Go (state pose (st .stored + 1))) (putAt room (st .stored) (pose .position))
-  unfolding turnOf turnBy
-  turn-store q h = rw (← e, q, le-ltb _ _ h) refl
+  pub after-store : {pose : Pose} → o ≡ Store pose → 2 ≤ length room - 2 * st .stored
+      → afterOf s st room ≡ afterwards (Go (state pose (st .stored + 1))) (putAt room (st .stored) (pose .position))
+  unfolding afterOf afterBy
+  after-store q h = rw (← e, q, le-ltb _ _ h) refl
 
-module _ (s : Scene) (limit p : ℕ) (st : State) (room room' : List Float) (r : Turn) (l : p < limit)
-    (e : r ≡ turnOf s st room .answer) (f : room' ≡ turnOf s st room .room) where
+module _ (s : Scene) (limit p : ℕ) (st : State) (room room' : List Float) (r : After) (l : p < limit)
+    (e : r ≡ afterOf s st room .answer) (f : room' ≡ afterOf s st room .room) where
   fuel : limit - p ≡ suc (limit - (p + 1))
   fuel = omega arith
 

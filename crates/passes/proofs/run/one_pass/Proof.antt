@@ -1,12 +1,12 @@
--- `passes::run::one_turn` meets its contract: `proofs/Turns.antt` has its four cases. Assumes nothing.
+-- `passes::run::one_pass` meets its contract: `proofs/Onward.antt` has its four cases. Assumes nothing.
 use native.Mathlib.Omega.{arith}
 use borrow.Author.Needs.{needs}
 use mathlib.Core.Path.{sym, ap, _∙_}
 use lib.Seq.{length-take-le}
-use Rattle.passes.proofs.Turns.{turn-stop, turn-stay, turn-full, turn-store}
-use Rattle.passes.specs.Run.{Turned}
-use Rattle.passes.proofs.run.one_turn.Statement.{statement}
-use Rattle.passes.proofs.run.one_turn.Tie as tie
+use Rattle.passes.proofs.Onward.{after-stop, after-stay, after-full, after-store}
+use Rattle.passes.specs.Run.{Afterwards}
+use Rattle.passes.proofs.run.one_pass.Statement.{statement}
+use Rattle.passes.proofs.run.one_pass.Tie as tie
 
 mul-len : tie.Need-mul-len
 mul-len c = search needs
@@ -37,8 +37,8 @@ same-length c = search needs
 
 returns : tie.Need-returns
 returns c =
-    let h = turn-full _ _ _ (c .before .before .before .before .pass .ensures) (c .before .before .next2 .given .1) (c .if1 .taken) in
-    (sym (ap (λ (d : Turned). d .answer) h), sym (ap (λ (d : Turned). d .room) h), tt)
+    let h = after-full _ _ _ (c .before .before .before .before .pass .ensures) (c .before .before .next2 .given .1) (c .if1 .taken) in
+    (sym (ap (λ (d : Afterwards). d .answer) h), sym (ap (λ (d : Afterwards). d .room) h), tt)
 
 add-more : tie.Need-add-more
 add-more c = search needs
@@ -51,16 +51,16 @@ same-length-2 c = search needs
 
 returns-2 : tie.Need-returns-2
 returns-2 c =
-    let h = turn-stop _ _ _ (c .before .before .before .pass .ensures) (c .before .reason .given .1) in
-    (sym (ap (λ (d : Turned). d .answer) h), sym (ap (λ (d : Turned). d .room) h), tt)
+    let h = after-stop _ _ _ (c .before .before .before .pass .ensures) (c .before .reason .given .1) in
+    (sym (ap (λ (d : Afterwards). d .answer) h), sym (ap (λ (d : Afterwards). d .room) h), tt)
 
 same-length-3 : tie.Need-same-length-3
 same-length-3 c = search needs
 
 returns-3 : tie.Need-returns-3
 returns-3 c =
-    let h = turn-stay _ _ _ (c .before .before .before .pass .ensures) (c .before .next .given .1) in
-    (sym (ap (λ (d : Turned). d .answer) h), sym (ap (λ (d : Turned). d .room) h), omega (arith, c .before .before .before .before .before .before .before .before .before .pre .1 .1 .1))
+    let h = after-stay _ _ _ (c .before .before .before .pass .ensures) (c .before .next .given .1) in
+    (sym (ap (λ (d : Afterwards). d .answer) h), sym (ap (λ (d : Afterwards). d .room) h), omega (arith, c .before .before .before .before .before .before .before .before .before .pre .1 .1 .1))
 
 same-length-4 : tie.Need-same-length-4
 same-length-4 c = search needs
@@ -68,11 +68,11 @@ same-length-4 c = search needs
 returns-4 : tie.Need-returns-4
 returns-4 c =
     let b = c .before .before .before .before .before in
-    let h = turn-store _ _ _ (b .before .before .before .before .pass .ensures) (b .before .before .next2 .given .1) (b .if1 .left) in
-    (sym (ap (λ (d : Turned). d .answer) h), c .before .before .put .ensures ∙ sym (ap (λ (d : Turned). d .room) h), omega arith)
+    let h = after-store _ _ _ (b .before .before .before .before .pass .ensures) (b .before .before .next2 .given .1) (b .if1 .left) in
+    (sym (ap (λ (d : Afterwards). d .answer) h), c .before .before .put .ensures ∙ sym (ap (λ (d : Afterwards). d .room) h), omega arith)
 
-pub one-turn-spec : {M : Type 1} → statement M
-one-turn-spec =
+pub one-pass-spec : {M : Type 1} → statement M
+one-pass-spec =
     tie.close
     (tie.spec
     mul-len
