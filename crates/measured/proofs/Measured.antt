@@ -20,8 +20,8 @@ use Rattle.contacts.specs.Contacts.{picks, contactsOf, whichOf, pointsOf}
 use Rattle.find_contacts.specs.Calls.{findRefusal}
 use Rattle.collision.specs.Ray.{rayWithin, rayOf, edgeRay}
 use Rattle.collision.specs.Hit.{countedOf, nearer}
-use Rattle.collision.specs.Check.{pairOf, scanOf, backOf, bothOf, sweepOf, collisionOf}
-use Rattle.collision.specs.Nearest.{pairAt, rayAt}
+use Rattle.collision.specs.Check.{hitOf, scanOf, backOf, bothOf, sweepOf, collisionOf}
+use Rattle.collision.specs.Nearest.{rayAt}
 use Rattle.collision.specs.Calls.{collisionRefusal}
 use Rattle.simplify.specs.Simplify.{staysOf, piece, survivors, simplified}
 use Rattle.simplify.specs.Calls.{simplifyRefusal}
@@ -57,7 +57,7 @@ unfolding contacts findRefusal ofTwoPolygons every coordinate lt le eq neg ofBit
 contacts-hold = (rw numbers refl, (rw numbers refl, (rw numbers refl, record {})))
 
 moves-hold : AllHold moves
-unfolding moves collisionRefusal every coordinate finite collisionOf sweepOf bothOf backOf scanOf pairOf nest over better nearer countedOf edgeRay rayOf rayWithin pairAt rayAt largerOf orNumber ahead minusZero absOf pointAt minusOf crossOf lengthOf dotOf sqrtOf add sub mul div lt le eq neg ofBits round movedOf points plusOf
+unfolding moves collisionRefusal every coordinate finite collisionOf sweepOf bothOf backOf scanOf hitOf nest over better nearer countedOf edgeRay rayOf rayWithin pairs.pairOf rayAt largerOf orNumber ahead minusZero absOf pointAt minusOf crossOf lengthOf dotOf sqrtOf add sub mul div lt le eq neg ofBits round movedOf points plusOf
 moves-hold = (refl, (refl, (refl, (refl, (refl, (refl, record {}))))))
 
 path-holds : AllHold path
