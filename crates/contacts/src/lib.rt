@@ -15,7 +15,10 @@ ghost use Rattle.ring.specs.Ring.{count};
 ghost use Rattle.pairs.specs.Pairs.{Sides, Within, pairCount};
 ghost use Rattle.contacts.specs.Touching.{edgeEnd, edgesOf};
 ghost use Rattle.contacts.specs.Rows.{Framed};
-ghost use Rattle.contacts.specs.Contacts.{contactsFrom, nextOf};
+ghost use Rattle.contacts.specs.Contacts.{contactsFrom, nextOf, hasContact};
+
+// How many numbers a contact takes of those that say which it is: its kind, its stationary and its orbiting index.
+pub const ENTRY: usize = 3;
 
 // The two edges of a pair: a b of the stationary ring, c d of the orbiting one.
 pub struct Edges {
@@ -158,4 +161,15 @@ pub fn next_contact(stationary: &[f64], orbiting: &[f64], tol: f64, from: usize)
         tol,
         from,
     )
+}
+
+// Whether there is a contact.
+pub fn has_contact(stationary: &[f64], orbiting: &[f64], tol: f64) -> bool
+    requires { ⌜ Sides (count (now stationary)) (count (now orbiting)) ⌝ }
+    ensures { λ r. ⌜ r ≡ hasContact (now (stationary .entry)) (now (orbiting .entry)) tol ⌝ }
+{
+    match next_contact(stationary, orbiting, tol, 0) {
+        Next::Nothing => false,
+        Next::At(_) => true,
+    }
 }

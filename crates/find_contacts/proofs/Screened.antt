@@ -15,6 +15,7 @@ use Rattle.refusals.specs.declared.Refusal.{Refusal}
 use Rattle.refusals.proofs.First.{on, off, first-assoc}
 use Rattle.refusals.proofs.Sized.{Polygon, held, held-last, two-polygons}
 use Rattle.pairs.specs.Pairs.{Sides}
+use Rattle.contacts.specs.Contacts.{entry}
 use Rattle.find_contacts.specs.Calls.{wrongFit, ofTouching, ofRooms, contactCount, findRefusal}
 
 -- a row of tests in two parts
@@ -63,8 +64,8 @@ module _ (st orb : List Float) (tol : Float) where
   lent-is e h t = lent-sides (rw (← e, ← h) t)
 
   pub find-row : (which points : ℕ)
-      → findRefusal st orb tol which points ≡ first (ofTouching st orb tol) (ofRooms (3 * contactCount st orb tol) which (2 * contactCount st orb tol) points)
+      → findRefusal st orb tol which points ≡ first (ofTouching st orb tol) (ofRooms (entry * contactCount st orb tol) which (2 * contactCount st orb tol) points)
   unfolding ofTouching findRefusal ofRooms
   find-row which points =
       let n = contactCount st orb tol in
-      two-parts (ofTwoPolygons st orb ∷ wrongTolerance tol ∷ []) (wrongFit (3 * n) which) (wrongFit (2 * n) points ∷ [])
+      two-parts (ofTwoPolygons st orb ∷ wrongTolerance tol ∷ []) (wrongFit (entry * n) which) (wrongFit (2 * n) points ∷ [])

@@ -10,7 +10,7 @@ use Rattle.refusals.specs.Refusals.{unless, firstOf}
 use Rattle.refusals.specs.Screens.{ofTwoPolygons, wrongTolerance}
 use Rattle.refusals.specs.Answers.{Outcome, outcome, left}
 use Rattle.refusals.specs.declared.Refusal.{Refusal}
-use Rattle.contacts.specs.Contacts.{contactsOf, whichOf, pointsOf}
+use Rattle.contacts.specs.Contacts.{contactsOf, entry, whichOf, pointsOf}
 
 -- 5: so many numbers do not fit a room
 abbrev pub wrongFit : ℕ → ℕ → Refusal
@@ -31,7 +31,7 @@ contactCount st orb tol = length (contactsOf st orb tol)
 unfoldable pub findRefusal : List Float → List Float → Float → ℕ → ℕ → Refusal
 findRefusal st orb tol which points =
     let n = contactCount st orb tol in
-    firstOf (ofTwoPolygons st orb ∷ wrongTolerance tol ∷ wrongFit (3 * n) which ∷ wrongFit (2 * n) points ∷ [])
+    firstOf (ofTwoPolygons st orb ∷ wrongTolerance tol ∷ wrongFit (entry * n) which ∷ wrongFit (2 * n) points ∷ [])
 
 abbrev pub findCall : List Float → List Float → Float → ℕ → ℕ → Outcome ℕ
 findCall st orb tol which points = outcome (findRefusal st orb tol which points) (contactCount st orb tol)

@@ -1,13 +1,13 @@
 -- One pass of the trace, in the order of `trace_nfp_boundary` of `nfp_sliding.rs`. Definitions only.
 use Prim.Native.Nat.{ℕ, _+_}
-use mathlib.Core.Bool.{cond}
-use mathlib.Core.List.{List, [], _∷_}
+use mathlib.Core.Bool.{cond, not}
+use mathlib.Core.List.{List}
 use lib.Dec.{ltb}
 use lib.Ieee.{Float, lt}
 use Rattle.plane.specs.Vector.{distanceOf}
 use Rattle.plane.specs.declared.Point.{Point}
 use Rattle.refusals.specs.declared.Settings.{Settings}
-use Rattle.contacts.specs.Contacts.{contactsOf}
+use Rattle.contacts.specs.Contacts.{hasContact}
 use Rattle.vectors.specs.Fit.{fitOf}
 use Rattle.selection.specs.Score.{preferredOf}
 use Rattle.ring.specs.Moved.{movedOf}
@@ -60,15 +60,11 @@ unfoldable pub chosen : Choice → Scene → List Float → List Float → Pose 
 chosen choice-is.Nothing s moved path pose = unstickOf (s .stationary) (s .orbiting) (s .settings) pose
 chosen (choice-is.Vector v) s moved path pose = slideOf (s .stationary) moved (s .settings) (s .start) path pose v
 
-abbrev pub ifNone : {A : Type 0} → List ℕ → A → A → A
-ifNone [] a b = a
-ifNone (k ∷ ks) a b = b
-
 -- the pass of the moved polygon
 unfoldable pub passAt : Scene → List Float → List Float → Pose → Step
 passAt s moved path pose =
     let tol = s .settings .«contact_tolerance» in
-    ifNone (contactsOf (s .stationary) moved tol)
+    cond (not (hasContact (s .stationary) moved tol))
     (regainOf (s .stationary) moved tol pose)
     (chosen
     (choiceOf (fitOf (s .stationary) moved (pose .position) path tol) (pose .previous) (preferredOf (s .centroid) (pose .position)))

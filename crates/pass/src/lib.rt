@@ -3,8 +3,7 @@ pub mod slide;
 
 use choose::Choice;
 use choose::choose;
-use contacts::Next;
-use contacts::next_contact;
+use contacts::has_contact;
 use interlocking::detect_interlocking_opportunity;
 use moved::answer::Found;
 use plane::Point;
@@ -102,10 +101,13 @@ fn pass_at(
     let previous = pose.previous;
     let ccw = preferred(centroid, from);
     match choose(stationary, moved, tol, from, path, previous, ccw) {
-        Choice::Nothing => match next_contact(stationary, moved, tol, 0) {
-            Next::Nothing => regain(stationary, moved, tol, pose),
-            Next::At(_) => unstick(stationary, orbiting, settings, pose),
-        },
+        Choice::Nothing => {
+            if has_contact(stationary, moved, tol) {
+                unstick(stationary, orbiting, settings, pose)
+            } else {
+                regain(stationary, moved, tol, pose)
+            }
+        }
         Choice::Vector(v) => slide(stationary, moved, settings, start, path, pose, v),
     }
 }

@@ -1,8 +1,7 @@
 -- `simplify::simplify` meets its contract: the whole list, or what stays of it. Assumes nothing.
 use native.Mathlib.Omega.{arith}
 use borrow.Author.Needs.{needs}
-use lib.Seq.{take-length}
-use Rattle.simplify.proofs.Whole.{few, whole-fits, kept-is, lost, enough, enough-fits}
+use Rattle.simplify.proofs.Whole.{few, whole-fits, copied, kept-is, lost, enough, enough-fits}
 use Rattle.simplify.proofs.simplify.Statement.{statement}
 use Rattle.simplify.proofs.simplify.Tie as tie
 
@@ -21,7 +20,7 @@ returns c =
     let t = d .before .before in
     let a = t .before .before .before .args in
     let e = few (a .list .now) (a .tolerance) (t .if1 .taken) in
-    (rw e, rw e (rw take-length at (d .copy .ensures)))
+    (rw e, copied _ _ _ e (d .copy .ensures))
 
 staying-requires : tie.Need-staying-requires
 staying-requires c κs = search needs
@@ -43,7 +42,7 @@ returns-2 c =
     let l = t .before .before in
     let a = l .before .before .before .args in
     let e = lost (a .list .now) (a .tolerance) (t .before .staying .ensures) (l .if1 .left) (t .if2 .taken) in
-    (rw e, rw e (rw take-length at (d .copy2 .ensures)))
+    (rw e, copied _ _ _ e (d .copy2 .ensures))
 
 gather-requires : tie.Need-gather-requires
 gather-requires c κs =
