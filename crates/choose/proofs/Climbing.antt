@@ -22,11 +22,11 @@ use Rattle.selection.specs.Select.{vectorAt, scoreAt, scoredAt, above, startOf,
 use Rattle.selection.specs.declared.Previous.{Previous}
 use Rattle.selection.specs.declared.Scored.{Scored}
 use Rattle.choose.specs.Choose.{vectorNo, choiceOf, Standing, stands, standing, unset, raised, weighOf, raisedBy, weighedBy, takenBy, climbOf}
-use Rattle.courses.specs.Courses.{vectorIs}
+use Rattle.vectors.specs.Courses.{vectorIs}
 use Rattle.choose.specs.declared.Best.{Best}
 use Rattle.choose.specs.declared.Weighed.{Weighed}
 use Rattle.choose.specs.declared.Weighed.the-variants.{Passed, Raised}
-use Rattle.courses.specs.declared.Course.{Course}
+use Rattle.vectors.specs.declared.course.Course.{Course}
 use Rattle.choose.specs.declared.Choice.{Choice}
 use Rattle.choose.specs.declared.Choice.the-variants.{Nothing, Vector}
 
