@@ -1,6 +1,7 @@
 // The trace of two polygons, its path in a room that the caller lends, and the path simplified.
 use crate::answer::Traced;
 use centroid::centroid;
+use pass::Margins;
 use pass::Pose;
 use passes::run::End;
 use passes::run::State;
@@ -34,7 +35,12 @@ fn follow(stationary: &[f64], orbiting: &[f64], settings: Settings, work: &mut [
         },
         stored: 1,
     };
-    run(stationary, orbiting, settings, middle, start, first, work)
+    let margins = Margins {
+        tolerance: settings.contact_tolerance,
+        smallest: settings.min_translation,
+    };
+    let limit = settings.max_iterations;
+    run(stationary, orbiting, margins, middle, start, limit, first, work)
 }
 
 // The trace of two polygons, each made counter-clockwise.

@@ -37,7 +37,7 @@ often n h = lt-ltb 3 (n + 1) (omega arith)
 
 module _ (s : Scene) (moved path : List Float) (pose : Pose) where
   abbrev tol : Float
-  tol = s .settings .«contact_tolerance»
+  tol = s .margins .tolerance
 
   pub loose : {r : Step} → hasContact (s .stationary) moved tol ≡ false → r ≡ regainOf (s .stationary) moved tol pose → r ≡ passAt s moved path pose
   unfolding passAt
@@ -49,11 +49,11 @@ module _ (s : Scene) (moved path : List Float) (pose : Pose) where
     unfolding passAt
     by h = h ∙ (rw (t, q, p) refl)
 
-    pub stuck : {r : Step} → v ≡ Nothing → r ≡ unstickOf (s .stationary) (s .orbiting) (s .settings) pose → r ≡ passAt s moved path pose
+    pub stuck : {r : Step} → v ≡ Nothing → r ≡ unstickOf (s .stationary) (s .orbiting) (s .margins) pose → r ≡ passAt s moved path pose
     unfolding chosen
     stuck e h = by (rw (e, h))
 
-    slides-there : {r : Step} {w : TranslationVector} → v ≡ Vector w → r ≡ slideOf (s .stationary) moved (s .settings) (s .start) path pose w → r ≡ passAt s moved path pose
+    slides-there : {r : Step} {w : TranslationVector} → v ≡ Vector w → r ≡ slideOf (s .stationary) moved (s .margins) (s .start) path pose w → r ≡ passAt s moved path pose
     unfolding chosen
     slides-there e h = by (rw (e, h))
 
@@ -64,7 +64,7 @@ module _ (s : Scene) (moved path : List Float) (pose : Pose) where
 
   pub slides : {ccw : Point} {v : Choice} {r : Step} {w : TranslationVector} → ccw ≡ preferredOf (s .centroid) (pose .position)
       → v ≡ choiceOf (fitOf (s .stationary) moved (pose .position) path tol) (pose .previous) ccw → v ≡ Vector w
-      → r ≡ slideOf (s .stationary) moved (s .settings) (s .start) path pose w → r ≡ passAt s moved path pose
+      → r ≡ slideOf (s .stationary) moved (s .margins) (s .start) path pose w → r ≡ passAt s moved path pose
   slides {ccw} {v} {r} {w} p q e h = go (hasContact (s .stationary) moved tol) refl
     where
       go : (b : Bool) → hasContact (s .stationary) moved tol ≡ b → r ≡ passAt s moved path pose

@@ -8,7 +8,6 @@ use Rattle.scalar.specs.Float.{_⊖_, _⊗_, float, f0}
 use Rattle.scalar.specs.Scalar.{smallerOf, largerOf}
 use Rattle.plane.specs.Vector.{point, plusOf, distanceOf}
 use Rattle.plane.specs.declared.Point.{Point}
-use Rattle.refusals.specs.declared.Settings.{Settings}
 use Rattle.ring.specs.Ring.{count}
 use Rattle.vectors.specs.Fit.{f10}
 use Rattle.vectors.specs.declared.TranslationVector.{TranslationVector}
@@ -16,6 +15,7 @@ use Rattle.selection.specs.declared.Previous.the-variants.{Direction}
 use Rattle.collision.specs.Check.{collisionOf}
 use Rattle.collision.specs.declared.Collision.{Collision}
 use Rattle.collision.specs.declared.Collision.the-variants.{Nothing, Hit}
+use Rattle.pass.specs.declared.Margins.{Margins}
 use Rattle.pass.specs.declared.Pose.{Pose}
 use Rattle.pass.specs.declared.Step.{Step}
 use Rattle.pass.specs.declared.Step.the-variants.{Stop, Stay, Store}
@@ -41,16 +41,16 @@ unfoldable pub closesOf : List Float → Point → Point → Float → Bool
 closesOf path at start tol = ltb 2 (count path) && lt (distanceOf at start) (tol ⊗ f10)
 
 -- a slide in the direction dir ends at a point: 4 where that closes the path
-unfoldable pub landOf : Settings → Point → List Float → Pose → Point → Point → Step
-landOf s start path pose dir at =
-    cond (closesOf path at start (s .«contact_tolerance»)) (Stop 4)
-    (cond (lt (s .«min_translation») (distanceOf at (pose .position)))
+unfoldable pub landOf : Margins → Point → List Float → Pose → Point → Point → Step
+landOf m start path pose dir at =
+    cond (closesOf path at start (m .tolerance)) (Stop 4)
+    (cond (lt (m .smallest) (distanceOf at (pose .position)))
     (Store (record { position = at; previous = Direction dir; stuck = 0 }))
     (Stay (record { position = at; previous = pose .previous; stuck = 0 })))
 
 -- 3 where the vector, capped at 1000, is shorter than the smallest move
-unfoldable pub slideOf : List Float → List Float → Settings → Point → List Float → Pose → TranslationVector → Step
-slideOf st moved s start path pose v =
+unfoldable pub slideOf : List Float → List Float → Margins → Point → List Float → Pose → TranslationVector → Step
+slideOf st moved m start path pose v =
     let far = smallerOf (v .distance) f1000 in
-    cond (lt far (s .«min_translation»)) (Stop 3)
-    (landOf s start path pose (v .direction) (plusOf (pose .position) (blockedOf st moved (v .direction) far (s .«contact_tolerance»))))
+    cond (lt far (m .smallest)) (Stop 3)
+    (landOf m start path pose (v .direction) (plusOf (pose .position) (blockedOf st moved (v .direction) far (m .tolerance))))

@@ -9,7 +9,6 @@ use moved::answer::Found;
 use plane::Point;
 use plane::vector::distance;
 use recovery::recover_contact;
-use refusals::Settings;
 use ring::moving::move_ring;
 use selection::Previous;
 use selection::preferred;
@@ -20,6 +19,12 @@ ghost use lib.ListN.{length};
 ghost use Rattle.ring.specs.Ring.{count};
 ghost use Rattle.pairs.specs.Pairs.{Sides};
 ghost use Rattle.pass.specs.Pass.{scene, regainOf, unstickOf, passAt, passOf};
+
+// What a pass measures by: the contact tolerance, and the smallest move that is made and stored.
+pub struct Margins {
+    pub tolerance: f64,
+    pub smallest: f64,
+}
 
 // Where the orbiting polygon is, the direction of the slide before, and how often in a row no vector was left.
 pub struct Pose {
@@ -51,20 +56,20 @@ fn regain(stationary: &[f64], moved: &[f64], tol: f64, pose: Pose) -> Step
 }
 
 // Without a vector: to an interlocking position, three times in a row at most.
-fn unstick(stationary: &[f64], orbiting: &[f64], settings: Settings, pose: Pose) -> Step
+fn unstick(stationary: &[f64], orbiting: &[f64], margins: Margins, pose: Pose) -> Step
     requires { ⌜ length (now orbiting) % 2 ≡ 0 ⌝ }
     requires { ⌜ length (now orbiting) ≤ 512 ⌝ }
-    ensures { λ r. ⌜ r ≡ unstickOf (now (stationary .entry)) (now (orbiting .entry)) settings pose ⌝ }
+    ensures { λ r. ⌜ r ≡ unstickOf (now (stationary .entry)) (now (orbiting .entry)) margins pose ⌝ }
 {
     let stuck = pose.stuck;
     if stuck < 3 {
         let from = pose.position;
         let previous = pose.previous;
-        let tol = settings.contact_tolerance;
+        let tol = margins.tolerance;
         match detect_interlocking_opportunity(stationary, orbiting, from, tol) {
             Found::Nothing => Step::Stop(2),
             Found::At(position) => {
-                if distance(position, from) > settings.min_translation {
+                if distance(position, from) > margins.smallest {
                     Step::Store(Pose {
                         position,
                         previous,
@@ -85,7 +90,7 @@ fn pass_at(
     stationary: &[f64],
     orbiting: &[f64],
     moved: &[f64],
-    settings: Settings,
+    margins: Margins,
     centroid: Point,
     start: Point,
     path: &[f64],
@@ -94,21 +99,21 @@ fn pass_at(
     requires { ⌜ length (now orbiting) % 2 ≡ 0 ⌝ }
     requires { ⌜ length (now orbiting) ≤ 512 ⌝ }
     requires { ⌜ Sides (count (now stationary)) (count (now moved)) ⌝ }
-    ensures { λ r. ⌜ r ≡ passAt (scene (now (stationary .entry)) (now (orbiting .entry)) settings centroid start) (now (moved .entry)) (now (path .entry)) pose ⌝ }
+    ensures { λ r. ⌜ r ≡ passAt (scene (now (stationary .entry)) (now (orbiting .entry)) margins centroid start) (now (moved .entry)) (now (path .entry)) pose ⌝ }
 {
-    let tol = settings.contact_tolerance;
+    let tol = margins.tolerance;
     let from = pose.position;
     let previous = pose.previous;
     let ccw = preferred(centroid, from);
     match choose(stationary, moved, tol, from, path, previous, ccw) {
         Choice::Nothing => {
             if has_contact(stationary, moved, tol) {
-                unstick(stationary, orbiting, settings, pose)
+                unstick(stationary, orbiting, margins, pose)
             } else {
                 regain(stationary, moved, tol, pose)
             }
         }
-        Choice::Vector(v) => slide(stationary, moved, settings, start, path, pose, v),
+        Choice::Vector(v) => slide(stationary, moved, margins, start, path, pose, v),
     }
 }
 
@@ -116,7 +121,7 @@ fn pass_at(
 pub fn pass(
     stationary: &[f64],
     orbiting: &[f64],
-    settings: Settings,
+    margins: Margins,
     centroid: Point,
     start: Point,
     path: &[f64],
@@ -125,7 +130,7 @@ pub fn pass(
     requires { ⌜ length (now orbiting) % 2 ≡ 0 ⌝ }
     requires { ⌜ length (now orbiting) ≤ 512 ⌝ }
     requires { ⌜ Sides (count (now stationary)) (count (now orbiting)) ⌝ }
-    ensures { λ r. ⌜ r ≡ passOf (scene (now (stationary .entry)) (now (orbiting .entry)) settings centroid start) (now (path .entry)) pose ⌝ }
+    ensures { λ r. ⌜ r ≡ passOf (scene (now (stationary .entry)) (now (orbiting .entry)) margins centroid start) (now (path .entry)) pose ⌝ }
 {
     let mut room = [0.0; 512];
     move_ring(orbiting, pose.position, &mut room);
@@ -134,7 +139,7 @@ pub fn pass(
         stationary,
         orbiting,
         &room[..len],
-        settings,
+        margins,
         centroid,
         start,
         path,

@@ -1,10 +1,10 @@
 // The run of the passes: `trace_nfp_boundary` of `nfp_sliding.rs`, the path stored in a room that the caller lends.
 use crate::still::same_pose;
+use pass::Margins;
 use pass::Pose;
 use pass::Step;
 use pass::pass;
 use plane::Point;
-use refusals::Settings;
 use ring::room::put;
 ghost use mathlib.Core.Path.{_≡_};
 ghost use Prim.Native.Nat.{_*_, _%_, _≤_};
@@ -40,7 +40,7 @@ pub struct End {
 fn one_pass(
     stationary: &[f64],
     orbiting: &[f64],
-    settings: Settings,
+    margins: Margins,
     centroid: Point,
     start: Point,
     state: State,
@@ -50,7 +50,7 @@ fn one_pass(
     requires { ⌜ length (now orbiting) ≤ 512 ⌝ }
     requires { ⌜ Sides (count (now stationary)) (count (now orbiting)) ⌝ }
     requires { ⌜ 2 * state .stored ≤ length (now room) ⌝ }
-    ensures { λ r. ⌜ (r ≡ afterOf (scene (now (stationary .entry)) (now (orbiting .entry)) settings centroid start) state (now (room .entry)) .answer) × (now (room .exit) ≡ afterOf (scene (now (stationary .entry)) (now (orbiting .entry)) settings centroid start) state (now (room .entry)) .room) × InRoom r (length (now (room .entry))) ⌝ }
+    ensures { λ r. ⌜ (r ≡ afterOf (scene (now (stationary .entry)) (now (orbiting .entry)) margins centroid start) state (now (room .entry)) .answer) × (now (room .exit) ≡ afterOf (scene (now (stationary .entry)) (now (orbiting .entry)) margins centroid start) state (now (room .entry)) .room) × InRoom r (length (now (room .entry))) ⌝ }
 {
     let stored = state.stored;
     let len = 2 * stored;
@@ -58,7 +58,7 @@ fn one_pass(
     match pass(
         stationary,
         orbiting,
-        settings,
+        margins,
         centroid,
         start,
         &room[..len],
@@ -94,13 +94,14 @@ fn is_still(next: State, state: State) -> bool
     }
 }
 
-// The passes from a state on, as many as the settings allow.
+// The passes from a state on, as many as the limit allows.
 pub fn run(
     stationary: &[f64],
     orbiting: &[f64],
-    settings: Settings,
+    margins: Margins,
     centroid: Point,
     start: Point,
+    limit: u64,
     first: State,
     room: &mut [f64],
 ) -> End
@@ -108,14 +109,13 @@ pub fn run(
     requires { ⌜ length (now orbiting) ≤ 512 ⌝ }
     requires { ⌜ Sides (count (now stationary)) (count (now orbiting)) ⌝ }
     requires { ⌜ 2 * first .stored ≤ length (now room) ⌝ }
-    requires { ⌜ settings .«max_iterations» ≤ 10000 ⌝ }
-    ensures { λ r. ⌜ (r ≡ runOf (scene (now (stationary .entry)) (now (orbiting .entry)) settings centroid start) (settings .«max_iterations») 0 first (now (room .entry)) .end) × (now (room .exit) ≡ runOf (scene (now (stationary .entry)) (now (orbiting .entry)) settings centroid start) (settings .«max_iterations») 0 first (now (room .entry)) .room) ⌝ }
+    requires { ⌜ limit ≤ 10000 ⌝ }
+    ensures { λ r. ⌜ (r ≡ runOf (scene (now (stationary .entry)) (now (orbiting .entry)) margins centroid start) limit 0 first (now (room .entry)) .end) × (now (room .exit) ≡ runOf (scene (now (stationary .entry)) (now (orbiting .entry)) margins centroid start) limit 0 first (now (room .entry)) .room) ⌝ }
 {
-    let limit = settings.max_iterations;
     let mut state = first;
     let mut passes = 0;
     while passes < limit {
-        match one_pass(stationary, orbiting, settings, centroid, start, state, room) {
+        match one_pass(stationary, orbiting, margins, centroid, start, state, room) {
             After::Halt(reason) => {
                 return End {
                     full: false,

@@ -14,12 +14,12 @@ use Rattle.passes.proofs.run.run.Statement.{statement}
 use Rattle.passes.proofs.run.run.Tie as tie
 
 abbrev Inv-loop : tie.InvT-loop
-Inv-loop stationary orbiting settings centroid start room₀ limit state₀ passes₀ room state passes =
+Inv-loop stationary orbiting margins centroid start limit room₀ state₀ passes₀ room state passes =
     (passes ≤ limit) × (length room ≡ length room₀) × (2 * state .stored ≤ length room)
-    × (runOf (scene stationary orbiting settings centroid start) limit 0 state₀ room₀ ≡ runOf (scene stationary orbiting settings centroid start) (limit - passes) passes state room)
+    × (runOf (scene stationary orbiting margins centroid start) limit 0 state₀ room₀ ≡ runOf (scene stationary orbiting margins centroid start) (limit - passes) passes state room)
 
 abbrev μ-loop : tie.MeasureT-loop
-μ-loop stationary orbiting settings centroid start room₀ limit state₀ passes₀ room state passes = limit - passes
+μ-loop stationary orbiting margins centroid start limit room₀ state₀ passes₀ room state passes = limit - passes
 
 loop-holds : tie.Need-loop-holds Inv-loop μ-loop
 loop-holds c = (omega arith, refl, c .before .before .before .pre .1 .1 .1 .0, rw sub-zero refl)
