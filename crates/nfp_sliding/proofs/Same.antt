@@ -14,6 +14,7 @@ use borrow.Author.Tests.{ltb-false}
 use Rattle.plane.specs.declared.Point.{Point}
 use Rattle.ring.specs.Ring.{count}
 use Rattle.ring.specs.Room.{laid, putAt}
+use Rattle.pass.specs.Stop.{passesUsed}
 use Rattle.pass.specs.Pass.{Scene, passOf}
 use Rattle.pass.specs.declared.Pose.{Pose}
 use Rattle.pass.specs.declared.Step.{Step}
@@ -49,7 +50,7 @@ ends held full reason passes stored pose path l e =
 
 pub same-run : (s : Scene) (held : List Float) (k : ℕ) → Claim s held k
 unfolding runOf traceOf afterOf afterBy
-same-run s held zero passes stored pose path l e = ends held false 5 passes stored pose path l e
+same-run s held zero passes stored pose path l e = ends held false passesUsed passes stored pose path l e
 same-run s held (suc k) passes stored pose path l e = go (same-run s held k) (passOf s path pose) refl
   where
     room : List Float

@@ -13,6 +13,7 @@ use Rattle.winding.specs.Winding.{ccwOf}
 use Rattle.start_position.specs.Start.{startOf}
 use Rattle.centroid.specs.Centroid.{centroidOf}
 use Rattle.selection.specs.declared.Previous.the-variants.{None}
+use Rattle.pass.specs.Stop.{passesUsed}
 use Rattle.pass.specs.Pass.{Scene, scene, passOf}
 use Rattle.pass.specs.declared.Margins.{Margins}
 use Rattle.pass.specs.declared.Pose.{Pose}
@@ -42,7 +43,7 @@ follow (Store pose) room passes path go =
 
 -- at most k more passes, so many having been begun: each is the pass from the pose that the one before left, over the path so far
 unfoldable pub traceOf : Scene → ℕ → ℕ → ℕ → Pose → List Float → Trace
-traceOf s room zero passes pose path = ended false 5 passes path
+traceOf s room zero passes pose path = ended false passesUsed passes path
 traceOf s room (suc k) passes pose path = follow (passOf s path pose) room passes path (traceOf s room k (passes + 1))
 
 -- a trace as a run ends it

@@ -40,7 +40,16 @@ fn follow(stationary: &[f64], orbiting: &[f64], settings: Settings, work: &mut [
         smallest: settings.min_translation,
     };
     let limit = settings.max_iterations;
-    run(stationary, orbiting, margins, middle, start, limit, first, work)
+    run(
+        stationary,
+        orbiting,
+        margins,
+        middle,
+        start,
+        limit,
+        first,
+        work,
+    )
 }
 
 // The trace of two polygons, each made counter-clockwise.

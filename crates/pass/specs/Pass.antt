@@ -15,6 +15,7 @@ use Rattle.moved.specs.declared.answer.Found.the-variants as found-is
 use Rattle.recovery.specs.Recovery.{recoverOf}
 use Rattle.interlocking.specs.Interlocking.{interlockOf}
 use Rattle.choose.specs.Choose.{choiceOf}
+use Rattle.pass.specs.Stop.{noContact, noVector}
 use Rattle.pass.specs.Slide.{slideOf}
 use Rattle.pass.specs.declared.Margins.{Margins}
 use Rattle.pass.specs.declared.Pose.{Pose}
@@ -35,26 +36,26 @@ pub record Scene : Type 0 where
 abbrev pub scene : List Float → List Float → Margins → Point → Point → Scene
 scene st orb m c p = record { stationary = st; orbiting = orb; margins = m; centroid = c; start = p }
 
--- where contact was recovered the trace goes on from there; 1 where it was not
+-- where contact was recovered the trace goes on from there
 unfoldable pub regained : Found → Pose → Step
-regained found-is.Nothing pose = Stop 1
+regained found-is.Nothing pose = Stop noContact
 regained (found-is.At p) pose = Stay (record { position = p; previous = pose .previous; stuck = pose .stuck })
 
 unfoldable pub regainOf : List Float → List Float → Float → Pose → Step
 regainOf st moved tol pose = regained (recoverOf st moved (pose .position) tol) pose
 
--- an interlocking position is stored where it is farther than the smallest move; 2 where it is not, and where there is none
+-- an interlocking position is stored where it is farther than the smallest move
 unfoldable pub interlocked : Found → Margins → Pose → Step
-interlocked found-is.Nothing m pose = Stop 2
+interlocked found-is.Nothing m pose = Stop noVector
 interlocked (found-is.At p) m pose =
     cond (lt (m .smallest) (distanceOf p (pose .position)))
     (Store (record { position = p; previous = pose .previous; stuck = pose .stuck + 1 }))
-    (Stop 2)
+    (Stop noVector)
 
--- no vector is left: 2 at the fourth time in a row
+-- no vector is left: the trace ends at the fourth time in a row
 unfoldable pub unstickOf : List Float → List Float → Margins → Pose → Step
 unstickOf st orb m pose =
-    cond (ltb 3 (pose .stuck + 1)) (Stop 2) (interlocked (interlockOf st orb (pose .position) (m .tolerance)) m pose)
+    cond (ltb 3 (pose .stuck + 1)) (Stop noVector) (interlocked (interlockOf st orb (pose .position) (m .tolerance)) m pose)
 
 -- the slide along the vector chosen
 unfoldable pub chosen : Choice → Scene → List Float → List Float → Pose → Step

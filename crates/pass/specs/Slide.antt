@@ -15,6 +15,7 @@ use Rattle.selection.specs.declared.Previous.the-variants.{Direction}
 use Rattle.collision.specs.Check.{collisionOf}
 use Rattle.collision.specs.declared.Collision.{Collision}
 use Rattle.collision.specs.declared.Collision.the-variants.{Nothing, Hit}
+use Rattle.pass.specs.Stop.{shortMove, pathClosed}
 use Rattle.pass.specs.declared.Margins.{Margins}
 use Rattle.pass.specs.declared.Pose.{Pose}
 use Rattle.pass.specs.declared.Step.{Step}
@@ -40,17 +41,17 @@ blockedOf st moved dir far tol = madeOf (collisionOf st moved (timesOf dir far) 
 unfoldable pub closesOf : List Float → Point → Point → Float → Bool
 closesOf path at start tol = ltb 2 (count path) && lt (distanceOf at start) (tol ⊗ f10)
 
--- a slide in the direction dir ends at a point: 4 where that closes the path
+-- a slide in the direction dir ends at a point: the trace ends where that closes the path
 unfoldable pub landOf : Margins → Point → List Float → Pose → Point → Point → Step
 landOf m start path pose dir at =
-    cond (closesOf path at start (m .tolerance)) (Stop 4)
+    cond (closesOf path at start (m .tolerance)) (Stop pathClosed)
     (cond (lt (m .smallest) (distanceOf at (pose .position)))
     (Store (record { position = at; previous = Direction dir; stuck = 0 }))
     (Stay (record { position = at; previous = pose .previous; stuck = 0 })))
 
--- 3 where the vector, capped at 1000, is shorter than the smallest move
+-- the trace ends where the vector, capped at 1000, is shorter than the smallest move
 unfoldable pub slideOf : List Float → List Float → Margins → Point → List Float → Pose → TranslationVector → Step
 slideOf st moved m start path pose v =
     let far = smallerOf (v .distance) f1000 in
-    cond (lt far (m .smallest)) (Stop 3)
+    cond (lt far (m .smallest)) (Stop shortMove)
     (landOf m start path pose (v .direction) (plusOf (pose .position) (blockedOf st moved (v .direction) far (m .tolerance))))

@@ -1,5 +1,6 @@
 // One pass of the trace: the loop's body in `trace_nfp_boundary` of `nfp_sliding.rs`.
 pub mod slide;
+pub mod stop;
 
 use choose::Choice;
 use choose::choose;
@@ -46,7 +47,7 @@ fn regain(stationary: &[f64], moved: &[f64], tol: f64, pose: Pose) -> Step
 {
     let previous = pose.previous;
     match recover_contact(stationary, moved, pose.position, tol) {
-        Found::Nothing => Step::Stop(1),
+        Found::Nothing => Step::Stop(stop::NO_CONTACT),
         Found::At(position) => Step::Stay(Pose {
             position,
             previous,
@@ -67,7 +68,7 @@ fn unstick(stationary: &[f64], orbiting: &[f64], margins: Margins, pose: Pose) -
         let previous = pose.previous;
         let tol = margins.tolerance;
         match detect_interlocking_opportunity(stationary, orbiting, from, tol) {
-            Found::Nothing => Step::Stop(2),
+            Found::Nothing => Step::Stop(stop::NO_VECTOR),
             Found::At(position) => {
                 if distance(position, from) > margins.smallest {
                     Step::Store(Pose {
@@ -76,12 +77,12 @@ fn unstick(stationary: &[f64], orbiting: &[f64], margins: Margins, pose: Pose) -
                         stuck: stuck + 1,
                     })
                 } else {
-                    Step::Stop(2)
+                    Step::Stop(stop::NO_VECTOR)
                 }
             }
         }
     } else {
-        Step::Stop(2)
+        Step::Stop(stop::NO_VECTOR)
     }
 }
 

@@ -2,6 +2,7 @@
 use crate::Margins;
 use crate::Pose;
 use crate::Step;
+use crate::stop;
 use collision::Collision;
 use collision::check_translation_collision;
 use near::is_near;
@@ -58,7 +59,7 @@ fn land(margins: Margins, start: Point, path: &[f64], pose: Pose, dir: Point, at
     ensures { λ r. ⌜ r ≡ landOf margins start (now (path .entry)) pose dir at ⌝ }
 {
     if closes(path, at, start, margins.tolerance) {
-        return Step::Stop(4);
+        return Step::Stop(stop::CLOSED);
     }
     if distance(at, pose.position) > margins.smallest {
         Step::Store(Pose {
@@ -90,7 +91,7 @@ pub fn slide(
 {
     let far = smaller(vector.distance, 1000.0);
     if far < margins.smallest {
-        return Step::Stop(3);
+        return Step::Stop(stop::SHORT_MOVE);
     }
     let dir = vector.direction;
     let by = blocked(stationary, moved, dir, far, margins.tolerance);

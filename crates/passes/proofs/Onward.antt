@@ -8,6 +8,7 @@ use lib.ListN.{length, take}
 use lib.Ieee.{Float}
 use borrow.Author.Tests.{lt-ltb, le-ltb}
 use Rattle.ring.specs.Room.{putAt}
+use Rattle.pass.specs.Stop.{passesUsed}
 use Rattle.pass.specs.Pass.{Scene, passOf}
 use Rattle.pass.specs.declared.Pose.{Pose}
 use Rattle.pass.specs.declared.Step.{Step}
@@ -52,6 +53,6 @@ module _ (s : Scene) (limit p : ℕ) (st : State) (room room' : List Float) (r :
   unfolding runOf
   run-full q = rw (fuel, ← e, q, ← f) refl
 
-pub run-out : (s : Scene) (limit p : ℕ) (st : State) (room : List Float) → limit ≤ p → runOf s (limit - p) p st room ≡ done false 5 p st room
+pub run-out : (s : Scene) (limit p : ℕ) (st : State) (room : List Float) → limit ≤ p → runOf s (limit - p) p st room ≡ done false passesUsed p st room
 unfolding runOf
 run-out s limit p st room h = let z : limit - p ≡ 0 = omega arith in rw z refl

@@ -12,6 +12,7 @@ use borrow.Author.Tests.{eqb-true}
 use Rattle.plane.specs.declared.Point.{Point}
 use Rattle.selection.specs.declared.Previous.{Previous}
 use Rattle.ring.specs.Room.{putAt}
+use Rattle.pass.specs.Stop.{passesUsed}
 use Rattle.pass.specs.Pass.{Scene, passOf}
 use Rattle.pass.specs.declared.Step.{Step}
 use Rattle.pass.specs.declared.Step.the-variants.{Stop, Stay, Store}
@@ -60,7 +61,7 @@ one-afterwards t u e f = rw (e, f) refl
 
 -- the run from a state that a pass leaves as it was
 pub run-still : (s : Scene) (k passes : ℕ) (st : State) (room : List Float) → afterOf s st room ≡ afterwards (Go st) room
-    → runOf s k passes st room ≡ done false 5 (passes + k) st room
+    → runOf s k passes st room ≡ done false passesUsed (passes + k) st room
 unfolding runOf
 run-still s zero passes st room e = let z : passes + 0 ≡ passes = omega arith in rw z refl
 run-still s (suc k) passes st room e =
@@ -70,7 +71,7 @@ run-still s (suc k) passes st room e =
 -- the pass in a run that comes to nothing new
 pub run-stays : (s : Scene) (limit p : ℕ) (st next : State) (room room' : List Float) (r : After) → p ≤ limit
     → r ≡ afterOf s st room .answer → room' ≡ afterOf s st room .room → r ≡ Go next → next ≡ st
-    → runOf s (limit - p) p st room ≡ done false 5 limit st room'
+    → runOf s (limit - p) p st room ≡ done false passesUsed limit st room'
 run-stays s limit p st next room room' r l e f q z =
     let a : afterOf s st room .answer ≡ Go st = sym e ∙ q ∙ ap Go z in
     let b = still-room s st room a in

@@ -6,6 +6,7 @@ use lib.ListN.{length, take}
 use lib.Dec.{ltb}
 use lib.Ieee.{Float}
 use Rattle.ring.specs.Room.{putAt}
+use Rattle.pass.specs.Stop.{passesUsed}
 use Rattle.pass.specs.Pass.{Scene, passOf}
 use Rattle.pass.specs.declared.Pose.{Pose}
 use Rattle.pass.specs.declared.Step.{Step}
@@ -50,9 +51,9 @@ onward (Halt reason) go full stop = stop reason
 onward Full go full stop = full
 onward (Go st) go full stop = go st
 
--- `trace_nfp_boundary`: at most k more passes, so many having been begun. 5: passes used up. The pass that ends the run counts
+-- `trace_nfp_boundary`: at most k more passes, so many having been begun. The pass that ends the run counts
 unfoldable pub runOf : Scene → ℕ → ℕ → State → List Float → Done
-runOf s zero passes st room = done false 5 passes st room
+runOf s zero passes st room = done false passesUsed passes st room
 runOf s (suc k) passes st room =
     onward (afterOf s st room .answer)
     (λ st'. runOf s k (passes + 1) st' (afterOf s st room .room))

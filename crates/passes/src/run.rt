@@ -4,6 +4,7 @@ use pass::Margins;
 use pass::Pose;
 use pass::Step;
 use pass::pass;
+use pass::stop;
 use plane::Point;
 use ring::room::put;
 ghost use mathlib.Core.Path.{_≡_};
@@ -136,7 +137,7 @@ pub fn run(
                 if is_still(next, state) {
                     return End {
                         full: false,
-                        reason: 5,
+                        reason: stop::PASSES,
                         passes: limit,
                         stored: state.stored,
                     };
@@ -148,7 +149,7 @@ pub fn run(
     }
     End {
         full: false,
-        reason: 5,
+        reason: stop::PASSES,
         passes,
         stored: state.stored,
     }
