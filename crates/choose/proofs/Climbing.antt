@@ -1,12 +1,12 @@
 -- The vector chosen on the way, and the one that selection chooses from the list. The invariant over the first k vectors: the best has the score that
 -- selection's has, and, where one is found, is the vector with its index; none is found only where k is 0. Assumes nothing.
-use Prim.Native.Nat.{ℕ, zero, suc, _+_, _*_, _-_, _/_, _≤_, _<_}
+use Prim.Native.Nat.{ℕ, zero, suc, _+_, _*_, _-_, _/_, _≤_}
 use mathlib.Core.Path.{_≡_, refl, sym, ap, _∙_}
 use mathlib.Core.Bool.{Bool, true, false, cond, true≢false}
 use mathlib.Core.List.{List, [], _∷_}
 use native.Mathlib.Omega.{arith}
 use lib.ListN.{length, drop}
-use lib.Ieee.{Float, inf, lt}
+use lib.Ieee.{Float, lt}
 use Rattle.plane.specs.declared.Point.{Point}
 use Rattle.ring.specs.Ring.{count}
 use Rattle.first_best.specs.Best.{over, better}

@@ -66,7 +66,8 @@ fn score(course: Course, previous: Previous, ccw: Point) -> f64
     if is_below(course, 1e-6) { s - 100.0 } else { s }
 }
 
-// What a vector of score s makes of the best so far, whose score is `top`: only a strictly greater score replaces, but the first is always taken.
+// What a vector of score s makes of the best so far, whose score is `top`: only a strictly greater score replaces, but the first is always
+// taken.
 fn raise(found: bool, top: f64, s: f64) -> Weighed
     ensures { λ r. ⌜ r ≡ raisedBy found top s ⌝ }
 {
@@ -130,7 +131,9 @@ fn weigh_both(
     previous: Previous,
     ccw: Point,
 ) -> Best
-    ensures { λ r. ⌜ standing r ≡ weighOf (keeps from (now (visited .entry)) tol) previous ccw (weighOf (keeps from (now (visited .entry)) tol) previous ccw (standing best) (vectorBy kind e 0)) (vectorBy kind e 1) ⌝ }
+    ensures { λ r.
+        ⌜ standing r ≡ weighOf (keeps from (now (visited .entry)) tol) previous ccw
+        (weighOf (keeps from (now (visited .entry)) tol) previous ccw (standing best) (vectorBy kind e 0)) (vectorBy kind e 1) ⌝ }
 {
     let along = along_by(kind, e);
     let one = course_by(kind, e, along, 0);
@@ -173,7 +176,11 @@ fn weigh_contact(
 ) -> Best
     requires { ⌜ Sides (count (now stationary)) (count (now orbiting)) ⌝ }
     requires { ⌜ k < pairCount (count (now stationary)) (count (now orbiting)) ⌝ }
-    ensures { λ r. ⌜ standing r ≡ weighOf (keeps from (now (visited .entry)) tol) previous ccw (weighOf (keeps from (now (visited .entry)) tol) previous ccw (standing best) (vectorOf (now (stationary .entry)) (now (orbiting .entry)) k 0)) (vectorOf (now (stationary .entry)) (now (orbiting .entry)) k 1) ⌝ }
+    ensures { λ r.
+        ⌜ standing r ≡ weighOf (keeps from (now (visited .entry)) tol) previous ccw
+        (weighOf (keeps from (now (visited .entry)) tol) previous ccw (standing best)
+        (vectorOf (now (stationary .entry)) (now (orbiting .entry)) k 0))
+        (vectorOf (now (stationary .entry)) (now (orbiting .entry)) k 1) ⌝ }
 {
     let pair = pair_at(k, stationary.len() / 2, orbiting.len() / 2);
     let e = edges_of(stationary, orbiting, pair);
@@ -191,7 +198,9 @@ fn climb(
     ccw: Point,
 ) -> Best
     requires { ⌜ Sides (count (now stationary)) (count (now orbiting)) ⌝ }
-    ensures { λ r. ⌜ standing r ≡ climbOf previous ccw unset (fitOf (now (stationary .entry)) (now (orbiting .entry)) from (now (visited .entry)) tol) ⌝ }
+    ensures { λ r.
+        ⌜ standing r ≡ climbOf previous ccw unset
+        (fitOf (now (stationary .entry)) (now (orbiting .entry)) from (now (visited .entry)) tol) ⌝ }
 {
     let mut best = Best {
         found: false,

@@ -16,7 +16,7 @@ use Rattle.pairs.specs.Pairs.{pair}
 use Rattle.pairs.specs.declared.Pair.{Pair}
 use Rattle.collision.specs.Hit.{nearer}
 use Rattle.collision.specs.Check.{bothOf, sweepOf, collisionOf}
-use Rattle.collision.specs.Nearest.{pairNo, scans, rayAt, Meets, Blocks, Told, nothing, hit}
+use Rattle.collision.specs.Nearest.{pairNo, scans, rayAt, Blocks, Told, nothing, hit}
 use Rattle.collision.specs.declared.Collision.{Collision}
 use Rattle.collision.specs.declared.Collision.the-variants.{Nothing, Hit}
 use Rattle.collision.proofs.Nearer.{irrefl, asym, behind, weave}

@@ -19,8 +19,8 @@ use Rattle.collision.specs.declared.Ray.the-variants.{At}
 use Rattle.collision.specs.declared.Collision.{Collision}
 use Rattle.collision.specs.declared.Collision.the-variants.{Nothing, Hit}
 
--- the pair with a number in scan order: first, orbiting vertex by orbiting vertex, the stationary edges; then, stationary vertex by stationary
--- vertex, the orbiting edges
+-- the pair with a number in scan order: first, orbiting vertex by orbiting vertex, the stationary edges; then, stationary vertex by
+-- stationary vertex, the orbiting edges
 abbrev pub pairNo : List Float → List Float → ℕ → Pair
 pairNo st orb k = pairOf (count st) (count orb) k
 

@@ -1,4 +1,5 @@
-// What a move runs into: rays against segments, the scan of both kinds of pair, the nearest hit: `check_translation_collision` of `nfp_sliding.rs`.
+// What a move runs into: rays against segments, the scan of both kinds of pair, the nearest hit: `check_translation_collision` of
+// `nfp_sliding.rs`.
 pub mod answer;
 pub mod calls;
 

@@ -12,7 +12,7 @@ use rows::scan_vertices;
 ghost use mathlib.Core.Path.{_≡_};
 ghost use Prim.Native.Nat.{_*_, _<_, _≤_};
 ghost use Rattle.ring.specs.Ring.{count};
-ghost use Rattle.pairs.specs.Pairs.{Sides, Within, pairCount};
+ghost use Rattle.pairs.specs.Pairs.{Sides, Within, pairCount, vertexPairs};
 ghost use Rattle.contacts.specs.Touching.{edgeEnd, edgesOf};
 ghost use Rattle.contacts.specs.Rows.{Framed};
 ghost use Rattle.contacts.specs.Contacts.{contactsFrom, nextOf, hasContact};
@@ -66,7 +66,8 @@ pub fn edges_of(stationary: &[f64], orbiting: &[f64], pair: Pair) -> Edges
 // The first contact of two edges from the pair number `from` on.
 fn next_edges(stationary: &[f64], orbiting: &[f64], frames: Frames, tol: f64, from: usize) -> Next
     requires { ⌜ Sides (count (now stationary)) (count (now orbiting)) ⌝ }
-    requires { ⌜ (2 * (count (now stationary) * count (now orbiting)) ≤ from) × (from ≤ pairCount (count (now stationary)) (count (now orbiting))) ⌝ }
+    requires { ⌜ (vertexPairs (count (now stationary)) (count (now orbiting)) ≤ from)
+        × (from ≤ pairCount (count (now stationary)) (count (now orbiting))) ⌝ }
     requires { ⌜ Framed frames (now stationary) (now orbiting) ⌝ }
     ensures { λ r. ⌜ r ≡ nextOf (contactsFrom (now (stationary .entry)) (now (orbiting .entry)) tol from) ⌝ }
 {
@@ -88,7 +89,8 @@ fn next_edges(stationary: &[f64], orbiting: &[f64], frames: Frames, tol: f64, fr
 // The first contact that is no orbiting vertex on a stationary edge, from the pair number `from` on.
 fn next_later(stationary: &[f64], orbiting: &[f64], frames: Frames, tol: f64, from: usize) -> Next
     requires { ⌜ Sides (count (now stationary)) (count (now orbiting)) ⌝ }
-    requires { ⌜ (count (now stationary) * count (now orbiting) ≤ from) × (from ≤ pairCount (count (now stationary)) (count (now orbiting))) ⌝ }
+    requires { ⌜ (count (now stationary) * count (now orbiting) ≤ from)
+        × (from ≤ pairCount (count (now stationary)) (count (now orbiting))) ⌝ }
     requires { ⌜ Framed frames (now stationary) (now orbiting) ⌝ }
     ensures { λ r. ⌜ r ≡ nextOf (contactsFrom (now (stationary .entry)) (now (orbiting .entry)) tol from) ⌝ }
 {

@@ -116,8 +116,8 @@ fn edge_along_within(
     edge_along(a, b, ring, from, tol)
 }
 
-// The first pair of a vertex of one list and an edge of a ring, in bounds that are around it, that are near, from the vertex v and the edge e on,
-// or the number of pairs.
+// The first pair of a vertex of one list and an edge of a ring, in bounds that are around it, that are near, from the vertex v and the edge
+// e on, or the number of pairs.
 pub fn scan_vertices(
     points: &[f64],
     ring: &[f64],
@@ -129,7 +129,9 @@ pub fn scan_vertices(
     requires { ⌜ (v < count (now points)) × (e < count (now ring)) ⌝ }
     requires { ⌜ (count (now points) ≤ 256) × (count (now ring) ≤ 256) ⌝ }
     requires { ⌜ Around around (now ring) (count (now ring)) ⌝ }
-    ensures { λ r. ⌜ First (onEdgeAt (now (points .entry)) (now (ring .entry)) tol) (v * count (now (ring .entry)) + e) (count (now (points .entry)) * count (now (ring .entry))) r ⌝ }
+    ensures { λ r.
+        ⌜ First (onEdgeAt (now (points .entry)) (now (ring .entry)) tol) (v * count (now (ring .entry)) + e)
+        (count (now (points .entry)) * count (now (ring .entry))) r ⌝ }
 {
     let vn = points.len() / 2;
     let en = ring.len() / 2;
@@ -158,7 +160,9 @@ pub fn scan_edges(
     requires { ⌜ (s < count (now stationary)) × (o < count (now orbiting)) ⌝ }
     requires { ⌜ (count (now stationary) ≤ 256) × (count (now orbiting) ≤ 256) ⌝ }
     requires { ⌜ Around around (now orbiting) (count (now orbiting)) ⌝ }
-    ensures { λ r. ⌜ First (alongEdgeAt (now (stationary .entry)) (now (orbiting .entry)) tol) (s * count (now (orbiting .entry)) + o) (count (now (stationary .entry)) * count (now (orbiting .entry))) r ⌝ }
+    ensures { λ r.
+        ⌜ First (alongEdgeAt (now (stationary .entry)) (now (orbiting .entry)) tol) (s * count (now (orbiting .entry)) + o)
+        (count (now (stationary .entry)) * count (now (orbiting .entry))) r ⌝ }
 {
     let sn = stationary.len() / 2;
     let on = orbiting.len() / 2;

@@ -65,7 +65,8 @@ fn count_contacts(stationary: &[f64], orbiting: &[f64], tol: f64) -> usize
 // A pair's kind and indices, from at on.
 fn put_pair(room: &mut [u64], at: usize, pair: Pair)
     requires { ⌜ at + 2 < length (now room) ⌝ }
-    ensures { λ _. ⌜ now (room .exit) ≡ set (set (set (now (room .entry)) at (pair .kind)) (at + 1) (pair .stationary)) (at + 2) (pair .orbiting) ⌝ }
+    ensures { λ _.
+        ⌜ now (room .exit) ≡ set (set (set (now (room .entry)) at (pair .kind)) (at + 1) (pair .stationary)) (at + 2) (pair .orbiting) ⌝ }
 {
     room[at] = pair.kind as u64;
     room[at + 1] = pair.stationary as u64;
@@ -92,7 +93,12 @@ fn write_contacts(
     requires { ⌜ Sides (count (now stationary)) (count (now orbiting)) ⌝ }
     requires { ⌜ entry * length (contactsOf (now stationary) (now orbiting) tol) ≤ length (now which) ⌝ }
     requires { ⌜ 2 * length (contactsOf (now stationary) (now orbiting) tol) ≤ length (now points) ⌝ }
-    ensures { λ _. ⌜ (now (which .exit) ≡ laid (whichOf (count (now (stationary .entry))) (count (now (orbiting .entry))) (contactsOf (now (stationary .entry)) (now (orbiting .entry)) tol)) (now (which .entry))) × (now (points .exit) ≡ laid (pointsOf (now (stationary .entry)) (now (orbiting .entry)) (contactsOf (now (stationary .entry)) (now (orbiting .entry)) tol)) (now (points .entry))) ⌝ }
+    ensures { λ _.
+        ⌜ now (which .exit) ≡ laid (whichOf (count (now (stationary .entry))) (count (now (orbiting .entry)))
+        (contactsOf (now (stationary .entry)) (now (orbiting .entry)) tol)) (now (which .entry)) ⌝ }
+    ensures { λ _.
+        ⌜ now (points .exit) ≡ laid (pointsOf (now (stationary .entry)) (now (orbiting .entry))
+        (contactsOf (now (stationary .entry)) (now (orbiting .entry)) tol)) (now (points .entry)) ⌝ }
 {
     let sn = stationary.len() / 2;
     let on = orbiting.len() / 2;
@@ -122,7 +128,23 @@ pub fn answer(
     points: &mut [f64],
 ) -> Count
     requires { ⌜ Sides (count (now stationary)) (count (now orbiting)) ⌝ }
-    ensures { λ r. ⌜ (counted r ≡ outcome (ofRooms (entry * contactCount (now (stationary .entry)) (now (orbiting .entry)) tol) (length (now (which .entry))) (2 * contactCount (now (stationary .entry)) (now (orbiting .entry)) tol) (length (now (points .entry)))) (contactCount (now (stationary .entry)) (now (orbiting .entry)) tol)) × (now (which .exit) ≡ left (ofRooms (entry * contactCount (now (stationary .entry)) (now (orbiting .entry)) tol) (length (now (which .entry))) (2 * contactCount (now (stationary .entry)) (now (orbiting .entry)) tol) (length (now (points .entry)))) (laid (whichOf (count (now (stationary .entry))) (count (now (orbiting .entry))) (contactsOf (now (stationary .entry)) (now (orbiting .entry)) tol)) (now (which .entry))) (now (which .entry))) × (now (points .exit) ≡ left (ofRooms (entry * contactCount (now (stationary .entry)) (now (orbiting .entry)) tol) (length (now (which .entry))) (2 * contactCount (now (stationary .entry)) (now (orbiting .entry)) tol) (length (now (points .entry)))) (laid (pointsOf (now (stationary .entry)) (now (orbiting .entry)) (contactsOf (now (stationary .entry)) (now (orbiting .entry)) tol)) (now (points .entry))) (now (points .entry))) ⌝ }
+    ensures { λ r.
+        ⌜ (counted r ≡ outcome
+        (ofRooms (entry * contactCount (now (stationary .entry)) (now (orbiting .entry)) tol) (length (now (which .entry)))
+        (2 * contactCount (now (stationary .entry)) (now (orbiting .entry)) tol) (length (now (points .entry))))
+        (contactCount (now (stationary .entry)) (now (orbiting .entry)) tol))
+        × (now (which .exit) ≡ left
+        (ofRooms (entry * contactCount (now (stationary .entry)) (now (orbiting .entry)) tol) (length (now (which .entry)))
+        (2 * contactCount (now (stationary .entry)) (now (orbiting .entry)) tol) (length (now (points .entry))))
+        (laid (whichOf (count (now (stationary .entry))) (count (now (orbiting .entry)))
+        (contactsOf (now (stationary .entry)) (now (orbiting .entry)) tol)) (now (which .entry)))
+        (now (which .entry)))
+        × (now (points .exit) ≡ left
+        (ofRooms (entry * contactCount (now (stationary .entry)) (now (orbiting .entry)) tol) (length (now (which .entry)))
+        (2 * contactCount (now (stationary .entry)) (now (orbiting .entry)) tol) (length (now (points .entry))))
+        (laid (pointsOf (now (stationary .entry)) (now (orbiting .entry))
+        (contactsOf (now (stationary .entry)) (now (orbiting .entry)) tol)) (now (points .entry)))
+        (now (points .entry))) ⌝ }
 {
     let n = count_contacts(stationary, orbiting, tol);
     let no = rooms(ENTRY * n, which.len(), 2 * n, points.len());

@@ -1,12 +1,12 @@
 -- The run over the room and the trace over the path say the same: what the room holds at the end is the path, and then what it held. The
 -- invariant: the room is the path so far and the rest of what it held. Assumes nothing.
-use Prim.Native.Nat.{ℕ, zero, suc, _+_, _*_, _-_, _/_, _≤_, _<_}
+use Prim.Native.Nat.{ℕ, zero, suc, _+_, _*_, _-_, _/_, _≤_}
 use native.Mathlib.Omega.{arith}
 use native.Mathlib.Numerals.{add-one}
-use mathlib.Core.Path.{_≡_, refl, sym, ap, _∙_}
+use mathlib.Core.Path.{_≡_, refl, sym, _∙_}
 use mathlib.Core.Bool.{Bool, true, false}
-use mathlib.Core.List.{List, [], _∷_, _++_}
-use lib.ListN.{length, take, drop, length-append, length-drop}
+use mathlib.Core.List.{List, _++_}
+use lib.ListN.{length, drop, length-append, length-drop}
 use lib.Seq.{take-at, sets-eq, take-append-seam, drop-append-add, drop-drop}
 use lib.Dec.{ltb}
 use lib.Ieee.{Float}

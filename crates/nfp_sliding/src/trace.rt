@@ -22,7 +22,11 @@ ghost use Rattle.nfp_sliding.specs.Calls.{traced, told, resultAfter};
 // The trace of two counter-clockwise polygons.
 fn follow(stationary: &[f64], orbiting: &[f64], settings: Settings, work: &mut [f64]) -> End
     requires { ⌜ Ready (now stationary) (now orbiting) settings (length (now work)) ⌝ }
-    ensures { λ r. ⌜ (r ≡ endOf (traceFrom (now (stationary .entry)) (now (orbiting .entry)) settings (length (now (work .entry))))) × (now (work .exit) ≡ laid (traceFrom (now (stationary .entry)) (now (orbiting .entry)) settings (length (now (work .entry))) .path) (now (work .entry))) ⌝ }
+    ensures { λ r.
+        ⌜ r ≡ endOf (traceFrom (now (stationary .entry)) (now (orbiting .entry)) settings (length (now (work .entry)))) ⌝ }
+    ensures { λ _.
+        ⌜ now (work .exit) ≡ laid
+        (traceFrom (now (stationary .entry)) (now (orbiting .entry)) settings (length (now (work .entry))) .path) (now (work .entry)) ⌝ }
 {
     let start = find_start_position(stationary, orbiting);
     let middle = centroid(stationary);
@@ -55,7 +59,11 @@ fn follow(stationary: &[f64], orbiting: &[f64], settings: Settings, work: &mut [
 // The trace of two polygons, each made counter-clockwise.
 pub fn trace(stationary: &[f64], orbiting: &[f64], settings: Settings, work: &mut [f64]) -> End
     requires { ⌜ Ready (now stationary) (now orbiting) settings (length (now work)) ⌝ }
-    ensures { λ r. ⌜ (r ≡ endOf (tracedOf (now (stationary .entry)) (now (orbiting .entry)) settings (length (now (work .entry))))) × (now (work .exit) ≡ laid (tracedOf (now (stationary .entry)) (now (orbiting .entry)) settings (length (now (work .entry))) .path) (now (work .entry))) ⌝ }
+    ensures { λ r.
+        ⌜ r ≡ endOf (tracedOf (now (stationary .entry)) (now (orbiting .entry)) settings (length (now (work .entry)))) ⌝ }
+    ensures { λ _.
+        ⌜ now (work .exit) ≡ laid
+        (tracedOf (now (stationary .entry)) (now (orbiting .entry)) settings (length (now (work .entry))) .path) (now (work .entry)) ⌝ }
 {
     let mut s = [0.0; 512];
     let mut o = [0.0; 512];
@@ -70,7 +78,11 @@ pub fn trace(stationary: &[f64], orbiting: &[f64], settings: Settings, work: &mu
 pub fn finish(end: End, tol: f64, work: &[f64], result: &mut [f64]) -> Traced
     requires { ⌜ 2 * end .stored ≤ length (now work) ⌝ }
     requires { ⌜ length (now work) ≤ length (now result) ⌝ }
-    ensures { λ r. ⌜ (traced r ≡ told (ended (end .full) (end .reason) (end .passes) (take (2 * end .stored) (now (work .entry)))) tol) × (now (result .exit) ≡ resultAfter (ended (end .full) (end .reason) (end .passes) (take (2 * end .stored) (now (work .entry)))) tol (now (result .entry))) ⌝ }
+    ensures { λ r.
+        ⌜ traced r ≡ told (ended (end .full) (end .reason) (end .passes) (take (2 * end .stored) (now (work .entry)))) tol ⌝ }
+    ensures { λ _.
+        ⌜ now (result .exit) ≡ resultAfter (ended (end .full) (end .reason) (end .passes) (take (2 * end .stored) (now (work .entry))))
+        tol (now (result .entry)) ⌝ }
 {
     let stored = end.stored;
     if end.full {

@@ -1,5 +1,5 @@
 -- One pass of the trace, in the order of `trace_nfp_boundary` of `nfp_sliding.rs`. Definitions only.
-use Prim.Native.Nat.{ℕ, _+_}
+use Prim.Native.Nat.{_+_}
 use mathlib.Core.Bool.{cond, not}
 use mathlib.Core.List.{List}
 use lib.Dec.{ltb}

@@ -1,5 +1,4 @@
 -- The slide along a vector, in the order of operations of `nfp_sliding.rs`. Definitions only.
-use Prim.Native.Nat.{ℕ}
 use mathlib.Core.Bool.{Bool, _&&_, cond}
 use mathlib.Core.List.{List}
 use lib.Dec.{ltb}

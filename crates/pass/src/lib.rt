@@ -100,7 +100,9 @@ fn pass_at(
     requires { ⌜ length (now orbiting) % 2 ≡ 0 ⌝ }
     requires { ⌜ length (now orbiting) ≤ 512 ⌝ }
     requires { ⌜ Sides (count (now stationary)) (count (now moved)) ⌝ }
-    ensures { λ r. ⌜ r ≡ passAt (scene (now (stationary .entry)) (now (orbiting .entry)) margins centroid start) (now (moved .entry)) (now (path .entry)) pose ⌝ }
+    ensures { λ r.
+        ⌜ r ≡ passAt (scene (now (stationary .entry)) (now (orbiting .entry)) margins centroid start)
+        (now (moved .entry)) (now (path .entry)) pose ⌝ }
 {
     let tol = margins.tolerance;
     let from = pose.position;
@@ -131,7 +133,8 @@ pub fn pass(
     requires { ⌜ length (now orbiting) % 2 ≡ 0 ⌝ }
     requires { ⌜ length (now orbiting) ≤ 512 ⌝ }
     requires { ⌜ Sides (count (now stationary)) (count (now orbiting)) ⌝ }
-    ensures { λ r. ⌜ r ≡ passOf (scene (now (stationary .entry)) (now (orbiting .entry)) margins centroid start) (now (path .entry)) pose ⌝ }
+    ensures { λ r.
+        ⌜ r ≡ passOf (scene (now (stationary .entry)) (now (orbiting .entry)) margins centroid start) (now (path .entry)) pose ⌝ }
 {
     let mut room = [0.0; 512];
     move_ring(orbiting, pose.position, &mut room);

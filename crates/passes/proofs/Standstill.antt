@@ -1,5 +1,5 @@
 -- A pass that comes to nothing new is repeated to the limit. Assumes nothing.
-use Prim.Native.Nat.{ℕ, zero, suc, _+_, _*_, _-_, _≤_, _<_}
+use Prim.Native.Nat.{ℕ, zero, suc, _+_, _*_, _-_, _≤_}
 use native.Mathlib.Omega.{arith}
 use mathlib.Core.Path.{_≡_, refl, sym, ap, _∙_}
 use mathlib.Core.Bool.{Bool, true, false, not, cond, true≢false}
@@ -10,7 +10,6 @@ use lib.Ieee.{Float, nan, inf, fin, binary64, fits, isNan, eq, toBits, ofBits}
 use lib.Ieee.Bits.{ofBits-toBits}
 use borrow.Author.Tests.{eqb-true}
 use Rattle.plane.specs.declared.Point.{Point}
-use Rattle.selection.specs.declared.Previous.{Previous}
 use Rattle.ring.specs.Room.{putAt}
 use Rattle.pass.specs.Stop.{passesUsed}
 use Rattle.pass.specs.Pass.{Scene, passOf}

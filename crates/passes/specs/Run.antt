@@ -44,7 +44,8 @@ pub record Done : Type 0 where
   pub room : List Float
 
 abbrev pub done : Bool → ℕ → ℕ → State → List Float → Done
-done full reason passes st room = record { end = record { full = full; reason = reason; passes = passes; stored = st .stored }; room = room }
+done full reason passes st room =
+    record { end = record { full = full; reason = reason; passes = passes; stored = st .stored }; room = room }
 
 abbrev pub onward : After → (State → Done) → Done → (ℕ → Done) → Done
 onward (Halt reason) go full stop = stop reason

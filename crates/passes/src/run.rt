@@ -51,7 +51,12 @@ fn one_pass(
     requires { ⌜ length (now orbiting) ≤ 512 ⌝ }
     requires { ⌜ Sides (count (now stationary)) (count (now orbiting)) ⌝ }
     requires { ⌜ 2 * state .stored ≤ length (now room) ⌝ }
-    ensures { λ r. ⌜ (r ≡ afterOf (scene (now (stationary .entry)) (now (orbiting .entry)) margins centroid start) state (now (room .entry)) .answer) × (now (room .exit) ≡ afterOf (scene (now (stationary .entry)) (now (orbiting .entry)) margins centroid start) state (now (room .entry)) .room) × InRoom r (length (now (room .entry))) ⌝ }
+    ensures { λ r.
+        ⌜ (r ≡ afterOf (scene (now (stationary .entry)) (now (orbiting .entry)) margins centroid start)
+        state (now (room .entry)) .answer)
+        × (now (room .exit) ≡ afterOf (scene (now (stationary .entry)) (now (orbiting .entry)) margins centroid start)
+        state (now (room .entry)) .room)
+        × InRoom r (length (now (room .entry))) ⌝ }
 {
     let stored = state.stored;
     let len = 2 * stored;
@@ -111,7 +116,12 @@ pub fn run(
     requires { ⌜ Sides (count (now stationary)) (count (now orbiting)) ⌝ }
     requires { ⌜ 2 * first .stored ≤ length (now room) ⌝ }
     requires { ⌜ limit ≤ 10000 ⌝ }
-    ensures { λ r. ⌜ (r ≡ runOf (scene (now (stationary .entry)) (now (orbiting .entry)) margins centroid start) limit 0 first (now (room .entry)) .end) × (now (room .exit) ≡ runOf (scene (now (stationary .entry)) (now (orbiting .entry)) margins centroid start) limit 0 first (now (room .entry)) .room) ⌝ }
+    ensures { λ r.
+        ⌜ r ≡ runOf (scene (now (stationary .entry)) (now (orbiting .entry)) margins centroid start)
+        limit 0 first (now (room .entry)) .end ⌝ }
+    ensures { λ _.
+        ⌜ now (room .exit) ≡ runOf (scene (now (stationary .entry)) (now (orbiting .entry)) margins centroid start)
+        limit 0 first (now (room .entry)) .room ⌝ }
 {
     let mut state = first;
     let mut passes = 0;

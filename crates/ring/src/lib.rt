@@ -1,4 +1,4 @@
-// A ring is lent as x, y alternating: its vertices, the one after and the one before each; a room that holds points, and a ring moved into it.
+// A ring is lent as x, y alternating: its vertices, the one after and the one before each; a room that holds points; a ring moved into it.
 pub mod moving;
 pub mod room;
 

@@ -1,13 +1,12 @@
 -- One edge after the other: what `to_ring` and `one_way` keep from turn to turn. Assumes nothing.
-use Prim.Native.Nat.{ℕ, zero, suc, _+_, _%_, _≤_, _<_}
-use mathlib.Core.Path.{_≡_, refl, sym, ap, _∙_}
+use Prim.Native.Nat.{ℕ, _+_, _≤_, _<_}
+use mathlib.Core.Path.{_≡_, refl, _∙_}
 use mathlib.Core.List.{List}
 use native.Mathlib.Omega.{arith}
 use native.Mathlib.Nat.{mod-eq-of-lt, mod-self}
 use native.Mathlib.Numerals.{add-one}
-use lib.Ieee.{Float, add}
+use lib.Ieee.{Float}
 use lib.Ieee.Fits.{add-fits}
-use Rattle.scalar.specs.Float.{_⊗_}
 use Rattle.scalar.specs.Scalar.{smallerOf}
 use Rattle.plane.specs.Vector.{minusOf, dotOf, root}
 use Rattle.plane.specs.Segment.{clampedFoot, ringFootOf, segmentDistanceOf}

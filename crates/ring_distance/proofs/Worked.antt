@@ -1,7 +1,7 @@
 -- Worked examples, by computation: a point and a segment, two triangles one apart, and a ring with no vertex.
 use mathlib.Core.Path.{_≡_, refl}
 use mathlib.Core.Bool.{false}
-use mathlib.Core.List.{List, [], _∷_}
+use mathlib.Core.List.{[], _∷_}
 use lib.Ieee.{Float, inf, add, sub, mul, div, lt, eq, neg, ofBits}
 use Rattle.scalar.specs.Float.{float, f0, f1}
 use Rattle.scalar.specs.Scalar.{smallerOf, orNumber, ahead, minusZero, clampOf}

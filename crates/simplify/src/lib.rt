@@ -87,7 +87,8 @@ fn gather(list: &[f64], tolerance: f64, room: &mut [f64])
 pub fn simplify(list: &[f64], tolerance: f64, room: &mut [f64]) -> usize
     requires { ⌜ length (now list) % 2 ≡ 0 ⌝ }
     requires { ⌜ 2 * count (simplified (now list) tolerance) ≤ length (now room) ⌝ }
-    ensures { λ r. ⌜ (r ≡ count (simplified (now (list .entry)) tolerance)) × (now (room .exit) ≡ laid (simplified (now (list .entry)) tolerance) (now (room .entry))) ⌝ }
+    ensures { λ r. ⌜ r ≡ count (simplified (now (list .entry)) tolerance) ⌝ }
+    ensures { λ _. ⌜ now (room .exit) ≡ laid (simplified (now (list .entry)) tolerance) (now (room .entry)) ⌝ }
 {
     let n = list.len() / 2;
     if n < 3 {

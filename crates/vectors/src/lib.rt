@@ -1,5 +1,5 @@
-// The vectors along which the orbiting polygon can slide, two for each contact, one after the other, and those of them that lead to no visited
-// position.
+// The vectors along which the orbiting polygon can slide, two for each contact, one after the other, and those of them that lead to no
+// visited position.
 pub mod course;
 pub mod fit;
 

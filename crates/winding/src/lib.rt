@@ -47,7 +47,8 @@ fn vertex(polygon: &[f64], reverse: bool, i: usize) -> Point
 // The vertices in their order or in reverse, at the front of the room.
 fn ordered(polygon: &[f64], reverse: bool, room: &mut [f64])
     requires { ⌜ length (now polygon) ≤ length (now room) ⌝ }
-    ensures { λ _. ⌜ now (room .exit) ≡ laid (points (vertexOf (now (polygon .entry)) reverse) (count (now (polygon .entry)))) (now (room .entry)) ⌝ }
+    ensures { λ _.
+        ⌜ now (room .exit) ≡ laid (points (vertexOf (now (polygon .entry)) reverse) (count (now (polygon .entry)))) (now (room .entry)) ⌝ }
 {
     let n = polygon.len() / 2;
     let mut i = 0;

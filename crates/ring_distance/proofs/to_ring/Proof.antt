@@ -1,10 +1,7 @@
 -- `ring_distance::to_ring` meets its contract. The invariant: the first i edges are taken, and the next starts at a. Assumes nothing.
 use native.Mathlib.Omega.{arith}
 use borrow.Author.Needs.{needs}
-use Prim.Native.Nat.{_+_, _-_}
-use mathlib.Core.Path.{refl, ap}
-use Rattle.plane.specs.Vector.{root}
-use Rattle.ring_distance.specs.Distance.{toRing}
+use Prim.Native.Nat.{_-_}
 use Rattle.ring_distance.proofs.Turns.{Taken, no-edge, first-turn, next-turn, last-turn}
 use Rattle.ring_distance.proofs.to_ring.Statement.{statement}
 use Rattle.ring_distance.proofs.to_ring.Tie as tie
