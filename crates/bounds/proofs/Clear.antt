@@ -14,7 +14,7 @@ use Rattle.scalar.specs.Scalar.{clampOf}
 use Rattle.square_root.specs.Root.{sqrtOf}
 use Rattle.square_root.proofs.Compare.{number-or-infinite, above-zero, lt-of-infinity, le-of-lt, lt-self}
 use Rattle.plane.specs.Vector.{minusOf, plusOf, dotOf, lengthOf, distanceOf}
-use Rattle.plane.specs.Segment.{clampedFoot, projectOf, alongOf, toSegmentOf, onSegmentOf, f1e-20}
+use Rattle.plane.specs.Segment.{clampedFoot, projectOf, alongOf, toSegmentOf, nearSegmentOf, f1e-20}
 use Rattle.plane.specs.declared.Point.{Point}
 use Rattle.near.proofs.Below.{no-root}
 use Rattle.bounds.specs.Bounds.{Inside, Spans, wide, marginOf, beyond, apart, past}
@@ -235,8 +235,8 @@ module _ (q b : Bounds) (tol : Float) (p a c : Point) (G : T (fits binary64 tol)
   from-beyond low high bottom top h =
       elim (one-of (lt far (low ⊖ top)) (lt (high ⊖ bottom) (neg far)) h) [ inl l ↦ margin tol (low ⊖ top) (inl l) | inr l ↦ margin tol (high ⊖ bottom) (inr l) ]
 
-  pub clear : apart q b tol ≡ true → onSegmentOf p a c tol ≡ false
-  unfolding apart onSegmentOf toSegmentOf distanceOf lengthOf dotOf minusOf alongOf
+  pub clear : apart q b tol ≡ true → nearSegmentOf p a c tol ≡ false
+  unfolding apart nearSegmentOf toSegmentOf distanceOf lengthOf dotOf minusOf alongOf
   clear h =
       elim (one-of (beyond (q .left) (q .right) (b .left) (b .right) far) (beyond (q .low) (q .high) (b .low) (b .high) far) h) [
         | inl l ↦ let m = from-beyond (q .left) (q .right) (b .left) (b .right) l in by-first tol far G (m .some) (m .above) (m .square) _ _ (along-x l)
@@ -280,15 +280,15 @@ module _ (tol : Float) (p a b : Float) (A : T (fits binary64 a)) (t : Float) (lo
           (margin tol (a ⊖ p) (inr (s .0)), below-both (s .0) (s .1))
 
 module _ (tol : Float) (p a b : Point) (G : T (fits binary64 tol)) where
-  pub beside-x : T (fits binary64 (a .x)) → past (p .x) (a .x) (b .x) (marginOf tol) ≡ true → onSegmentOf p a b tol ≡ false
-  unfolding onSegmentOf toSegmentOf distanceOf lengthOf dotOf minusOf alongOf
+  pub beside-x : T (fits binary64 (a .x)) → past (p .x) (a .x) (b .x) (marginOf tol) ≡ true → nearSegmentOf p a b tol ≡ false
+  unfolding nearSegmentOf toSegmentOf distanceOf lengthOf dotOf minusOf alongOf
   beside-x A h =
       let u = share p a b in
       let f = past-far tol (p .x) (a .x) (b .x) A (projectOf p a b) (u .0) (u .1) h in
       by-first tol (marginOf tol) G (f .0 .some) (f .0 .above) (f .0 .square) _ _ (f .1)
 
-  pub beside-y : T (fits binary64 (a .y)) → past (p .y) (a .y) (b .y) (marginOf tol) ≡ true → onSegmentOf p a b tol ≡ false
-  unfolding onSegmentOf toSegmentOf distanceOf lengthOf dotOf minusOf alongOf
+  pub beside-y : T (fits binary64 (a .y)) → past (p .y) (a .y) (b .y) (marginOf tol) ≡ true → nearSegmentOf p a b tol ≡ false
+  unfolding nearSegmentOf toSegmentOf distanceOf lengthOf dotOf minusOf alongOf
   beside-y A h =
       let u = share p a b in
       let f = past-far tol (p .y) (a .y) (b .y) A (projectOf p a b) (u .0) (u .1) h in

@@ -9,7 +9,7 @@ ghost use mathlib.Core.Bool.{true, false};
 ghost use Prim.Native.Nat.{_<_};
 ghost use lib.Dec.{T};
 ghost use lib.Ieee.{binary64, fits};
-ghost use Rattle.plane.specs.Segment.{onSegmentOf};
+ghost use Rattle.plane.specs.Segment.{nearSegmentOf};
 ghost use Rattle.ring.specs.Ring.{count};
 ghost use Rattle.bounds.specs.Bounds.{lowerOf, higherOf, Inside, Within, Held, Spans, Around, wide, marginOf, beyond, apart, past};
 
@@ -79,7 +79,7 @@ fn is_past(p: f64, a: f64, b: f64, far: f64) -> bool
 
 // Whether both ends of the edge a b lie past p along one of the axes: then p is not nearer to it than tol.
 pub fn is_beside(p: Point, a: Point, b: Point, tol: f64) -> bool
-    ensures { λ r. ⌜ (r ≡ true → onSegmentOf p a b tol ≡ false) ⌝ }
+    ensures { λ r. ⌜ (r ≡ true → nearSegmentOf p a b tol ≡ false) ⌝ }
 {
     let far = margin(tol);
     if is_past(p.x, a.x, b.x, far) {

@@ -10,8 +10,10 @@ use Rattle.plane.specs.declared.Point.{Point}
 use Rattle.refusals.specs.Refusals.{passed}
 use Rattle.refusals.specs.Rows.{ofMoving}
 use Rattle.refusals.specs.Answers.{answers, refuses}
+use Rattle.pairs.specs.Pairs.{pair}
+use Rattle.pairs.specs.declared.Pair.{Pair}
 use Rattle.collision.specs.Check.{collisionOf}
-use Rattle.collision.specs.Nearest.{Pair, pairIs, pairAt, rayAt, Told, nothing, hit}
+use Rattle.collision.specs.Nearest.{pairNo, rayAt, Told, nothing, hit}
 use Rattle.collision.specs.Calls.{Values, values, checked, collisionCall}
 use Rattle.collision.specs.declared.Ray.the-variants.{At}
 use Rattle.collision.specs.declared.Collision.{Collision}
@@ -54,6 +56,6 @@ told-only st orb move tol (Hit d k s o) (Hit e l t p) (hit f n) (hit f' n') = go
     go (no a) (yes b) = cc (n .first (n' .number) e b (n' .blocks), n' .least (n .number) d (n .blocks))
     go (no a) (no b) =
         let same : n .number ≡ n' .number = omega arith in
-        let v : pairIs k s o ≡ pairIs l t p = sym (n .is) ∙ ap (pairAt st orb) same ∙ n' .is in
-        let m : At d ≡ At e = sym (n .blocks .meets) ∙ ap (λ (j : ℕ). rayAt st orb move tol (pairAt st orb j)) same ∙ n' .blocks .meets in
+        let v : pair k s o ≡ pair l t p = sym (n .is) ∙ ap (pairNo st orb) same ∙ n' .is in
+        let m : At d ≡ At e = sym (n .blocks .meets .at) ∙ ap (λ (j : ℕ). rayAt st orb move tol (pairNo st orb j)) same ∙ n' .blocks .meets .at in
         cc (ap (λ (w : Pair). w .kind) v, ap (λ (w : Pair). w .stationary) v, ap (λ (w : Pair). w .orbiting) v)

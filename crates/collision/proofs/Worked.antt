@@ -14,10 +14,11 @@ use Rattle.refusals.specs.Bounds.{coordinate, finite, every}
 use Rattle.refusals.specs.Rows.{ofTwoPolygons, ofMoving}
 use Rattle.refusals.specs.Answers.{answers, refuses}
 use Rattle.first_best.specs.Best.{better, over, nest}
+use Rattle.pairs.specs.Pairs.{pair, pairOf}
 use Rattle.collision.specs.Ray.{rayWithin, rayOf, edgeRay}
 use Rattle.collision.specs.Hit.{countedOf, nearer}
-use Rattle.collision.specs.Check.{pairOf, scanOf, backOf, bothOf, sweepOf, collisionOf}
-use Rattle.collision.specs.Nearest.{pairIs, pairAt, rayAt}
+use Rattle.collision.specs.Check.{hitOf, scanOf, backOf, bothOf, sweepOf, collisionOf}
+use Rattle.collision.specs.Nearest.{pairNo, rayAt}
 use Rattle.collision.specs.Calls.{collisionCall}
 use Rattle.collision.specs.declared.Ray.the-variants.{At}
 
@@ -43,20 +44,20 @@ Q =
     float 0xc014_0000_0000_0000 ∷ f1 ∷ float 0xc008_0000_0000_0000 ∷ f1 ∷ float 0xc008_0000_0000_0000 ∷ three ∷ float 0xc014_0000_0000_0000 ∷ three ∷ []
 
 hits : collisionCall S Q (point ten f0) tolerance ≡ answers (some (record { distance = three; kind = 0; stationary = 3; orbiting = 1 }))
-unfolding ofMoving ofTwoPolygons every coordinate finite collisionOf sweepOf bothOf backOf scanOf pairOf nest over better nearer countedOf edgeRay rayOf rayWithin largerOf orNumber ahead minusZero absOf pointAt minusOf crossOf lengthOf dotOf sqrtOf add sub mul div lt le eq neg ofBits
+unfolding ofMoving ofTwoPolygons every coordinate finite collisionOf sweepOf bothOf backOf scanOf hitOf nest over better nearer countedOf edgeRay rayOf rayWithin largerOf orNumber ahead minusZero absOf pointAt minusOf crossOf lengthOf dotOf sqrtOf add sub mul div lt le eq neg ofBits
 hits = refl
 
 -- the pair of the tie, four pairs later
-ties : rayAt S Q (point ten f0) tolerance (pairAt S Q 11) ≡ At three
-unfolding pairAt rayAt sweepOf backOf edgeRay rayOf rayWithin largerOf orNumber ahead minusZero absOf pointAt minusOf crossOf lengthOf dotOf sqrtOf add sub mul div lt le eq neg ofBits
+ties : rayAt S Q (point ten f0) tolerance (pairNo S Q 11) ≡ At three
+unfolding pairOf rayAt sweepOf backOf edgeRay rayOf rayWithin largerOf orNumber ahead minusZero absOf pointAt minusOf crossOf lengthOf dotOf sqrtOf add sub mul div lt le eq neg ofBits
 ties = refl
 
-tie-is : pairAt S Q 11 ≡ pairIs 0 3 2
-unfolding pairAt
+tie-is : pairNo S Q 11 ≡ pair 0 3 2
+unfolding pairOf
 tie-is = refl
 
 short-of-it : collisionCall S Q (point three f0) tolerance ≡ answers none
-unfolding ofMoving ofTwoPolygons every coordinate finite collisionOf sweepOf bothOf backOf scanOf pairOf nest over better nearer countedOf edgeRay rayOf rayWithin largerOf orNumber ahead minusZero absOf pointAt minusOf crossOf lengthOf dotOf sqrtOf add sub mul div lt le eq neg ofBits
+unfolding ofMoving ofTwoPolygons every coordinate finite collisionOf sweepOf bothOf backOf scanOf hitOf nest over better nearer countedOf edgeRay rayOf rayWithin largerOf orNumber ahead minusZero absOf pointAt minusOf crossOf lengthOf dotOf sqrtOf add sub mul div lt le eq neg ofBits
 short-of-it = refl
 
 no-move : collisionCall S Q (point f0 f0) tolerance ≡ answers none

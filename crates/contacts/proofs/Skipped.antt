@@ -7,7 +7,7 @@ use mathlib.Core.List.{List}
 use lib.Dec.{T}
 use lib.Ieee.{Float, binary64, fits}
 use Rattle.plane.specs.Vector.{minusOf, parallelOf}
-use Rattle.plane.specs.Segment.{onSegmentOf}
+use Rattle.plane.specs.Segment.{nearSegmentOf}
 use Rattle.plane.specs.declared.Point.{Point}
 use Rattle.ring.specs.Ring.{count, pointAt}
 use Rattle.bounds.specs.Bounds.{Inside, Spans, Around, apart}
@@ -32,4 +32,4 @@ module _ (r : List Float) (tol : Float) (around b : Bounds) (from : ℕ) (h : fr
   unfolding alongEdge edgesTouch
   no-along c d S e k =
       none-of (alongEdge c d r tol) from (count r) h
-      (λ i l. rw (clear b around tol (pointAt r i) c d (e .1) S (A i l .first) (sym (e .0) ∙ k)) (never (parallelOf (minusOf d c) (minusOf (edgeEnd r i) (pointAt r i))) (onSegmentOf (edgeEnd r i) c d tol)))
+      (λ i l. rw (clear b around tol (pointAt r i) c d (e .1) S (A i l .first) (sym (e .0) ∙ k)) (never (parallelOf (minusOf d c) (minusOf (edgeEnd r i) (pointAt r i))) (nearSegmentOf (edgeEnd r i) c d tol)))

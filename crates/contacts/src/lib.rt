@@ -12,10 +12,13 @@ use rows::scan_vertices;
 ghost use mathlib.Core.Path.{_≡_};
 ghost use Prim.Native.Nat.{_*_, _<_, _≤_};
 ghost use Rattle.ring.specs.Ring.{count};
-ghost use Rattle.pairs.specs.Pairs.{Sides, Within, pairCount};
+ghost use Rattle.pairs.specs.Pairs.{Sides, Within, pairCount, vertexPairs};
 ghost use Rattle.contacts.specs.Touching.{edgeEnd, edgesOf};
 ghost use Rattle.contacts.specs.Rows.{Framed};
-ghost use Rattle.contacts.specs.Contacts.{contactsFrom, nextOf};
+ghost use Rattle.contacts.specs.Contacts.{contactsFrom, nextOf, hasContact};
+
+// How many numbers a contact takes of those that say which it is: its kind, its stationary and its orbiting index.
+pub const ENTRY: usize = 3;
 
 // The two edges of a pair: a b of the stationary ring, c d of the orbiting one.
 pub struct Edges {
@@ -63,7 +66,8 @@ pub fn edges_of(stationary: &[f64], orbiting: &[f64], pair: Pair) -> Edges
 // The first contact of two edges from the pair number `from` on.
 fn next_edges(stationary: &[f64], orbiting: &[f64], frames: Frames, tol: f64, from: usize) -> Next
     requires { ⌜ Sides (count (now stationary)) (count (now orbiting)) ⌝ }
-    requires { ⌜ (2 * (count (now stationary) * count (now orbiting)) ≤ from) × (from ≤ pairCount (count (now stationary)) (count (now orbiting))) ⌝ }
+    requires { ⌜ (vertexPairs (count (now stationary)) (count (now orbiting)) ≤ from)
+        × (from ≤ pairCount (count (now stationary)) (count (now orbiting))) ⌝ }
     requires { ⌜ Framed frames (now stationary) (now orbiting) ⌝ }
     ensures { λ r. ⌜ r ≡ nextOf (contactsFrom (now (stationary .entry)) (now (orbiting .entry)) tol from) ⌝ }
 {
@@ -85,7 +89,8 @@ fn next_edges(stationary: &[f64], orbiting: &[f64], frames: Frames, tol: f64, fr
 // The first contact that is no orbiting vertex on a stationary edge, from the pair number `from` on.
 fn next_later(stationary: &[f64], orbiting: &[f64], frames: Frames, tol: f64, from: usize) -> Next
     requires { ⌜ Sides (count (now stationary)) (count (now orbiting)) ⌝ }
-    requires { ⌜ (count (now stationary) * count (now orbiting) ≤ from) × (from ≤ pairCount (count (now stationary)) (count (now orbiting))) ⌝ }
+    requires { ⌜ (count (now stationary) * count (now orbiting) ≤ from)
+        × (from ≤ pairCount (count (now stationary)) (count (now orbiting))) ⌝ }
     requires { ⌜ Framed frames (now stationary) (now orbiting) ⌝ }
     ensures { λ r. ⌜ r ≡ nextOf (contactsFrom (now (stationary .entry)) (now (orbiting .entry)) tol from) ⌝ }
 {
@@ -158,4 +163,15 @@ pub fn next_contact(stationary: &[f64], orbiting: &[f64], tol: f64, from: usize)
         tol,
         from,
     )
+}
+
+// Whether there is a contact.
+pub fn has_contact(stationary: &[f64], orbiting: &[f64], tol: f64) -> bool
+    requires { ⌜ Sides (count (now stationary)) (count (now orbiting)) ⌝ }
+    ensures { λ r. ⌜ r ≡ hasContact (now (stationary .entry)) (now (orbiting .entry)) tol ⌝ }
+{
+    match next_contact(stationary, orbiting, tol, 0) {
+        Next::Nothing => false,
+        Next::At(_) => true,
+    }
 }

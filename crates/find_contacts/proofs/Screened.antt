@@ -11,6 +11,7 @@ use Rattle.refusals.specs.Rows.{ofTouching, ofRooms}
 use Rattle.refusals.specs.declared.Refusal.{Refusal}
 use Rattle.refusals.proofs.Sized.{Polygon, touching-polygons}
 use Rattle.pairs.specs.Pairs.{Sides}
+use Rattle.contacts.specs.Contacts.{entry}
 use Rattle.find_contacts.specs.Calls.{contactCount, findRefusal}
 
 pub sides : (st orb : List Float) → Polygon st → Polygon orb → Sides (count st) (count orb)
@@ -27,6 +28,6 @@ module _ (st orb : List Float) (tol : Float) where
   lent-is e h t = let p = touching-polygons st orb tol e h t in sides st orb (p .0) (p .1)
 
   pub find-row : (which points : ℕ)
-      → findRefusal st orb tol which points ≡ first (ofTouching st orb tol) (ofRooms (3 * contactCount st orb tol) which (2 * contactCount st orb tol) points)
+      → findRefusal st orb tol which points ≡ first (ofTouching st orb tol) (ofRooms (entry * contactCount st orb tol) which (2 * contactCount st orb tol) points)
   unfolding findRefusal
   find-row which points = refl

@@ -11,11 +11,11 @@ use Rattle.plane.specs.declared.Point.{Point}
 use Rattle.pairs.specs.Pairs.{pairCount, pairOf}
 use Rattle.pairs.specs.declared.Pair.{Pair}
 use Rattle.contacts.specs.Touching.{contactPoint}
-use Rattle.contacts.specs.Contacts.{contactsFrom, contactsOf, whichOf, pointsOf}
+use Rattle.contacts.specs.Contacts.{contactsFrom, contactsOf, entry, whichOf, pointsOf}
 use Rattle.contacts.proofs.Following.{FoundAt}
 use Rattle.find_contacts.proofs.Filling.{Filling, begun, put, fits, filled}
 
-which-length : (sn on : ℕ) (ks : List ℕ) → length (whichOf sn on ks) ≡ 3 * length ks
+which-length : (sn on : ℕ) (ks : List ℕ) → length (whichOf sn on ks) ≡ entry * length ks
 unfolding whichOf
 which-length sn on [] = refl
 which-length sn on (k ∷ ks) = omega (arith, which-length sn on ks)
@@ -32,13 +32,13 @@ module _ (st orb : List Float) (tol : Float) (w₀ : List ℕ) (p₀ : List Floa
   pub record Writing (w : List ℕ) (p : List Float) (n k : ℕ) : Type 0 where
     pub most : k ≤ pairCount (count st) (count orb)
     pub few : n ≤ k
-    pub which : Filling (kinds (contactsOf st orb tol)) w₀ w (kinds (contactsFrom st orb tol k)) (3 * n)
+    pub which : Filling (kinds (contactsOf st orb tol)) w₀ w (kinds (contactsFrom st orb tol k)) (entry * n)
     pub points : Filling (pointsOf st orb (contactsOf st orb tol)) p₀ p (pointsOf st orb (contactsFrom st orb tol k)) (2 * n)
 
   pub start : Writing w₀ p₀ 0 0
   start = record { most = omega arith; few = omega arith; which = begun _ _; points = begun _ _ }
 
-  module _ (hw : 3 * length (contactsOf st orb tol) ≤ length w₀) (hp : 2 * length (contactsOf st orb tol) ≤ length p₀) where
+  module _ (hw : entry * length (contactsOf st orb tol) ≤ length w₀) (hp : 2 * length (contactsOf st orb tol) ≤ length p₀) where
     room-which : length (kinds (contactsOf st orb tol)) ≤ length w₀
     room-which = omega (arith, which-length (count st) (count orb) (contactsOf st orb tol))
 
@@ -46,13 +46,13 @@ module _ (st orb : List Float) (tol : Float) (w₀ : List ℕ) (p₀ : List Floa
     room-points = omega (arith, points-length st orb (contactsOf st orb tol))
 
     module _ {w : List ℕ} {p : List Float} {n k j : ℕ} (s : Writing w p n k) (f : FoundAt st orb tol k j) where
-      left-which : Filling (kinds (contactsOf st orb tol)) w₀ w (kinds (j ∷ contactsFrom st orb tol (j + 1))) (3 * n)
+      left-which : Filling (kinds (contactsOf st orb tol)) w₀ w (kinds (j ∷ contactsFrom st orb tol (j + 1))) (entry * n)
       left-which = rw (f .then) at (s .which)
 
       left-points : Filling (pointsOf st orb (contactsOf st orb tol)) p₀ p (pointsOf st orb (j ∷ contactsFrom st orb tol (j + 1))) (2 * n)
       left-points = rw (f .then) at (s .points)
 
-      pub which-fits : 3 * n + 2 < length w
+      pub which-fits : entry * n + 2 < length w
       unfolding whichOf
       which-fits = omega (arith, fits room-which left-which)
 
@@ -61,12 +61,12 @@ module _ (st orb : List Float) (tol : Float) (w₀ : List ℕ) (p₀ : List Floa
       points-fit = omega (arith, fits room-points left-points)
 
       pub turn : {w′ : List ℕ} {p′ : List Float} {q : Pair} {at : Point} → q ≡ pairOf (count st) (count orb) j → at ≡ contactPoint st orb q
-          → w′ ≡ set (set (set w (3 * n) (q .kind)) (3 * n + 1) (q .stationary)) (3 * n + 2) (q .orbiting)
+          → w′ ≡ set (set (set w (entry * n) (q .kind)) (entry * n + 1) (q .stationary)) (entry * n + 2) (q .orbiting)
           → p′ ≡ set (set p (2 * n) (at .x)) (2 * n + 1) (at .y) → Writing w′ p′ (n + 1) (j + 1)
       unfolding whichOf pointsOf
       turn {w′} {p′} {q} {at} eq et ew ep =
-          let a : 3 * n + 1 + 1 ≡ 3 * n + 2 = omega arith in
-          let b : 3 * n + 1 + 1 + 1 ≡ 3 * (n + 1) = omega arith in
+          let a : entry * n + 1 + 1 ≡ entry * n + 2 = omega arith in
+          let b : entry * n + 1 + 1 + 1 ≡ entry * (n + 1) = omega arith in
           let d : 2 * n + 1 + 1 ≡ 2 * (n + 1) = omega arith in
           record {
             most = omega (arith, f .below);

@@ -9,7 +9,7 @@ use Rattle.refusals.specs.Refusals.{firstOf}
 use Rattle.refusals.specs.Rows.{ofTouching, ofRooms}
 use Rattle.refusals.specs.Answers.{Outcome, outcome, left}
 use Rattle.refusals.specs.declared.Refusal.{Refusal}
-use Rattle.contacts.specs.Contacts.{contactsOf, whichOf, pointsOf}
+use Rattle.contacts.specs.Contacts.{contactsOf, entry, whichOf, pointsOf}
 
 abbrev pub contactCount : List Float → List Float → Float → ℕ
 contactCount st orb tol = length (contactsOf st orb tol)
@@ -18,7 +18,7 @@ contactCount st orb tol = length (contactsOf st orb tol)
 unfoldable pub findRefusal : List Float → List Float → Float → ℕ → ℕ → Refusal
 findRefusal st orb tol which points =
     let n = contactCount st orb tol in
-    firstOf (ofTouching st orb tol ∷ ofRooms (3 * n) which (2 * n) points ∷ [])
+    firstOf (ofTouching st orb tol ∷ ofRooms (entry * n) which (2 * n) points ∷ [])
 
 abbrev pub findCall : List Float → List Float → Float → ℕ → ℕ → Outcome ℕ
 findCall st orb tol which points = outcome (findRefusal st orb tol which points) (contactCount st orb tol)

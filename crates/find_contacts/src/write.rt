@@ -1,4 +1,5 @@
 // The contacts, counted, and written to rooms that the caller lends.
+use contacts::ENTRY;
 use contacts::Edges;
 use contacts::Next;
 use contacts::edges_of;
@@ -18,7 +19,7 @@ ghost use Rattle.pairs.specs.Pairs.{Sides, Within};
 ghost use Rattle.refusals.specs.Rows.{ofRooms};
 ghost use Rattle.refusals.specs.Answers.{counted, outcome, left};
 ghost use Rattle.contacts.specs.Touching.{pointBy, contactPoint};
-ghost use Rattle.contacts.specs.Contacts.{contactsOf, whichOf, pointsOf};
+ghost use Rattle.contacts.specs.Contacts.{contactsOf, entry, whichOf, pointsOf};
 ghost use Rattle.find_contacts.specs.Calls.{contactCount};
 
 // The point at which a pair with these edges touches: the vertex, or the middle of the orbiting edge.
@@ -65,7 +66,8 @@ fn count_contacts(stationary: &[f64], orbiting: &[f64], tol: f64) -> usize
 // A pair's kind and indices, from at on.
 fn put_pair(room: &mut [u64], at: usize, pair: Pair)
     requires { ⌜ at + 2 < length (now room) ⌝ }
-    ensures { λ _. ⌜ now (room .exit) ≡ set (set (set (now (room .entry)) at (pair .kind)) (at + 1) (pair .stationary)) (at + 2) (pair .orbiting) ⌝ }
+    ensures { λ _.
+        ⌜ now (room .exit) ≡ set (set (set (now (room .entry)) at (pair .kind)) (at + 1) (pair .stationary)) (at + 2) (pair .orbiting) ⌝ }
 {
     room[at] = pair.kind as u64;
     room[at + 1] = pair.stationary as u64;
@@ -90,9 +92,14 @@ fn write_contacts(
     points: &mut [f64],
 )
     requires { ⌜ Sides (count (now stationary)) (count (now orbiting)) ⌝ }
-    requires { ⌜ 3 * length (contactsOf (now stationary) (now orbiting) tol) ≤ length (now which) ⌝ }
+    requires { ⌜ entry * length (contactsOf (now stationary) (now orbiting) tol) ≤ length (now which) ⌝ }
     requires { ⌜ 2 * length (contactsOf (now stationary) (now orbiting) tol) ≤ length (now points) ⌝ }
-    ensures { λ _. ⌜ (now (which .exit) ≡ laid (whichOf (count (now (stationary .entry))) (count (now (orbiting .entry))) (contactsOf (now (stationary .entry)) (now (orbiting .entry)) tol)) (now (which .entry))) × (now (points .exit) ≡ laid (pointsOf (now (stationary .entry)) (now (orbiting .entry)) (contactsOf (now (stationary .entry)) (now (orbiting .entry)) tol)) (now (points .entry))) ⌝ }
+    ensures { λ _.
+        ⌜ now (which .exit) ≡ laid (whichOf (count (now (stationary .entry))) (count (now (orbiting .entry)))
+        (contactsOf (now (stationary .entry)) (now (orbiting .entry)) tol)) (now (which .entry)) ⌝ }
+    ensures { λ _.
+        ⌜ now (points .exit) ≡ laid (pointsOf (now (stationary .entry)) (now (orbiting .entry))
+        (contactsOf (now (stationary .entry)) (now (orbiting .entry)) tol)) (now (points .entry)) ⌝ }
 {
     let sn = stationary.len() / 2;
     let on = orbiting.len() / 2;
@@ -104,7 +111,7 @@ fn write_contacts(
             Next::Nothing => return,
             Next::At(j) => {
                 let pair = pair_at(j, sn, on);
-                put_pair(which, 3 * n, pair);
+                put_pair(which, ENTRY * n, pair);
                 put_point(points, 2 * n, contact_point(stationary, orbiting, pair));
                 n += 1;
                 k = j + 1;
@@ -122,10 +129,26 @@ pub fn answer(
     points: &mut [f64],
 ) -> Count
     requires { ⌜ Sides (count (now stationary)) (count (now orbiting)) ⌝ }
-    ensures { λ r. ⌜ (counted r ≡ outcome (ofRooms (3 * contactCount (now (stationary .entry)) (now (orbiting .entry)) tol) (length (now (which .entry))) (2 * contactCount (now (stationary .entry)) (now (orbiting .entry)) tol) (length (now (points .entry)))) (contactCount (now (stationary .entry)) (now (orbiting .entry)) tol)) × (now (which .exit) ≡ left (ofRooms (3 * contactCount (now (stationary .entry)) (now (orbiting .entry)) tol) (length (now (which .entry))) (2 * contactCount (now (stationary .entry)) (now (orbiting .entry)) tol) (length (now (points .entry)))) (laid (whichOf (count (now (stationary .entry))) (count (now (orbiting .entry))) (contactsOf (now (stationary .entry)) (now (orbiting .entry)) tol)) (now (which .entry))) (now (which .entry))) × (now (points .exit) ≡ left (ofRooms (3 * contactCount (now (stationary .entry)) (now (orbiting .entry)) tol) (length (now (which .entry))) (2 * contactCount (now (stationary .entry)) (now (orbiting .entry)) tol) (length (now (points .entry)))) (laid (pointsOf (now (stationary .entry)) (now (orbiting .entry)) (contactsOf (now (stationary .entry)) (now (orbiting .entry)) tol)) (now (points .entry))) (now (points .entry))) ⌝ }
+    ensures { λ r.
+        ⌜ (counted r ≡ outcome
+        (ofRooms (entry * contactCount (now (stationary .entry)) (now (orbiting .entry)) tol) (length (now (which .entry)))
+        (2 * contactCount (now (stationary .entry)) (now (orbiting .entry)) tol) (length (now (points .entry))))
+        (contactCount (now (stationary .entry)) (now (orbiting .entry)) tol))
+        × (now (which .exit) ≡ left
+        (ofRooms (entry * contactCount (now (stationary .entry)) (now (orbiting .entry)) tol) (length (now (which .entry)))
+        (2 * contactCount (now (stationary .entry)) (now (orbiting .entry)) tol) (length (now (points .entry))))
+        (laid (whichOf (count (now (stationary .entry))) (count (now (orbiting .entry)))
+        (contactsOf (now (stationary .entry)) (now (orbiting .entry)) tol)) (now (which .entry)))
+        (now (which .entry)))
+        × (now (points .exit) ≡ left
+        (ofRooms (entry * contactCount (now (stationary .entry)) (now (orbiting .entry)) tol) (length (now (which .entry)))
+        (2 * contactCount (now (stationary .entry)) (now (orbiting .entry)) tol) (length (now (points .entry))))
+        (laid (pointsOf (now (stationary .entry)) (now (orbiting .entry))
+        (contactsOf (now (stationary .entry)) (now (orbiting .entry)) tol)) (now (points .entry)))
+        (now (points .entry))) ⌝ }
 {
     let n = count_contacts(stationary, orbiting, tol);
-    let no = rooms(3 * n, which.len(), 2 * n, points.len());
+    let no = rooms(ENTRY * n, which.len(), 2 * n, points.len());
     if no.passed() {
         write_contacts(stationary, orbiting, tol, which, points);
         return Count::Is(n);

@@ -18,9 +18,8 @@ use Rattle.refusals.specs.declared.Refusal.{Refusal}
 use Rattle.refusals.specs.declared.Settings.{Settings}
 use Rattle.refusals.proofs.Sized.{row-parts, holds, two-polygons}
 use Rattle.ring.specs.Ring.{count}
-use Rattle.ring.specs.Room.{laid}
+use Rattle.ring.specs.Room.{laid, putAt}
 use Rattle.pairs.specs.Pairs.{Sides}
-use Rattle.moved.specs.Moved.{putAt}
 use Rattle.winding.specs.Winding.{ccwOf}
 use Rattle.winding.proofs.Order.{ccw-length, ccw-front}
 use Rattle.start_position.specs.Start.{startOf}
@@ -28,7 +27,7 @@ use Rattle.centroid.specs.Centroid.{centroidOf}
 use Rattle.pass.specs.Pass.{Scene, scene}
 use Rattle.passes.specs.declared.run.End.{End}
 use Rattle.passes.specs.Run.{Done, runOf, state}
-use Rattle.nfp_sliding.specs.Path.{Trace, ended, endOf, coordinates, atStart, Ready, traceFrom, tracedOf}
+use Rattle.nfp_sliding.specs.Path.{Trace, ended, endOf, coordinates, atStart, marginsOf, Ready, traceFrom, tracedOf}
 use Rattle.nfp_sliding.specs.Calls.{traced, cameTo, resultAfter, traceCall, traceWork, traceResult}
 use Rattle.nfp_sliding.specs.declared.answer.Traced.{Traced}
 use Rattle.nfp_sliding.specs.declared.answer.Traced.the-variants.{Refused}
@@ -48,11 +47,11 @@ put-start held p l = put-path [] held 0 p refl l
 
 module _ (st orb : List Float) (s : Settings) (held : List Float) (l : 2 ≤ length held) where
   abbrev from : Point → Point → List Float → Done
-  from middle start room = runOf (scene st orb s middle start) (s .«max_iterations») 0 (state (atStart start) 1) room
+  from middle start room = runOf (scene st orb (marginsOf s) middle start) (s .«max_iterations») 0 (state (atStart start) 1) room
 
   from-start : Same held (from (centroidOf st) (startOf st orb) (laid (coordinates (startOf st orb)) held)) (traceFrom st orb s (length held))
   unfolding traceFrom
-  from-start = same-run (scene st orb s (centroidOf st) (startOf st orb)) held (s .«max_iterations») 0 1 (atStart (startOf st orb)) (coordinates (startOf st orb)) l refl
+  from-start = same-run (scene st orb (marginsOf s) (centroidOf st) (startOf st orb)) held (s .«max_iterations») 0 1 (atStart (startOf st orb)) (coordinates (startOf st orb)) l refl
 
   -- what the run from the start leaves
   pub followed : {start middle : Point} {room out : List Float} {r : End} → start ≡ startOf st orb → middle ≡ centroidOf st → room ≡ putAt held 0 start

@@ -14,7 +14,7 @@ use Rattle.refusals.specs.Rows.{ofTwoPolygons, ofTouching}
 use Rattle.refusals.specs.Refusals.{refuse}
 use Rattle.refusals.specs.Bounds.{coordinate, every}
 use Rattle.refusals.specs.Answers.{answers, refuses}
-use Rattle.moved.proofs.Worked.{f2, f3, f4, S}
+use Rattle.ring.proofs.Worked.{f2, f3, f4, S}
 use Rattle.overlap.specs.Extent.{widerOf, extentTo, apartOf, boxOf, shadowOf}
 use Rattle.overlap.specs.Overlap.{edgeOf, axisOf, noAxis, meetsOn, meetsAlong, boxesApart, overlapOf, f1e-6}
 use Rattle.overlap.specs.Calls.{overlapCall, overlapWithCall}

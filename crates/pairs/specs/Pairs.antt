@@ -24,8 +24,12 @@ pair kd s o = record { kind = kd; stationary = s; orbiting = o }
 abbrev pub pairCount : ℕ → ℕ → ℕ
 pairCount sn on = 3 * (sn * on)
 
--- pair k: of kind 0 the stationary edges of one orbiting vertex after the other, of kinds 1 and 2 the orbiting edges of one stationary vertex
--- or edge after the other
+-- those of a vertex and an edge, kinds 0 and 1, come first
+abbrev pub vertexPairs : ℕ → ℕ → ℕ
+vertexPairs sn on = 2 * (sn * on)
+
+-- pair k: of kind 0 the stationary edges of one orbiting vertex after the other, of kinds 1 and 2 the orbiting edges of one stationary
+-- vertex or edge after the other
 unfoldable pub pairOf : ℕ → ℕ → ℕ → Pair
 pairOf sn on k =
     let kd = k / (sn * on) in

@@ -1,3 +1,3 @@
 -- The modules that belong to no one function.
-pub mod Turns
+pub mod Onward
 pub mod Standstill

@@ -1,18 +1,19 @@
 // The run of the passes: `trace_nfp_boundary` of `nfp_sliding.rs`, the path stored in a room that the caller lends.
 use crate::still::same_pose;
-use moved::put;
+use pass::Margins;
 use pass::Pose;
 use pass::Step;
 use pass::pass;
+use pass::stop;
 use plane::Point;
-use refusals::Settings;
+use ring::room::put;
 ghost use mathlib.Core.Path.{_≡_};
 ghost use Prim.Native.Nat.{_*_, _%_, _≤_};
 ghost use lib.ListN.{length};
 ghost use Rattle.ring.specs.Ring.{count};
 ghost use Rattle.pairs.specs.Pairs.{Sides};
 ghost use Rattle.pass.specs.Pass.{scene};
-ghost use Rattle.passes.specs.Run.{turnOf, runOf, InRoom};
+ghost use Rattle.passes.specs.Run.{afterOf, runOf, InRoom};
 ghost use Rattle.passes.specs.Still.{Same};
 
 // Where the trace is, and how many points it has stored.
@@ -21,8 +22,8 @@ pub struct State {
     pub stored: usize,
 }
 
-// What a turn comes to: the pass stopped, its point does not fit the room, or the trace goes on.
-pub enum Turn {
+// What comes after a pass: the trace stops, or the pass's point does not fit the room, or the trace goes on.
+pub enum After {
     Halt(u32),
     Full,
     Go(State),
@@ -37,20 +38,25 @@ pub struct End {
 }
 
 // One pass, and its point stored.
-fn one_turn(
+fn one_pass(
     stationary: &[f64],
     orbiting: &[f64],
-    settings: Settings,
+    margins: Margins,
     centroid: Point,
     start: Point,
     state: State,
     room: &mut [f64],
-) -> Turn
+) -> After
     requires { ⌜ length (now orbiting) % 2 ≡ 0 ⌝ }
     requires { ⌜ length (now orbiting) ≤ 512 ⌝ }
     requires { ⌜ Sides (count (now stationary)) (count (now orbiting)) ⌝ }
     requires { ⌜ 2 * state .stored ≤ length (now room) ⌝ }
-    ensures { λ r. ⌜ (r ≡ turnOf (scene (now (stationary .entry)) (now (orbiting .entry)) settings centroid start) state (now (room .entry)) .answer) × (now (room .exit) ≡ turnOf (scene (now (stationary .entry)) (now (orbiting .entry)) settings centroid start) state (now (room .entry)) .room) × InRoom r (length (now (room .entry))) ⌝ }
+    ensures { λ r.
+        ⌜ (r ≡ afterOf (scene (now (stationary .entry)) (now (orbiting .entry)) margins centroid start)
+        state (now (room .entry)) .answer)
+        × (now (room .exit) ≡ afterOf (scene (now (stationary .entry)) (now (orbiting .entry)) margins centroid start)
+        state (now (room .entry)) .room)
+        × InRoom r (length (now (room .entry))) ⌝ }
 {
     let stored = state.stored;
     let len = 2 * stored;
@@ -58,22 +64,22 @@ fn one_turn(
     match pass(
         stationary,
         orbiting,
-        settings,
+        margins,
         centroid,
         start,
         &room[..len],
         pose,
     ) {
-        Step::Stop(reason) => Turn::Halt(reason),
-        Step::Stay(next) => Turn::Go(State { pose: next, stored }),
+        Step::Stop(reason) => After::Halt(reason),
+        Step::Stay(next) => After::Go(State { pose: next, stored }),
         Step::Store(next) => {
             if room.len() - len < 2 {
-                return Turn::Full;
+                return After::Full;
             }
             let more = stored + 1;
             let position = next.position;
             put(room, stored, position);
-            Turn::Go(State {
+            After::Go(State {
                 pose: next,
                 stored: more,
             })
@@ -81,7 +87,7 @@ fn one_turn(
     }
 }
 
-// Whether a turn came to nothing new, so that all that follow it come to nothing new either.
+// Whether a pass came to nothing new, so that all that follow it come to nothing new either.
 fn is_still(next: State, state: State) -> bool
     ensures { λ r. ⌜ Same r next state ⌝ }
 {
@@ -94,13 +100,14 @@ fn is_still(next: State, state: State) -> bool
     }
 }
 
-// The passes from a state on, as many as the settings allow.
+// The passes from a state on, as many as the limit allows.
 pub fn run(
     stationary: &[f64],
     orbiting: &[f64],
-    settings: Settings,
+    margins: Margins,
     centroid: Point,
     start: Point,
+    limit: u64,
     first: State,
     room: &mut [f64],
 ) -> End
@@ -108,15 +115,19 @@ pub fn run(
     requires { ⌜ length (now orbiting) ≤ 512 ⌝ }
     requires { ⌜ Sides (count (now stationary)) (count (now orbiting)) ⌝ }
     requires { ⌜ 2 * first .stored ≤ length (now room) ⌝ }
-    requires { ⌜ settings .«max_iterations» ≤ 10000 ⌝ }
-    ensures { λ r. ⌜ (r ≡ runOf (scene (now (stationary .entry)) (now (orbiting .entry)) settings centroid start) (settings .«max_iterations») 0 first (now (room .entry)) .end) × (now (room .exit) ≡ runOf (scene (now (stationary .entry)) (now (orbiting .entry)) settings centroid start) (settings .«max_iterations») 0 first (now (room .entry)) .room) ⌝ }
+    requires { ⌜ limit ≤ 10000 ⌝ }
+    ensures { λ r.
+        ⌜ r ≡ runOf (scene (now (stationary .entry)) (now (orbiting .entry)) margins centroid start)
+        limit 0 first (now (room .entry)) .end ⌝ }
+    ensures { λ _.
+        ⌜ now (room .exit) ≡ runOf (scene (now (stationary .entry)) (now (orbiting .entry)) margins centroid start)
+        limit 0 first (now (room .entry)) .room ⌝ }
 {
-    let limit = settings.max_iterations;
     let mut state = first;
     let mut passes = 0;
     while passes < limit {
-        match one_turn(stationary, orbiting, settings, centroid, start, state, room) {
-            Turn::Halt(reason) => {
+        match one_pass(stationary, orbiting, margins, centroid, start, state, room) {
+            After::Halt(reason) => {
                 return End {
                     full: false,
                     reason,
@@ -124,7 +135,7 @@ pub fn run(
                     stored: state.stored,
                 };
             }
-            Turn::Full => {
+            After::Full => {
                 return End {
                     full: true,
                     reason: 0,
@@ -132,11 +143,11 @@ pub fn run(
                     stored: state.stored,
                 };
             }
-            Turn::Go(next) => {
+            After::Go(next) => {
                 if is_still(next, state) {
                     return End {
                         full: false,
-                        reason: 5,
+                        reason: stop::PASSES,
                         passes: limit,
                         stored: state.stored,
                     };
@@ -148,7 +159,7 @@ pub fn run(
     }
     End {
         full: false,
-        reason: 5,
+        reason: stop::PASSES,
         passes,
         stored: state.stored,
     }

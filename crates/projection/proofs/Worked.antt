@@ -1,13 +1,12 @@
 -- Worked examples, by computation: the point (7,4) against the segment from (0,0) to (4,0) has the parameter 1 and the distance 5.
 use mathlib.Core.Path.{_≡_, refl}
-use mathlib.Core.List.{[], _∷_}
-use lib.Ieee.{Float, inf, add, sub, mul, div, lt, le, ofBits}
+use lib.Ieee.{Float, inf, add, sub, mul, div, lt, ofBits}
 use mathlib.Core.Bool.{false}
 use Rattle.scalar.specs.Float.{float, f0, f1}
 use Rattle.scalar.specs.Scalar.{clampOf}
 use Rattle.square_root.specs.Root.{sqrtOf}
 use Rattle.plane.specs.Vector.{point, minusOf, dotOf, lengthOf, distanceOf}
-use Rattle.plane.specs.Segment.{clampedFoot, projectOf, alongOf, toSegmentOf, onSegmentOf}
+use Rattle.plane.specs.Segment.{clampedFoot, projectOf, alongOf, toSegmentOf}
 use Rattle.refusals.specs.Refusals.{refuse}
 use Rattle.refusals.specs.Bounds.{coordinate}
 use Rattle.refusals.specs.Rows.{ofPoints3, ofNear}

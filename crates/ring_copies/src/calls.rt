@@ -3,6 +3,7 @@ use refusals::Refusal;
 use refusals::answer::Count;
 use refusals::row;
 use refusals::screen;
+use ring::room::copy;
 ghost use mathlib.Core.Path.{_≡_};
 ghost use lib.ListN.{length};
 ghost use Rattle.refusals.specs.Refusals.{first};
@@ -43,7 +44,7 @@ pub fn open_ring(ring: &[f64], room: &mut [f64]) -> Count
     let no = open_fits(row::ring(ring), ring, room.len());
     if no.passed() {
         let n = crate::open_count(ring);
-        crate::copy(ring, 2 * n, room);
+        copy(ring, 2 * n, room);
         Count::Is(n)
     } else {
         Count::Refused(no)

@@ -7,7 +7,7 @@ use lib.Ieee.{Float, add, sub, mul, div, lt, neg, ofBits}
 use Rattle.scalar.specs.Float.{float, f0, f1}
 use Rattle.scalar.specs.Scalar.{minusZero, ahead, orNumber, smallerOf}
 use Rattle.square_root.specs.Root.{sqrtOf}
-use Rattle.plane.specs.Vector.{point, minusOf, dotOf, lengthOf, distanceOf, normalizeOf}
+use Rattle.plane.specs.Vector.{point, minusOf, dotOf, lengthOf, distanceOf, normalizeOf, aheadOf}
 use Rattle.plane.specs.declared.Point.{Point}
 use Rattle.ring.specs.Ring.{pointAt}
 use Rattle.ring.specs.Each.{each}
@@ -42,5 +42,5 @@ visited = f0 ∷ minus-two ∷ []
 
 -- four of them lead back to it
 pub kept-sources : sourcesOf (fitOf S Q start visited tol) ≡ 0 ∷ 0 ∷ 1 ∷ 2 ∷ 3 ∷ 4 ∷ 5 ∷ 5 ∷ []
-unfolding sourcesOf kept keeps visitedOf apart each potentialOf smallerOf orNumber ahead minusZero vectorsFrom vectorOf vectorBy vertexEdge edgeVertex edgeEdge directionOf oppositeOf normalizeOf edgesOf edgeEnd pairOf pointAt minusOf dotOf lengthOf distanceOf sqrtOf add sub mul div lt neg ofBits
+unfolding sourcesOf kept keeps visitedOf apart each potentialOf aheadOf smallerOf orNumber ahead minusZero vectorsFrom vectorOf vectorBy vertexEdge edgeVertex edgeEdge directionOf oppositeOf normalizeOf edgesOf edgeEnd pairOf pointAt minusOf dotOf lengthOf distanceOf sqrtOf add sub mul div lt neg ofBits
 kept-sources = ap (λ (ks : List ℕ). sourcesOf (kept (keeps start visited tol) (vectorsFrom S Q 0 ks))) numbers ∙ refl

@@ -11,8 +11,8 @@ use lib.Ieee.{Float, nan, lt}
 use Rattle.scalar.specs.Float.{f0}
 use Rattle.ring.specs.Ring.{count, pointAt}
 use Rattle.ring.specs.Room.{laid}
-use Rattle.moved.specs.Points.{points}
-use Rattle.moved.proofs.Points.{points-length}
+use Rattle.ring.specs.Points.{points}
+use Rattle.ring.proofs.Points.{points-length}
 use Rattle.winding.specs.Winding.{areaOf, vertexOf, reversed, ccwOf}
 
 -- the first k vertices, as they are

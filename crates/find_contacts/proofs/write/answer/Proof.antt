@@ -3,6 +3,7 @@ use borrow.Author.Needs.{needs}
 use Prim.Native.Nat.{_*_, _≤_}
 use mathlib.Core.Path.{_≡_}
 use lib.ListN.{length}
+use Rattle.contacts.specs.Contacts.{entry}
 use Rattle.refusals.specs.Rows.{ofRooms}
 use Rattle.refusals.proofs.Sized.{rooms-fit}
 use Rattle.find_contacts.specs.Calls.{contactCount}
@@ -11,10 +12,10 @@ use Rattle.find_contacts.proofs.write.answer.Statement.{statement}
 use Rattle.find_contacts.proofs.write.answer.Tie as tie
 
 -- what the rooms' tests found, and that both rooms are long enough where they pass
-refusal : (c : tie.After-rooms) → c .rooms .result ≡ ofRooms (3 * contactCount (c .before .before .before .before .before .before .args .stationary .now) (c .before .before .before .before .before .before .args .orbiting .now) (c .before .before .before .before .before .before .args .tol)) (length (c .before .before .before .before .before .before .args .which .now)) (2 * contactCount (c .before .before .before .before .before .before .args .stationary .now) (c .before .before .before .before .before .before .args .orbiting .now) (c .before .before .before .before .before .before .args .tol)) (length (c .before .before .before .before .before .before .args .points .now))
+refusal : (c : tie.After-rooms) → c .rooms .result ≡ ofRooms (entry * contactCount (c .before .before .before .before .before .before .args .stationary .now) (c .before .before .before .before .before .before .args .orbiting .now) (c .before .before .before .before .before .before .args .tol)) (length (c .before .before .before .before .before .before .args .which .now)) (2 * contactCount (c .before .before .before .before .before .before .args .stationary .now) (c .before .before .before .before .before .before .args .orbiting .now) (c .before .before .before .before .before .before .args .tol)) (length (c .before .before .before .before .before .before .args .points .now))
 refusal c = rw (c .before .count-contacts .ensures .0) at (c .rooms .ensures)
 
-fine : (c : tie.Then1) → (3 * contactCount (c .before .before .before .before .before .before .before .before .args .stationary .now) (c .before .before .before .before .before .before .before .before .args .orbiting .now) (c .before .before .before .before .before .before .before .before .args .tol) ≤ length (c .before .before .before .before .before .before .before .before .args .which .now)) × (2 * contactCount (c .before .before .before .before .before .before .before .before .args .stationary .now) (c .before .before .before .before .before .before .before .before .args .orbiting .now) (c .before .before .before .before .before .before .before .before .args .tol) ≤ length (c .before .before .before .before .before .before .before .before .args .points .now))
+fine : (c : tie.Then1) → (entry * contactCount (c .before .before .before .before .before .before .before .before .args .stationary .now) (c .before .before .before .before .before .before .before .before .args .orbiting .now) (c .before .before .before .before .before .before .before .before .args .tol) ≤ length (c .before .before .before .before .before .before .before .before .args .which .now)) × (2 * contactCount (c .before .before .before .before .before .before .before .before .args .stationary .now) (c .before .before .before .before .before .before .before .before .args .orbiting .now) (c .before .before .before .before .before .before .before .before .args .tol) ≤ length (c .before .before .before .before .before .before .before .before .args .points .now))
 fine c = rooms-fit _ _ _ _ (refusal (c .before .before)) (c .before .passed .ensures) (c .if1 .taken)
 
 count-contacts-requires : tie.Need-count-contacts-requires

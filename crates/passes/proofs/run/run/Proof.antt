@@ -6,7 +6,7 @@ use Prim.Native.Nat.{_*_, _-_, _≤_}
 use mathlib.Core.Path.{_≡_, refl, sym, ap, _∙_}
 use lib.ListN.{length}
 use native.Mathlib.Nat.{sub-zero}
-use Rattle.passes.proofs.Turns.{run-go, run-stop, run-full, run-out}
+use Rattle.passes.proofs.Onward.{run-go, run-stop, run-full, run-out}
 use Rattle.passes.proofs.Standstill.{run-stays}
 use Rattle.passes.specs.Run.{runOf, Done}
 use Rattle.pass.specs.Pass.{scene}
@@ -14,18 +14,18 @@ use Rattle.passes.proofs.run.run.Statement.{statement}
 use Rattle.passes.proofs.run.run.Tie as tie
 
 abbrev Inv-loop : tie.InvT-loop
-Inv-loop stationary orbiting settings centroid start room₀ limit state₀ passes₀ room state passes =
+Inv-loop stationary orbiting margins centroid start limit room₀ state₀ passes₀ room state passes =
     (passes ≤ limit) × (length room ≡ length room₀) × (2 * state .stored ≤ length room)
-    × (runOf (scene stationary orbiting settings centroid start) limit 0 state₀ room₀ ≡ runOf (scene stationary orbiting settings centroid start) (limit - passes) passes state room)
+    × (runOf (scene stationary orbiting margins centroid start) limit 0 state₀ room₀ ≡ runOf (scene stationary orbiting margins centroid start) (limit - passes) passes state room)
 
 abbrev μ-loop : tie.MeasureT-loop
-μ-loop stationary orbiting settings centroid start room₀ limit state₀ passes₀ room state passes = limit - passes
+μ-loop stationary orbiting margins centroid start limit room₀ state₀ passes₀ room state passes = limit - passes
 
 loop-holds : tie.Need-loop-holds Inv-loop μ-loop
 loop-holds c = (omega arith, refl, c .before .before .before .pre .1 .1 .1 .0, rw sub-zero refl)
 
-one-turn-requires : tie.Need-one-turn-requires Inv-loop μ-loop
-one-turn-requires c κs =
+one-pass-requires : tie.Need-one-pass-requires Inv-loop μ-loop
+one-pass-requires c κs =
     let s = c .before .before .before .before .before .before in
     (s .pre .0, (s .pre .1 .0, (s .pre .1 .1 .0, c .before .before .loop .inv .2)))
 
@@ -36,11 +36,11 @@ add-t17 : tie.Need-add-t17 Inv-loop μ-loop
 add-t17 c = omega arith
 
 same-length : tie.Need-same-length Inv-loop μ-loop
-same-length c = omega (arith, c .before .before .before .before .before .one-turn .kept .1 .1 .1 .1 .1 .1 .0)
+same-length c = omega (arith, c .before .before .before .before .before .one-pass .kept .1 .1 .1 .1 .1 .1 .0)
 
 returns : tie.Need-returns Inv-loop μ-loop
 returns c =
-    let t = c .before .before .before .before .before .one-turn in
+    let t = c .before .before .before .before .before .one-pass in
     let i = c .before .before .before .before .before .before .before in
     let h =
     i .before .loop .inv .3
@@ -54,11 +54,11 @@ add-t18 : tie.Need-add-t18 Inv-loop μ-loop
 add-t18 c = omega arith
 
 same-length-2 : tie.Need-same-length-2 Inv-loop μ-loop
-same-length-2 c = omega (arith, c .before .before .before .before .one-turn .kept .1 .1 .1 .1 .1 .1 .0)
+same-length-2 c = omega (arith, c .before .before .before .before .one-pass .kept .1 .1 .1 .1 .1 .1 .0)
 
 returns-2 : tie.Need-returns-2 Inv-loop μ-loop
 returns-2 c =
-    let t = c .before .before .before .before .one-turn in
+    let t = c .before .before .before .before .one-pass in
     let i = c .before .before .before .before .before .before in
     let h =
     i .before .loop .inv .3
@@ -72,11 +72,11 @@ is-still-requires : tie.Need-is-still-requires Inv-loop μ-loop
 is-still-requires c κs = search needs
 
 same-length-3 : tie.Need-same-length-3 Inv-loop μ-loop
-same-length-3 c = omega (arith, c .before .before .before .before .before .before .before .one-turn .kept .1 .1 .1 .1 .1 .1 .0)
+same-length-3 c = omega (arith, c .before .before .before .before .before .before .before .one-pass .kept .1 .1 .1 .1 .1 .1 .0)
 
 returns-3 : tie.Need-returns-3 Inv-loop μ-loop
 returns-3 c =
-    let t = c .before .before .before .before .before .before .before .one-turn in
+    let t = c .before .before .before .before .before .before .before .one-pass in
     let i = c .before .before .before .before .before .before .before .before .before in
     let h =
     i .before .loop .inv .3
@@ -91,7 +91,7 @@ loop-less c = omega arith
 
 loop-again : tie.Need-loop-again Inv-loop μ-loop
 loop-again c =
-    let t = c .before .before .before .before .before .before .before .one-turn in
+    let t = c .before .before .before .before .before .before .before .one-pass in
     let i = c .before .before .before .before .before .before .before .before .before in
     let q = c .before .before .before .next .given .1 in (
       omega arith,
@@ -115,7 +115,7 @@ run-spec =
     Inv-loop
     μ-loop
     loop-holds
-    one-turn-requires
+    one-pass-requires
     enum-known-reason
     add-t17
     same-length
