@@ -7,7 +7,8 @@ use mathlib.Core.Logic.{_↔_}
 use mathlib.Core.List.{List, [], _∷_, map}
 use lib.ListN.{length, getD, length-map}
 use Rattle.reading.specs.Reading.{Reads, Vertex, leastReading}
-use Rattle.book_layout.specs.Layout.{layout, bookOf, Each, Corner, Outline, Accepted, SameOutlines}
+use Rattle.number_bytes.specs.Bytes.{Each}
+use Rattle.book_layout.specs.Layout.{layout, bookOf, Corner, Outline, Accepted, SameOutlines}
 use Rattle.reading.proofs.Leasts.{least-reads, length-least, same-least, reads-of-least}
 use Rattle.book_layout.proofs.Each.{each-reads}
 use Rattle.book_layout.proofs.Laid.{layout-inj}

@@ -1,43 +1,21 @@
--- Numbers in bytes, and what a layout is read back as. Assumes nothing.
-use Prim.Native.Nat.{ℕ, zero, suc, _+_, _*_, _/_, _^_, _≤_, _<_}
+-- What a layout is read back as, part by part. Assumes nothing.
+use Prim.Native.Nat.{ℕ, _+_, _*_, _^_, _≤_, _<_}
 use native.Mathlib.Omega.{arith}
-use native.Mathlib.Nat.{pow-succ'}
 use mathlib.Core.Path.{_≡_, refl, sym, ap, _∙_}
 use mathlib.Core.List.{List, [], _∷_, _++_, map, append-assoc}
 use lib.ListN.{length, take, drop, length-append}
 use Rattle.ring.specs.Room.{laid}
-use lib.Seq.{sets, sets-eq, take-at, drop-at, drop-drop}
+use lib.Seq.{sets, sets-eq, drop-at, drop-drop}
 use Rattle.reading.specs.Reading.{Vertex, flat, vertices}
-use Rattle.book_layout.specs.Layout.{bytesOf, numberOf, coordBytes, body, entries, Each, Corner, Outline, coordsIn, countsIn, ringsIn}
+use Rattle.number_bytes.specs.Bytes.{bytesOf, numberOf, Each}
+use Rattle.number_bytes.proofs.Bytes.{length-bytesOf, take-number, drop-number}
+use Rattle.book_layout.specs.Layout.{coordBytes, body, entries, Corner, Outline, coordsIn, countsIn, ringsIn}
 use Rattle.reading.proofs.Leasts.{vertices-flat, length-flat}
 
 -- ---- a list stored at the front of a room that it fits
 
 pub laid-is : {A : Type 0} (l room : List A) → length l ≤ length room → sets room 0 l ≡ laid l room
 laid-is l room h = let e : 0 + length l ≡ length l = omega arith in sets-eq l room 0 (omega arith) ∙ ap (λ (j : ℕ). l ++ drop j room) e
-
--- ---- a number
-
-pub length-bytesOf : (k n : ℕ) → length (bytesOf k n) ≡ k
-unfolding bytesOf
-length-bytesOf zero n = refl
-length-bytesOf (suc k) n = ap suc (length-bytesOf k (n / 256))
-
-quotient : (n m : ℕ) → n < 256 * m → n / 256 < m
-quotient n m h = omega arith
-
-number-bytes : (k n : ℕ) → n < 256 ^ k → numberOf (bytesOf k n) ≡ n
-unfolding bytesOf numberOf
-number-bytes zero n h = omega arith
-number-bytes (suc k) n h =
-    let e : numberOf (bytesOf k (n / 256)) ≡ n / 256 = number-bytes k (n / 256) (quotient n (256 ^ k) (rw pow-succ' at h)) in
-    omega arith
-
-pub take-number : (k n : ℕ) (q : List ℕ) → n < 256 ^ k → numberOf (take k (bytesOf k n ++ q)) ≡ n
-take-number k n q h = ap numberOf (take-at (bytesOf k n) q k (length-bytesOf k n)) ∙ number-bytes k n h
-
-pub drop-number : (k n : ℕ) (q : List ℕ) → drop k (bytesOf k n ++ q) ≡ q
-drop-number k n q = drop-at (bytesOf k n) q k (length-bytesOf k n)
 
 -- ---- the coordinates
 

@@ -11,9 +11,11 @@ use borrow.Author.Tests.{eq-eqb}
 use Rattle.refusals.specs.Refusals.{passed, first}
 use Rattle.refusals.proofs.First.{first-assoc}
 use Rattle.reading.specs.Reading.{Vertex, flat, leastReading}
-use Rattle.book_layout.specs.Layout.{within, total, bytesOf, numberOf, coordBytes, body, entries, layout, Each, coordinateBits, Coordinate, Corner, Outline, Accepted, ringCount, entryOffset, countsOf}
+use Rattle.number_bytes.specs.Bytes.{bytesOf, numberOf, Each}
+use Rattle.number_bytes.proofs.Bytes.{take-number, drop-number}
+use Rattle.book_layout.specs.Layout.{within, total, coordBytes, body, entries, layout, coordinateBits, Coordinate, Corner, Outline, Accepted, ringCount, entryOffset, countsOf}
 use Rattle.book_layout.specs.Faults.{fault, entriesCheck, coordsCheck, leastCheck, bookCheck, _passes}
-use Rattle.book_layout.proofs.Bytes.{take-number, drop-number, length-ring, entry-offset, entry-count, entry-rest, ring-back}
+use Rattle.book_layout.proofs.Bytes.{length-ring, entry-offset, entry-count, entry-rest, ring-back}
 use Rattle.book_layout.proofs.Passing.{pass, within-true}
 use Rattle.book_layout.proofs.Laid.{tail, layout-is, length-layout, body-most, body-least, count-back, offset-back, counts-of}
 use Rattle.reading.proofs.Leasts.{length-flat}

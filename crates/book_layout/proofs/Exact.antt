@@ -9,14 +9,16 @@ use lib.Dec.{eqb}
 use borrow.Author.Tests.{eqb-true}
 use Rattle.refusals.specs.Refusals.{first}
 use Rattle.reading.specs.Reading.{Vertex, leastReading}
-use Rattle.book_layout.specs.Layout.{within, total, bytesOf, numberOf, body, entries, layout, bookOf, Each, Outline, Accepted, ringCount, entryOffset, countsOf, ringsOf}
+use Rattle.number_bytes.specs.Bytes.{bytesOf, numberOf, Each, Byte}
+use Rattle.number_bytes.proofs.Bytes.{bytes-take}
+use Rattle.number_bytes.proofs.Each.{each-drop}
+use Rattle.book_layout.specs.Layout.{within, total, body, entries, layout, bookOf, Outline, Accepted, ringCount, entryOffset, countsOf, ringsOf}
 use Rattle.book_layout.specs.Faults.{fault, entriesCheck, coordsCheck, leastCheck, bookCheck, _passes}
 use Rattle.book_layout.proofs.Books.{least-accepted}
-use Rattle.book_layout.proofs.Each.{each-drop}
 use Rattle.book_layout.proofs.Passing.{both, held, is-within}
 use Rattle.reading.proofs.Leasts.{least-again}
 use Rattle.book_layout.proofs.Checks.{layout-pass}
-use Rattle.book_layout.proofs.Found.{Byte, bytes-take, length-countsIn, entries-are, rings-counts, rings-body, rings-kept}
+use Rattle.book_layout.proofs.Found.{length-countsIn, entries-are, rings-counts, rings-body, rings-kept}
 
 -- what a passed check tells
 pub record Checked (f : List ℕ) : Type 0 where

@@ -1,55 +1,23 @@
 -- A file that passes the checks is the book of the rings in it. Assumes nothing.
-use Prim.Native.Nat.{ℕ, zero, suc, _+_, _*_, _/_, _%_, _^_, _≤_, _<_}
+use Prim.Native.Nat.{ℕ, zero, suc, _+_, _*_, _^_, _≤_, _<_}
 use native.Mathlib.Omega.{arith}
-use native.Mathlib.Nat.{pow-succ'}
 use mathlib.Core.Path.{_≡_, refl, sym, ap, ap₂, subst, _∙_}
 use mathlib.Core.List.{List, [], _∷_, _++_, map}
-use lib.ListN.{length, getD, take, drop, length-drop}
+use lib.ListN.{length, take, drop, length-drop}
 use lib.Seq.{drop-drop, take-add, length-take-le}
 use lib.Dec.{eqb}
 use borrow.Author.Tests.{eqb-true}
 use Rattle.refusals.specs.Refusals.{first}
 use Rattle.reading.specs.Reading.{Vertex, flat, vertices, bestOf, leastReading}
-use Rattle.book_layout.specs.Layout.{within, total, bytesOf, numberOf, coordBytes, body, entries, Each, coordinateBits, Coordinate, Corner, coordsIn, countsIn, ringsIn}
+use Rattle.number_bytes.specs.Bytes.{bytesOf, numberOf, Byte, Each}
+use Rattle.number_bytes.proofs.Bytes.{bytes-take, number-lt}
+use Rattle.number_bytes.proofs.Each.{each-take, each-drop}
+use Rattle.book_layout.specs.Layout.{within, total, coordBytes, body, entries, coordinateBits, Coordinate, Corner, coordsIn, countsIn, ringsIn}
 use Rattle.book_layout.specs.Faults.{fault, entriesCheck, coordsCheck, leastCheck, _passes}
 use Rattle.book_layout.proofs.Passing.{both, held, is-within}
-use Rattle.book_layout.proofs.Each.{each-take, each-drop}
 use Rattle.reading.proofs.Leasts.{length-flat}
 use Rattle.reading.proofs.Places.{flat-vertices}
 use Rattle.reading.proofs.Own.{own}
-
--- ---- a number's bytes are those that it was read from
-
-abbrev pub Byte : ℕ → Type 0
-Byte b = b < 256
-
-pub each-byte : (f : List ℕ) → ((i : ℕ) → getD f i 0 < 256) → Each Byte f
-each-byte [] g = tt
-each-byte (b ∷ f) g = (g 0, each-byte f (λ i. g (suc i)))
-
-low-byte : (b m : ℕ) → b < 256 → (b + 256 * m) % 256 ≡ b
-low-byte b m h = omega arith
-
-high-bytes : (b m : ℕ) → b < 256 → (b + 256 * m) / 256 ≡ m
-high-bytes b m h = omega arith
-
-bytes-number : (l : List ℕ) → Each Byte l → bytesOf (length l) (numberOf l) ≡ l
-unfolding bytesOf numberOf
-bytes-number [] h = refl
-bytes-number (b ∷ l) h = rw (low-byte b (numberOf l) (h .0), high-bytes b (numberOf l) (h .0)) (ap (λ (t : List ℕ). b ∷ t) (bytes-number l (h .1)))
-
-pub bytes-take : (k : ℕ) (f : List ℕ) → Each Byte f → k ≤ length f → bytesOf k (numberOf (take k f)) ≡ take k f
-bytes-take k f h n =
-    ap (λ (j : ℕ). bytesOf j (numberOf (take k f))) (sym (length-take-le k f n)) ∙ bytes-number (take k f) (each-take Byte k f h)
-
--- the number of k bytes is below 256 ^ k
-more-bytes : (b n p : ℕ) → b < 256 → n < p → b + 256 * n < 256 * p
-more-bytes b n p h k = omega arith
-
-number-lt : (l : List ℕ) → Each Byte l → numberOf l < 256 ^ length l
-unfolding numberOf
-number-lt [] h = omega arith
-number-lt (b ∷ l) h = rw pow-succ' (more-bytes b (numberOf l) (256 ^ length l) (h .0) (number-lt l (h .1)))
 
 -- ---- the coordinates
 

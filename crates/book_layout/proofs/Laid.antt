@@ -6,8 +6,10 @@ use mathlib.Core.List.{List, [], _∷_, _++_, map, append-assoc, append-nil}
 use lib.ListN.{length, take, drop, length-append, length-map}
 use lib.Seq.{drop-at}
 use Rattle.reading.specs.Reading.{Vertex, flat}
-use Rattle.book_layout.specs.Layout.{bytesOf, numberOf, coordBytes, body, entries, layout, Each, Outline, Accepted, countsIn, ringsIn, ringCount, entryOffset, countsOf, ringsOf}
-use Rattle.book_layout.proofs.Bytes.{length-bytesOf, take-number, length-ring, length-entries, counts-back, rings-back}
+use Rattle.number_bytes.specs.Bytes.{bytesOf, numberOf, Each}
+use Rattle.number_bytes.proofs.Bytes.{length-bytesOf, take-number}
+use Rattle.book_layout.specs.Layout.{coordBytes, body, entries, layout, Outline, Accepted, countsIn, ringsIn, ringCount, entryOffset, countsOf, ringsOf}
+use Rattle.book_layout.proofs.Bytes.{length-ring, length-entries, counts-back, rings-back}
 
 -- ---- lengths
 

@@ -17,14 +17,15 @@ use Rattle.reading.specs.Lent.{kept, ringOf}
 use Rattle.reading.proofs.KeptBits.{kept-lt, of-kept, kept-of}
 use Rattle.reading.proofs.Order.{no-bool}
 use Rattle.reading.proofs.Places.{length-ringOf}
-use Rattle.book_layout.specs.Layout.{within, numberOf, Each, coordinateBits, Coordinate, Outline, Accepted, total, coordsIn, ringsIn, ringCount, entryOffset, coordsOf, countsOf, ringsOf}
+use Rattle.number_bytes.specs.Bytes.{numberOf, Each, Byte}
+use Rattle.number_bytes.proofs.Each.{each-take, each-drop}
+use Rattle.book_layout.specs.Layout.{within, coordinateBits, Coordinate, Outline, Accepted, total, coordsIn, ringsIn, ringCount, entryOffset, coordsOf, countsOf, ringsOf}
 use Rattle.book_layout.specs.Faults.{_passes, bookCheck}
 use Rattle.book_layout.specs.Writer.{ringsFrom, sizedAll, lengthsOk, bookSize, writeRefusal, Held}
 use Rattle.book_layout.specs.Reader.{numbersOf}
-use Rattle.book_layout.proofs.Each.{each-take, each-drop}
 use Rattle.book_layout.proofs.Passing.{both, and-both, within-true, is-within}
 use Rattle.refusals.proofs.Sized.{held-last}
-use Rattle.book_layout.proofs.Found.{Byte, corners, coords-hold, length-coordsIn, length-countsIn}
+use Rattle.book_layout.proofs.Found.{corners, coords-hold, length-coordsIn, length-countsIn}
 use Rattle.book_layout.proofs.Exact.{checked, listing}
 
 -- ---- the writer's tests

@@ -10,14 +10,14 @@ use lib.Ieee.{Float}
 use borrow.Author.Tests.{le-leb}
 use Rattle.refusals.specs.Refusals.{passed, unless}
 use Rattle.reading.specs.Reading.{leastReading}
-use Rattle.book_layout.specs.Layout.{bookOf, Each, SameOutlines, coordsOf, countsOf, ringsOf}
+use Rattle.number_bytes.specs.Bytes.{Each, Byte}
+use Rattle.book_layout.specs.Layout.{bookOf, SameOutlines, coordsOf, countsOf, ringsOf}
 use Rattle.book_layout.specs.Faults.{_passes, bookCheck}
 use Rattle.book_layout.specs.Writer.{ringsFrom, writeRefusal}
 use Rattle.book_layout.specs.Reader.{numbersOf, holdsAll, readRefusal}
 use Rattle.book_layout.proofs.Passing.{both}
 use Rattle.book_layout.proofs.Books.{same-book, least-accepted}
 use Rattle.book_layout.proofs.Laid.{rings-of}
-use Rattle.book_layout.proofs.Found.{Byte}
 use Rattle.book_layout.proofs.Exact.{written-again, book-passes}
 use Rattle.book_layout.proofs.Lent.{Formed, formed, takes, taken, held-accepted, handed, read-held, read-size, total-bounds}
 

@@ -10,7 +10,8 @@ use Rattle.refusals.specs.Refusals.{none, refuse}
 use Rattle.refusals.specs.Bounds.{coordinate, every}
 use Rattle.reading.specs.Reading.{Vertex, ord, less, best, bestOf, leastReading}
 use Rattle.reading.specs.Lent.{kept, ringOf}
-use Rattle.book_layout.specs.Layout.{bytesOf, numberOf, coordBytes, body, entries, layout, bookOf, coordinateBits, total, coordsIn, countsIn, coordsOf, countsOf, ringCount, entryOffset}
+use Rattle.number_bytes.specs.Bytes.{bytesOf, numberOf}
+use Rattle.book_layout.specs.Layout.{coordBytes, body, entries, layout, bookOf, coordinateBits, total, coordsIn, countsIn, coordsOf, countsOf, ringCount, entryOffset}
 use Rattle.book_layout.specs.Writer.{sizedAll, lengthsOk, writeRefusal}
 use Rattle.book_layout.specs.Reader.{readRefusal}
 use Rattle.book_layout.specs.Faults.{faultAt, entriesCheck, coordsCheck, leastCheck, bookCheck}

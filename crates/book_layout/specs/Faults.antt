@@ -8,7 +8,8 @@ use lib.Dec.{eqb}
 use Rattle.refusals.specs.Refusals.{none, passed, firstOf}
 use Rattle.refusals.specs.declared.Refusal.{Refusal}
 use Rattle.reading.specs.Reading.{vertices, isLeast}
-use Rattle.book_layout.specs.Layout.{vertexBytes, entryBytes, tailBytes, bookLeast, bookMost, within, numberOf, coordinateBits, total, coordsIn, countsOf, ringCount, entryOffset}
+use Rattle.number_bytes.specs.Bytes.{numberOf}
+use Rattle.book_layout.specs.Layout.{vertexBytes, entryBytes, tailBytes, bookLeast, bookMost, within, coordinateBits, total, coordsIn, countsOf, ringCount, entryOffset}
 
 -- refusal 7 with a place
 abbrev pub faultAt : ℕ → Refusal

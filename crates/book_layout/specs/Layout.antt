@@ -1,11 +1,12 @@
 -- The outline book: its bytes, which lists of rings it holds, and what a file holds if it is one. Definitions only.
-use Prim.Native.Nat.{ℕ, zero, suc, _+_, _-_, _*_, _/_, _%_, _^_, _≤_, _<_}
+use Prim.Native.Nat.{ℕ, zero, suc, _+_, _-_, _*_, _/_, _^_, _≤_, _<_}
 use mathlib.Core.Path.{_≡_}
 use mathlib.Core.Bool.{Bool, true, _&&_}
 use mathlib.Core.List.{List, [], _∷_, _++_, map}
 use lib.ListN.{length, getD, take, drop}
 use lib.Dec.{leb}
 use lib.Ieee.{binary64, ofBits}
+use Rattle.number_bytes.specs.Bytes.{bytesOf, numberOf, Each}
 use Rattle.refusals.specs.Bounds.{coordinate}
 use Rattle.reading.specs.Reading.{Reads, Vertex, flat, vertices, leastReading}
 
@@ -33,16 +34,6 @@ bookMost = 8 * (256 * vertexBytes + entryBytes) + tailBytes
 abbrev pub within : ℕ → ℕ → ℕ → Bool
 within low high n = leb low n && leb n high
 
--- ---- numbers in bytes, little-endian
-
-unfoldable pub bytesOf : ℕ → ℕ → List ℕ
-bytesOf zero n = []
-bytesOf (suc k) n = n % 256 ∷ bytesOf k (n / 256)
-
-unfoldable pub numberOf : List ℕ → ℕ
-numberOf [] = 0
-numberOf (b ∷ l) = b + 256 * numberOf l
-
 -- ---- the layout
 
 -- coordinates, 8 bytes each
@@ -69,10 +60,6 @@ unfoldable pub bookOf : List (List Vertex) → List ℕ
 bookOf rs = layout (map leastReading rs)
 
 -- ---- which lists a book holds
-
-abbrev pub Each : {A : Type 0} → (A → Type 0) → List A → Type 0
-Each P [] = Unit {0}
-Each P (a ∷ l) = P a × Each P l
 
 -- whether a bit pattern is a coordinate's: finite, of magnitude at most 1,000,000
 unfoldable pub coordinateBits : ℕ → Bool

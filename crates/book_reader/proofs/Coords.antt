@@ -9,7 +9,8 @@ use lib.Seq.{sets, drop-drop}
 use lib.Ieee.{Float, binary64, ofBits}
 use Rattle.refusals.specs.Refusals.{none, passed, first}
 use Rattle.refusals.specs.declared.Refusal.{Refusal}
-use Rattle.book_layout.specs.Layout.{coordinateBits, numberOf, coordsIn}
+use Rattle.number_bytes.specs.Bytes.{numberOf}
+use Rattle.book_layout.specs.Layout.{coordinateBits, coordsIn}
 use Rattle.book_layout.specs.Faults.{faultAt, fault, _passes, coordsCheck}
 use Rattle.book_layout.proofs.Passing.{both, held}
 

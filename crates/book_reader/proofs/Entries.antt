@@ -10,7 +10,8 @@ use lib.Dec.{eqb}
 use borrow.Author.Tests.{eq-eqb, ne-eqb, eqb-true}
 use Rattle.refusals.specs.Refusals.{none, passed, first}
 use Rattle.refusals.specs.declared.Refusal.{Refusal}
-use Rattle.book_layout.specs.Layout.{within, numberOf, total, countsIn}
+use Rattle.number_bytes.specs.Bytes.{numberOf}
+use Rattle.book_layout.specs.Layout.{within, total, countsIn}
 use Rattle.book_layout.specs.Faults.{faultAt, fault, _passes, entriesCheck}
 use Rattle.book_layout.proofs.Passing.{both, held, is-within}
 use Rattle.book_reader.specs.Parts.{listCheck}

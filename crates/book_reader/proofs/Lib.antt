@@ -1,5 +1,4 @@
 -- The modules that belong to no one function.
-mod Numbers
 mod Fields
 mod Coords
 mod Entries

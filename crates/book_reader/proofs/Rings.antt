@@ -12,12 +12,14 @@ use lib.Ieee.{Float, nan, isNan, binary64, ofBits}
 use Rattle.refusals.specs.Refusals.{none, passed, first}
 use Rattle.reading.specs.Reading.{vertices, isLeast}
 use Rattle.reading.specs.Lent.{ringOf, Lent}
-use Rattle.book_layout.specs.Layout.{Each, Coordinate, numberOf, total, coordsIn, countsIn}
+use Rattle.number_bytes.specs.Bytes.{Each, numberOf, Byte}
+use Rattle.number_bytes.proofs.Bytes.{each-byte}
+use Rattle.number_bytes.proofs.Each.{each-drop}
+use Rattle.book_layout.specs.Layout.{Coordinate, total, coordsIn, countsIn}
 use Rattle.book_layout.specs.Faults.{faultAt, fault, _passes, coordsCheck, leastCheck}
-use Rattle.book_layout.proofs.Each.{each-drop}
 use Rattle.book_layout.proofs.Passing.{both}
 use Rattle.book_layout.proofs.Checks.{coords-split}
-use Rattle.book_layout.proofs.Found.{Byte, each-byte, coords-hold, length-coordsIn}
+use Rattle.book_layout.proofs.Found.{coords-hold, length-coordsIn}
 use Rattle.book_layout.proofs.Lent.{bits-number, ring-loaded}
 use Rattle.book_reader.proofs.Entries.{count-left, total-left}
 

@@ -1,9 +1,7 @@
 // The checks of a file: each answers refusal 7 with the place of the first fault that it finds, or no refusal.
 use crate::load::load;
-use crate::number::entry_offset;
-use crate::number::number4;
-use crate::number::number8;
-use crate::number::ring_count;
+use crate::tail::entry_offset;
+use crate::tail::ring_count;
 use book_layout::BOOK_LEAST;
 use book_layout::BOOK_MOST;
 use book_layout::COORDINATE_BYTES;
@@ -14,6 +12,8 @@ use book_layout::TAIL_BYTES;
 use book_layout::VERTEX_BYTES;
 use book_layout::VERTICES_LEAST;
 use book_layout::VERTICES_MOST;
+use number_bytes::number4;
+use number_bytes::number8;
 use reading::is_least;
 use refusals::Refusal;
 use refusals::screen::unless;

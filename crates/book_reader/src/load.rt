@@ -1,11 +1,11 @@
 // What a file holds, loaded into rooms.
-use crate::number::entry_offset;
-use crate::number::number4;
-use crate::number::number8;
-use crate::number::ring_count;
+use crate::tail::entry_offset;
+use crate::tail::ring_count;
 use book_layout::COORDINATE_BYTES;
 use book_layout::ENTRY_BYTES;
 use book_layout::FIELD_BYTES;
+use number_bytes::number4;
+use number_bytes::number8;
 ghost use mathlib.Core.Path.{_≡_};
 ghost use mathlib.Core.List.{map};
 ghost use Prim.Native.Nat.{_+_, _*_, _≤_};

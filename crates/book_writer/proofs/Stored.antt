@@ -11,9 +11,11 @@ use Rattle.ring.specs.Room.{laid}
 use Rattle.reading.specs.Reading.{Vertex, leastReading}
 use Rattle.reading.specs.Lent.{ringOf}
 use Rattle.reading.proofs.Leasts.{length-least}
-use Rattle.book_layout.specs.Layout.{within, bytesOf, entries, layout, bookOf, total}
+use Rattle.number_bytes.specs.Bytes.{bytesOf}
+use Rattle.number_bytes.proofs.Bytes.{length-bytesOf}
+use Rattle.book_layout.specs.Layout.{within, entries, layout, bookOf, total}
 use Rattle.book_layout.specs.Writer.{ringsFrom, sizedAll, bookSize}
-use Rattle.book_layout.proofs.Bytes.{laid-is, length-bytesOf, length-entries}
+use Rattle.book_layout.proofs.Bytes.{laid-is, length-entries}
 use Rattle.book_layout.proofs.Checks.{body-total}
 use Rattle.book_layout.proofs.Passing.{and-both, is-within}
 use Rattle.book_layout.proofs.Lent.{ring-count}

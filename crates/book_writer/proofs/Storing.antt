@@ -1,6 +1,6 @@
--- Runs of stores: the bytes of a number, of coordinates, of entries and of rings. In each loop, what is yet to be stored from here on gives the room that
+-- Runs of stores: the bytes of coordinates, of entries and of rings. In each loop, what is yet to be stored from here on gives the room that
 -- was asked for. Assumes nothing.
-use Prim.Native.Nat.{ℕ, suc, _+_, _-_, _*_, _/_, _%_, _≤_, _<_}
+use Prim.Native.Nat.{ℕ, suc, _+_, _*_, _≤_, _<_}
 use native.Mathlib.Omega.{arith}
 use native.Mathlib.Numerals.{add-one}
 use mathlib.Core.Path.{_≡_, sym, ap, ap₂, _∙_}
@@ -11,9 +11,11 @@ use lib.Ieee.{Float}
 use Rattle.reading.specs.Reading.{flat, leastReading}
 use Rattle.reading.specs.Lent.{ringOf}
 use Rattle.reading.proofs.Leasts.{length-least}
-use Rattle.book_layout.specs.Layout.{bytesOf, coordBytes, body, entries}
+use Rattle.number_bytes.specs.Bytes.{bytesOf}
+use Rattle.number_bytes.proofs.Bytes.{length-bytesOf}
+use Rattle.book_layout.specs.Layout.{coordBytes, body, entries}
 use Rattle.book_layout.specs.Writer.{ringsFrom}
-use Rattle.book_layout.proofs.Bytes.{length-bytesOf, length-ring}
+use Rattle.book_layout.proofs.Bytes.{length-ring}
 use Rattle.book_layout.proofs.Lent.{ring-count}
 
 pub sets-append : {A : Type 0} (l : List A) (i : ℕ) (u v : List A) → sets l i (u ++ v) ≡ sets (sets l i u) (i + length u) v
@@ -21,26 +23,6 @@ sets-append l i [] v = ap (λ (k : ℕ). sets l k v) (omega arith)
 sets-append l i (a ∷ u) v =
     let e : suc i + length u ≡ i + suc (length u) = omega arith in
     sets-append (set l i a) (suc i) u v ∙ ap (λ (k : ℕ). sets (sets (set l i a) (suc i) u) k v) e
-
--- ---- `put`
-
-pub put-start : (room : List ℕ) (at k n : ℕ) → sets room at (bytesOf k n) ≡ sets room (at + 0) (bytesOf (k - 0) n)
-put-start room at k n = ap₂ (λ (a b : ℕ). sets room a (bytesOf b n)) (omega arith) (omega arith)
-
-pub put-on : (room : List ℕ) (at k i rest : ℕ) → i < k
-    → sets room (at + i) (bytesOf (k - i) rest) ≡ sets (set room (at + i) (rest % 256)) (at + (i + 1)) (bytesOf (k - (i + 1)) (rest / 256))
-unfolding bytesOf
-put-on room at k i rest h =
-    let e : k - i ≡ suc (k - (i + 1)) = omega arith in
-    let d : suc (at + i) ≡ at + (i + 1) = omega arith in
-    ap (λ (m : ℕ). sets room (at + i) (bytesOf m rest)) e
-    ∙ ap (λ (m : ℕ). sets (set room (at + i) (rest % 256)) m (bytesOf (k - (i + 1)) (rest / 256))) d
-
-pub put-end : (room : List ℕ) (at k i rest : ℕ) → k ≤ i → sets room (at + i) (bytesOf (k - i) rest) ≡ room
-unfolding bytesOf
-put-end room at k i rest h =
-    let e : k - i ≡ 0 = omega arith in
-    ap (λ (m : ℕ). sets room (at + i) (bytesOf m rest)) e
 
 -- ---- `put_ring`
 

@@ -5,6 +5,7 @@ use book_layout::ENTRY_BYTES;
 use book_layout::FIELD_BYTES;
 use book_layout::TAIL_BYTES;
 use book_layout::VERTEX_BYTES;
+use number_bytes::put;
 use reading::coordinate;
 use reading::least;
 ghost use mathlib.Core.Path.{_≡_};
@@ -15,22 +16,8 @@ ghost use lib.Seq.{sets};
 ghost use Rattle.ring.specs.Room.{laid};
 ghost use Rattle.reading.specs.Reading.{flat, choice, leastReading};
 ghost use Rattle.reading.specs.Lent.{ringOf, Lent};
-ghost use Rattle.book_layout.specs.Layout.{bytesOf, coordBytes, body, entries, total, bookOf};
+ghost use Rattle.book_layout.specs.Layout.{coordBytes, body, entries, total, bookOf};
 ghost use Rattle.book_layout.specs.Writer.{ringsFrom, bookSize, Held};
-
-// The k low bytes of n, the lowest first, from room[at] on.
-fn put(room: &mut [u8], at: usize, k: usize, n: u64)
-    requires { ⌜ at + k ≤ length (now room) ⌝ }
-    ensures { λ _. ⌜ now (room .exit) ≡ sets (now (room .entry)) at (bytesOf k n) ⌝ }
-{
-    let mut rest = n;
-    let mut i = 0;
-    while i < k {
-        room[at + i] = (rest % 256) as u8;
-        rest = rest / 256;
-        i += 1;
-    }
-}
 
 // The reading c of a ring, from room[at] on.
 fn put_ring(ring: &[f64], c: usize, room: &mut [u8], at: usize)

@@ -16,12 +16,12 @@ use Rattle.refusals.specs.Answers.{answers, refuses, outcome, count}
 use Rattle.refusals.specs.declared.Refusal.{Refusal}
 use Rattle.refusals.specs.declared.answer.Count.{Count}
 use Rattle.refusals.specs.declared.answer.Count.the-variants.{Is}
+use Rattle.number_bytes.proofs.Bytes.{each-byte}
 use Rattle.book_layout.specs.Layout.{total, countsOf}
 use Rattle.book_layout.specs.Faults.{_passes}
 use Rattle.book_layout.specs.Writer.{Held}
 use Rattle.book_layout.specs.Reader.{numbersOf, readRefusal}
 use Rattle.book_layout.proofs.Passing.{and-both}
-use Rattle.book_layout.proofs.Found.{each-byte}
 use Rattle.book_layout.proofs.Lent.{coordinate-number, read-held}
 use Rattle.book_reader.proofs.Files.{Promised, reads}
 use Rattle.ring_printer.specs.Printable.{Numbers, Printable}

@@ -1,5 +1,5 @@
 -- What is printed of the rings that the reader hands out is what is said of the book. Assumes nothing.
-use Prim.Native.Nat.{ℕ, zero, suc, _+_, _-_, _*_, _≤_, _<_}
+use Prim.Native.Nat.{ℕ, zero, suc, _+_, _*_, _≤_, _<_}
 use native.Mathlib.Omega.{arith}
 use mathlib.Core.Path.{_≡_, refl, sym, ap, ap₂, _∙_}
 use mathlib.Core.Bool.{Bool, true, false, cond}
@@ -9,17 +9,17 @@ use lib.Seq.{take-append-le, drop-append-le}
 use lib.Ieee.{Float, binary64, ofBits}
 use Rattle.ring.specs.Room.{laid}
 use Rattle.refusals.specs.Refusals.{passed}
-use Rattle.refusals.specs.Answers.{Outcome, answers, refuses, outcome, count}
+use Rattle.refusals.specs.Answers.{Outcome, answers, refuses, count}
 use Rattle.refusals.specs.declared.Refusal.{Refusal}
 use Rattle.refusals.specs.declared.Settings.{Settings}
 use Rattle.refusals.specs.declared.answer.Count.{Count}
 use Rattle.refusals.specs.declared.answer.Count.the-variants.{Is, Refused}
+use Rattle.number_bytes.proofs.Bytes.{each-byte}
 use Rattle.book_layout.specs.Layout.{within, total, countsOf}
 use Rattle.book_layout.specs.Faults.{_passes, bookCheck}
 use Rattle.book_layout.specs.Writer.{sizedAll, Held}
-use Rattle.book_layout.specs.Reader.{numbersOf, holdsAll, readRefusal}
+use Rattle.book_layout.specs.Reader.{numbersOf, readRefusal}
 use Rattle.book_layout.proofs.Passing.{and-both, is-within}
-use Rattle.book_layout.proofs.Found.{each-byte}
 use Rattle.book_layout.proofs.Lent.{read-held}
 use Rattle.book_layout.proofs.Theorems.{enough}
 use Rattle.book_reader.proofs.Files.{Promised, reads, at-fault}

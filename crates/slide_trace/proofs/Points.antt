@@ -1,12 +1,11 @@
 -- Points put into a room, a line each. Assumes nothing.
-use Prim.Native.Nat.{ℕ, suc, _+_, _*_, _≤_}
-use mathlib.Core.Path.{_≡_, refl, sym, ap, subst, _∙_}
-use mathlib.Core.List.{List, [], _∷_, _++_}
-use native.Mathlib.Omega.{arith}
+use Prim.Native.Nat.{ℕ, _+_}
+use mathlib.Core.Path.{_≡_, refl, sym, subst}
+use mathlib.Core.List.{List, _++_}
 use native.Mathlib.Nat.{add-zero}
 use native.Mathlib.Numerals.{add-one}
 use mathlib.Core.List.{append-nil}
-use lib.ListN.{length, take}
+use lib.ListN.{take}
 use lib.Ieee.{Float, binary64, toBits}
 use Rattle.ring.specs.Ring.{pointAt}
 use Rattle.print.specs.Text.{Put, pairLine}

@@ -4,7 +4,7 @@ use mathlib.Core.Bool.{cond}
 use mathlib.Core.List.{List}
 use lib.ListN.{getD, take, drop}
 use lib.Ieee.{Float, binary64, ofBits}
-use Rattle.replay.specs.Words.{wordAt}
+use Rattle.number_bytes.specs.Bytes.{numberOf}
 use Rattle.refusals.specs.Refusals.{refuse, passed}
 use Rattle.refusals.specs.declared.Settings.{Settings}
 use Rattle.simplify.specs.Simplify.{simplified}
@@ -41,6 +41,10 @@ bookText book s =
     cond (passed (bookCheck book))
     (traceText (take (2 * n) (numbersOf book)) (take (2 * verticesOf book 1) (drop (2 * n) (numbersOf book))) s)
     (refusalLine (bookCheck book))
+
+-- the word at a byte
+abbrev pub wordAt : List ℕ → ℕ → ℕ
+wordAt input at = numberOf (take 8 (drop at input))
 
 -- the tolerance, the smallest move and the pass limit
 abbrev pub settingsOf : List ℕ → Settings

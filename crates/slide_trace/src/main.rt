@@ -6,11 +6,11 @@ use book_reader::calls::read_book;
 use libc::STDIN_FILENO;
 use libc::STDOUT_FILENO;
 use nfp_sliding::calls::compute_nfp_sliding;
+use number_bytes::float_of;
+use number_bytes::number8;
 use refusals::Refusal;
 use refusals::Settings;
 use refusals::answer::Count;
-use replay::number;
-use replay::word;
 use say::put_answer;
 use say::put_refusal;
 ghost use mathlib.Core.Path.{_≡_};
@@ -21,12 +21,13 @@ ghost use Rattle.slide_trace.specs.Said.{settingsOf, traceText, bookText
 
 // The settings before the book.
 fn settings(input: &[u8]) -> Settings
+    requires { ⌜ 24 ≤ length (now input) ⌝ }
     ensures { λ r. ⌜ r ≡ settingsOf (now (input .entry)) ⌝ }
 {
     Settings {
-        contact_tolerance: number(word(input, 0)),
-        min_translation: number(word(input, 8)),
-        max_iterations: word(input, 16),
+        contact_tolerance: float_of(number8(input, 0)),
+        min_translation: float_of(number8(input, 8)),
+        max_iterations: number8(input, 16),
     }
 }
 

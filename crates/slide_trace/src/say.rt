@@ -1,12 +1,11 @@
 // What is printed of a trace's answer: the path, or the refusal.
 use nfp_sliding::answer::Traced;
+use number_bytes::bits_of;
 use print::put_decimal;
 use print::put_pair;
 use print::put_text;
 use refusals::Refusal;
-use replay::bits;
 use ring::point_at;
-ghost use mathlib.Core.Path.{_≡_};
 ghost use Prim.Native.Nat.{_+_, _*_, _≤_};
 ghost use lib.ListN.{length};
 ghost use Rattle.print.specs.Text.{Put};
@@ -58,7 +57,7 @@ fn put_points(xs: &[f64], n: usize, out: &mut [u8], at: usize) -> usize
     let mut i = 0;
     while i < n {
         let p = point_at(xs, i);
-        next = put_pair(out, next, bits(p.x), bits(p.y));
+        next = put_pair(out, next, bits_of(p.x), bits_of(p.y));
         i += 1;
     }
     next

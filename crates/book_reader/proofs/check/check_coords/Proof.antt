@@ -5,7 +5,8 @@ use native.Mathlib.Omega.{arith}
 use borrow.Author.Needs.{needs}
 use borrow.Author.Tests.{not-true, not-false}
 use lib.ListN.{take, drop}
-use Rattle.book_layout.specs.Layout.{coordinateBits, numberOf}
+use Rattle.number_bytes.specs.Bytes.{numberOf}
+use Rattle.book_layout.specs.Layout.{coordinateBits}
 use Rattle.book_layout.specs.Faults.{faultAt, coordsCheck}
 use Rattle.book_reader.proofs.Coords.{coords-start, coord-good, coord-bad, coords-end}
 use Rattle.book_reader.proofs.check.check_coords.Statement.{statement}

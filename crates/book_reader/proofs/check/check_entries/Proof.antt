@@ -9,7 +9,8 @@ use borrow.Author.Needs.{needs}
 use borrow.Author.Tests.{not-true, not-false}
 use lib.ListN.{take, drop}
 use lib.Dec.{eqb}
-use Rattle.book_layout.specs.Layout.{within, numberOf, total, countsIn}
+use Rattle.number_bytes.specs.Bytes.{numberOf}
+use Rattle.book_layout.specs.Layout.{within, total, countsIn}
 use Rattle.book_layout.specs.Faults.{entriesCheck}
 use Rattle.refusals.specs.Refusals.{none}
 use Rattle.book_layout.proofs.Passing.{is-within}

@@ -9,7 +9,8 @@ use borrow.Author.Tests.{not-true, not-false}
 use lib.ListN.{take, drop}
 use Rattle.refusals.specs.Refusals.{passed}
 use Rattle.reading.specs.Reading.{vertices, isLeast}
-use Rattle.book_layout.specs.Layout.{numberOf, total, coordsIn, countsIn}
+use Rattle.number_bytes.specs.Bytes.{numberOf}
+use Rattle.book_layout.specs.Layout.{total, coordsIn, countsIn}
 use Rattle.book_layout.specs.Faults.{_passes, entriesCheck, coordsCheck, leastCheck}
 use Rattle.book_reader.proofs.Entries.{entry-held, total-left, entries-start, counts-start, counts-end, list-passed}
 use Rattle.book_reader.proofs.Rings.{coords-next, least-good, least-bad, least-end}

@@ -7,7 +7,8 @@ use borrow.Author.Needs.{needs}
 use lib.ListN.{length}
 use lib.Ieee.{Float}
 use lib.Seq.{sets, length-sets}
-use Rattle.book_layout.specs.Layout.{bytesOf, entries, total}
+use Rattle.number_bytes.specs.Bytes.{bytesOf}
+use Rattle.book_layout.specs.Layout.{entries, total}
 use Rattle.book_layout.proofs.Lent.{total-bounds}
 use Rattle.book_writer.proofs.Storing.{stored}
 use Rattle.book_writer.proofs.Lengths.{sum-is}

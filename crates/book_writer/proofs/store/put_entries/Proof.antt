@@ -7,7 +7,8 @@ use native.Mathlib.Omega.{arith}
 use borrow.Author.Needs.{needs}
 use lib.ListN.{length, getD, drop}
 use lib.Seq.{sets, length-sets}
-use Rattle.book_layout.specs.Layout.{bytesOf, entries, total}
+use Rattle.number_bytes.specs.Bytes.{bytesOf}
+use Rattle.book_layout.specs.Layout.{entries, total}
 use Rattle.book_layout.proofs.Counts.{total-on}
 use Rattle.book_writer.proofs.Storing.{entries-start, entries-on, entries-end}
 use Rattle.book_writer.proofs.store.put_entries.Statement.{statement}

@@ -10,7 +10,8 @@ use lib.Seq.{sets, length-sets}
 use Rattle.reading.specs.Reading.{flat, choice}
 use Rattle.reading.specs.Lent.{ringOf}
 use Rattle.reading.proofs.Places.{length-choice}
-use Rattle.book_layout.specs.Layout.{bytesOf, coordBytes}
+use Rattle.number_bytes.specs.Bytes.{bytesOf}
+use Rattle.book_layout.specs.Layout.{coordBytes}
 use Rattle.book_writer.proofs.Storing.{ring-start, ring-on, ring-end}
 use Rattle.book_writer.proofs.store.put_ring.Statement.{statement}
 use Rattle.book_writer.proofs.store.put_ring.Tie as tie

@@ -1,5 +1,4 @@
 -- `slide_trace::say::put_fault` meets its contract. Assumes nothing.
-use native.Mathlib.Omega.{arith}
 use borrow.Author.Needs.{needs}
 use Rattle.print.proofs.Puts.{then}
 use Rattle.slide_trace.specs.Lines.{faultLine}

@@ -24,11 +24,11 @@ loop-holds c = ((omega arith), refl, (omega arith), no-point (c .before .before 
 point-at-requires : tie.Need-point-at-requires Inv-loop μ-loop
 point-at-requires c κs = search needs
 
-bits-requires : tie.Need-bits-requires Inv-loop μ-loop
-bits-requires c κs = search needs
+bits-of-requires : tie.Need-bits-of-requires Inv-loop μ-loop
+bits-of-requires c κs = search needs
 
-bits-requires-2 : tie.Need-bits-requires-2 Inv-loop μ-loop
-bits-requires-2 c κs = search needs
+bits-of-requires-2 : tie.Need-bits-of-requires-2 Inv-loop μ-loop
+bits-of-requires-2 c κs = search needs
 
 put-pair-requires : tie.Need-put-pair-requires Inv-loop μ-loop
 put-pair-requires c κs = search needs
@@ -50,8 +50,8 @@ loop-again c =
       (omega arith),
       r .put-pair .kept .0 ∙ l .loop .inv .1,
       (omega (arith, r .put-pair .ensures .1)),
-      point-more xs (l .loop .i) (b .bits .result) (r .before .bits2 .result) (l .loop .inv .3) (r .put-pair .ensures .0)
-          (b .bits .ensures ∙ ap (λ (p : Point). toBits binary64 (p .x)) e) (r .before .bits2 .ensures ∙ ap (λ (p : Point). toBits binary64 (p .y)) e),
+      point-more xs (l .loop .i) (b .bits-of .result) (r .before .bits-of2 .result) (l .loop .inv .3) (r .put-pair .ensures .0)
+          (b .bits-of .ensures ∙ ap (λ (p : Point). toBits binary64 (p .x)) e) (r .before .bits-of2 .ensures ∙ ap (λ (p : Point). toBits binary64 (p .y)) e),
     )
 
 same-length : tie.Need-same-length Inv-loop μ-loop
@@ -72,8 +72,8 @@ put-points-spec =
     μ-loop
     loop-holds
     point-at-requires
-    bits-requires
-    bits-requires-2
+    bits-of-requires
+    bits-of-requires-2
     put-pair-requires
     add-i
     loop-less

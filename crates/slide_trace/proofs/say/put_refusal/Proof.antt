@@ -1,5 +1,4 @@
 -- `slide_trace::say::put_refusal` meets its contract. Assumes nothing.
-use native.Mathlib.Omega.{arith}
 use borrow.Author.Needs.{needs}
 use Rattle.print.proofs.Puts.{then, reads}
 use Rattle.slide_trace.proofs.Lines.{fault-said, number-said}

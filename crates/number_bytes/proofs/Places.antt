@@ -1,10 +1,10 @@
--- Numbers of four and of eight bytes in a file, byte by byte. Assumes nothing.
+-- Numbers of four and of eight bytes in a list, byte by byte. Assumes nothing.
 use Prim.Native.Nat.{ℕ, zero, suc, _+_, _*_, _≤_}
 use native.Mathlib.Omega.{arith}
 use mathlib.Core.Path.{_≡_}
 use mathlib.Core.List.{List, [], _∷_}
 use lib.ListN.{length, getD, take, drop}
-use Rattle.book_layout.specs.Layout.{numberOf}
+use Rattle.number_bytes.specs.Bytes.{numberOf}
 
 pub four : (f : List ℕ) (at : ℕ) → at + 4 ≤ length f
     → numberOf (take 4 (drop at f)) ≡ getD f at 0 + 256 * getD f (at + 1) 0 + 65536 * getD f (at + 2) 0 + 16777216 * getD f (at + 3) 0

@@ -1,8 +1,8 @@
--- `book_reader::number::entry_offset` meets its contract. Assumes nothing.
+-- `book_reader::tail::entry_offset` meets its contract. Assumes nothing.
 use borrow.Author.Needs.{needs}
 use Rattle.book_layout.specs.Layout.{entryOffset}
-use Rattle.book_reader.proofs.number.entry_offset.Statement.{statement}
-use Rattle.book_reader.proofs.number.entry_offset.Tie as tie
+use Rattle.book_reader.proofs.tail.entry_offset.Statement.{statement}
+use Rattle.book_reader.proofs.tail.entry_offset.Tie as tie
 
 sub-number4 : tie.Need-sub-number4
 sub-number4 c = search needs

@@ -1,9 +1,9 @@
--- `book_reader::number::number8` meets its contract: the low half and the high half. Assumes nothing.
+-- `number_bytes::number8` meets its contract: the low half and the high half. Assumes nothing.
 use native.Mathlib.Omega.{arith}
 use borrow.Author.Needs.{needs}
-use Rattle.book_reader.proofs.Numbers.{eight}
-use Rattle.book_reader.proofs.number.number8.Statement.{statement}
-use Rattle.book_reader.proofs.number.number8.Tie as tie
+use Rattle.number_bytes.proofs.Places.{eight}
+use Rattle.number_bytes.proofs.number8.Statement.{statement}
+use Rattle.number_bytes.proofs.number8.Tie as tie
 
 number4-requires : tie.Need-number4-requires
 number4-requires c κs = search needs

@@ -1,4 +1,4 @@
--- `book_writer::store::put` meets its contract. The loop's invariant: with the bytes of what is left of the number stored from at + i on, the room is what
+-- `number_bytes::put` meets its contract. The loop's invariant: with the bytes of what is left of the number stored from at + i on, the room is what
 -- was asked for. Assumes nothing.
 use Prim.Native.Nat.{_+_, _-_, _%_, _≤_}
 use mathlib.Core.Path.{_≡_, refl, sym, _∙_}
@@ -6,10 +6,10 @@ use native.Mathlib.Omega.{arith}
 use lib.ListN.{length, length-set}
 use borrow.Author.Needs.{needs}
 use lib.Seq.{sets}
-use Rattle.book_layout.specs.Layout.{bytesOf}
-use Rattle.book_writer.proofs.Storing.{put-start, put-on, put-end}
-use Rattle.book_writer.proofs.store.put.Statement.{statement}
-use Rattle.book_writer.proofs.store.put.Tie as tie
+use Rattle.number_bytes.specs.Bytes.{bytesOf}
+use Rattle.number_bytes.proofs.Puts.{put-start, put-on, put-end}
+use Rattle.number_bytes.proofs.put.Statement.{statement}
+use Rattle.number_bytes.proofs.put.Tie as tie
 
 abbrev Inv-loop : tie.InvT-loop
 Inv-loop room₀ at k n rest₀ i₀ room rest i =

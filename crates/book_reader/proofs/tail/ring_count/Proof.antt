@@ -1,8 +1,8 @@
--- `book_reader::number::ring_count` meets its contract. Assumes nothing.
+-- `book_reader::tail::ring_count` meets its contract. Assumes nothing.
 use borrow.Author.Needs.{needs}
 use Rattle.book_layout.specs.Layout.{ringCount}
-use Rattle.book_reader.proofs.number.ring_count.Statement.{statement}
-use Rattle.book_reader.proofs.number.ring_count.Tie as tie
+use Rattle.book_reader.proofs.tail.ring_count.Statement.{statement}
+use Rattle.book_reader.proofs.tail.ring_count.Tie as tie
 
 sub-number4 : tie.Need-sub-number4
 sub-number4 c = search needs

@@ -1,9 +1,9 @@
--- `book_reader::number::number4` meets its contract: the four bytes, weighed. Assumes nothing.
+-- `number_bytes::number4` meets its contract: the four bytes, weighed. Assumes nothing.
 use native.Mathlib.Omega.{arith}
 use borrow.Author.Needs.{needs}
-use Rattle.book_reader.proofs.Numbers.{four}
-use Rattle.book_reader.proofs.number.number4.Statement.{statement}
-use Rattle.book_reader.proofs.number.number4.Tie as tie
+use Rattle.number_bytes.proofs.Places.{four}
+use Rattle.number_bytes.proofs.number4.Statement.{statement}
+use Rattle.number_bytes.proofs.number4.Tie as tie
 
 shared-slice-read-wide : tie.Need-shared-slice-read-wide
 shared-slice-read-wide c = search needs
