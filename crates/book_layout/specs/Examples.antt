@@ -45,8 +45,8 @@ pub triangle-fine : bookCheck book ≡ none
 unfolding bookCheck entriesCheck coordsCheck leastCheck coordinateBits coordinate ofBits numberOf coordsIn countsIn countsOf ringCount entryOffset total bestOf best less ord
 triangle-fine = refl
 
--- one fault each: the length, the ring count, the offset of the entries, the ring's offset, its vertices, where the rings end, the coordinate
--- (2 ^ 20 and more, a NaN), and a ring that is not its least reading
+-- one fault each: the length, the ring count, the offset of the entries, the ring's offset, its vertices, where the rings end, the
+-- coordinate (2 ^ 20 and more, a NaN), and a ring that is not its least reading
 pub cut-short : bookCheck (take 63 book) ≡ faultAt 0
 unfolding bookCheck entriesCheck coordsCheck leastCheck coordinateBits coordinate ofBits numberOf coordsIn countsIn countsOf ringCount entryOffset total bestOf best less ord
 cut-short = refl
