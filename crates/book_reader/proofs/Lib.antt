@@ -4,3 +4,4 @@ mod Coords
 mod Entries
 mod Rings
 pub mod Files
+pub mod Handed

@@ -18,7 +18,8 @@ use Rattle.nfp_sliding.specs.Path.{tracedOf}
 use Rattle.nfp_sliding.specs.Calls.{Answer, traces, refuses, overfull, tooShort, traced, brief, told, resultAfter, traceRefusal, traceCall, traceResult}
 use Rattle.nfp_sliding.specs.declared.answer.Traced.{Traced}
 use Rattle.nfp_sliding.specs.declared.answer.Traced.the-variants.{Is, Refused, Full, Short}
-use Rattle.slide_trace.specs.Lines.{headingLine, pointLines, answerText, InList}
+use Rattle.lines.specs.Lines.{pointLines}
+use Rattle.slide_trace.specs.Lines.{headingLine, answerText, InList}
 use Rattle.slide_trace.specs.Said.{textOf, traceText}
 
 -- ---- points at the front of a list

@@ -1,9 +1,9 @@
--- `slide_trace::say::put_fault` meets its contract. Assumes nothing.
+-- `lines::put_fault` meets its contract. Assumes nothing.
 use borrow.Author.Needs.{needs}
 use Rattle.print.proofs.Puts.{then}
-use Rattle.slide_trace.specs.Lines.{faultLine}
-use Rattle.slide_trace.proofs.say.put_fault.Statement.{statement}
-use Rattle.slide_trace.proofs.say.put_fault.Tie as tie
+use Rattle.lines.specs.Lines.{faultLine}
+use Rattle.lines.proofs.put_fault.Statement.{statement}
+use Rattle.lines.proofs.put_fault.Tie as tie
 
 slice-aggregate-put-text : tie.Need-slice-aggregate-put-text
 slice-aggregate-put-text c = search needs

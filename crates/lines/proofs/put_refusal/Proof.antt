@@ -1,9 +1,9 @@
--- `slide_trace::say::put_refusal` meets its contract. Assumes nothing.
+-- `lines::put_refusal` meets its contract. Assumes nothing.
 use borrow.Author.Needs.{needs}
 use Rattle.print.proofs.Puts.{then, reads}
-use Rattle.slide_trace.proofs.Lines.{fault-said, number-said}
-use Rattle.slide_trace.proofs.say.put_refusal.Statement.{statement}
-use Rattle.slide_trace.proofs.say.put_refusal.Tie as tie
+use Rattle.lines.proofs.Refused.{fault-said, number-said}
+use Rattle.lines.proofs.put_refusal.Statement.{statement}
+use Rattle.lines.proofs.put_refusal.Tie as tie
 
 put-fault-requires : tie.Need-put-fault-requires
 put-fault-requires c κs = search needs

@@ -5,7 +5,7 @@ use borrow.Author.Tests.{eq-eqb, ne-eqb}
 use Rattle.print.specs.Digits.{decimal}
 use Rattle.print.specs.Text.{newline}
 use Rattle.refusals.specs.declared.Refusal.{Refusal}
-use Rattle.slide_trace.specs.Lines.{faultLine, refusalLine}
+use Rattle.lines.specs.Lines.{faultLine, refusalLine}
 
 pub fault-said : (r : Refusal) → r .number ≡ 7 → faultLine (r .place) ≡ refusalLine r
 unfolding refusalLine

@@ -1,4 +1,4 @@
--- `slide_trace::say::put_points` meets its contract. The loop's invariant: the lines of the first i points follow what the room held. Assumes nothing.
+-- `lines::put_points` meets its contract. The loop's invariant: the lines of the first i points follow what the room held. Assumes nothing.
 use Prim.Native.Nat.{ℕ, _+_, _*_, _-_, _≤_}
 use mathlib.Core.Path.{_≡_, refl, ap, subst, _∙_}
 use native.Mathlib.Omega.{arith}
@@ -7,10 +7,10 @@ use lib.ListN.{length}
 use lib.Ieee.{binary64, toBits}
 use Rattle.plane.specs.declared.Point.{Point}
 use Rattle.print.specs.Text.{Put}
-use Rattle.slide_trace.specs.Lines.{pointLines}
-use Rattle.slide_trace.proofs.Points.{no-point, point-more}
-use Rattle.slide_trace.proofs.say.put_points.Statement.{statement}
-use Rattle.slide_trace.proofs.say.put_points.Tie as tie
+use Rattle.lines.specs.Lines.{pointLines}
+use Rattle.lines.proofs.Points.{no-point, point-more}
+use Rattle.lines.proofs.put_points.Statement.{statement}
+use Rattle.lines.proofs.put_points.Tie as tie
 
 abbrev Inv-loop : tie.InvT-loop
 Inv-loop xs n out₀ at next₀ i₀ out next i = (i ≤ n) × (length out ≡ length out₀) × (next ≡ at + 34 * i) × Put out₀ at (pointLines xs i) out next
@@ -61,8 +61,10 @@ returns : tie.Need-returns Inv-loop μ-loop
 returns c =
     let l = c .before in
     let a = l .before .before .before .args in
-    let q : l .loop .i ≡ a .n = omega (arith, l .loop .inv .0, c .loop-test .left) in
-    subst (λ (k : ℕ). Put (a .out .now) (a .at) (pointLines (a .xs .now) k) (l .loop .out) (l .loop .next)) q (l .loop .inv .3)
+    let q : l .loop .i ≡ a .n = omega (arith, l .loop .inv .0, c .loop-test .left) in (
+      subst (λ (k : ℕ). Put (a .out .now) (a .at) (pointLines (a .xs .now) k) (l .loop .out) (l .loop .next)) q (l .loop .inv .3),
+      (omega (arith, l .loop .inv .2)),
+    )
 
 pub put-points-spec : {M : Type 1} → statement M
 put-points-spec =
