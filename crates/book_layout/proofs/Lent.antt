@@ -21,7 +21,7 @@ use Rattle.number_bytes.specs.Bytes.{numberOf, Each, Byte}
 use Rattle.number_bytes.proofs.Each.{each-take, each-drop}
 use Rattle.book_layout.specs.Layout.{coordinateBytes, vertexBytes, verticesLeast, verticesMost, ringsMost, within, coordinateBits, Coordinate, Outline, Accepted, total, coordsIn, ringsIn, ringCount, entryOffset, coordsOf, countsOf, ringsOf}
 use Rattle.book_layout.specs.Faults.{_passes, bookCheck}
-use Rattle.book_layout.specs.Writer.{ringsFrom, sizedAll, lengthsOk, bookSize, writeRefusal, Held}
+use Rattle.book_layout.specs.Writer.{ringsFrom, sizedAll, lengthsOk, bookSize, writeRefusal, Held, Formed}
 use Rattle.book_layout.specs.Reader.{numbersOf}
 use Rattle.book_layout.proofs.Passing.{both, and-both, within-true, is-within}
 use Rattle.refusals.proofs.Sized.{held-last}
@@ -74,10 +74,6 @@ coordinate-kept x f h = record { pattern = kept-lt x f; bounded = ap coordinate 
 pub bits-number : (b : ℕ) → Coordinate b → T (not (isNan (ofBits binary64 b)))
 unfolding coordinateBits
 bits-number b c = coordinate-number (ofBits binary64 b) (c .bounded)
-
--- every number of a list is one that the format holds
-abbrev pub Formed : List Float → Type 0
-Formed xs = Each (λ (x : Float). T (fits binary64 x)) xs
 
 coordinates-take : (n : ℕ) (xs : List Float) → coordinates xs ≡ true → coordinates (take n xs) ≡ true
 unfolding every

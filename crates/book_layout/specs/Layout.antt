@@ -8,7 +8,7 @@ use lib.Dec.{leb}
 use lib.Ieee.{binary64, ofBits}
 use Rattle.number_bytes.specs.Bytes.{bytesOf, numberOf, Each}
 use Rattle.refusals.specs.Bounds.{coordinate}
-use Rattle.reading.specs.Reading.{Reads, Vertex, flat, vertices, leastReading}
+use Rattle.reading.specs.Reading.{ReadsUpTo, Vertex, flat, vertices, leastReading}
 
 -- ---- sizes, in bytes
 
@@ -100,10 +100,10 @@ pub record Accepted (rs : List (List Vertex)) : Type 0 where
   pub most : length rs ≤ ringsMost
   pub rings : Each Outline rs
 
--- equally long, and each ring is a reading of the one at its place
-pub record SameOutlines (rs xs : List (List Vertex)) : Type 0 where
+-- equally long, and each ring is a reading of the one at its place, where coordinates are compared by a relation
+pub record SameOutlines (R : ℕ → ℕ → Type 0) (rs xs : List (List Vertex)) : Type 0 where
   pub long : length rs ≡ length xs
-  pub each : (i : ℕ) → i < length rs → Reads (getD rs i []) (getD xs i [])
+  pub each : (i : ℕ) → i < length rs → ReadsUpTo R (getD rs i []) (getD xs i [])
 
 -- ---- what a file holds, if it is a book
 

@@ -4,15 +4,17 @@ use mathlib.Core.Path.{_≡_}
 use mathlib.Core.Bool.{Bool, true, _&&_}
 use mathlib.Core.List.{List, [], _∷_}
 use lib.ListN.{length, take, drop}
-use lib.Dec.{leb, eqb}
-use lib.Ieee.{Float}
+use lib.Dec.{T, leb, eqb}
+use lib.Ieee.{Float, binary64, fits}
 use Rattle.ring.specs.Room.{laid}
 use Rattle.refusals.specs.Answers.{Outcome, outcome, left}
 use Rattle.refusals.specs.Refusals.{unless, firstOf}
 use Rattle.refusals.specs.Bounds.{coordinates}
 use Rattle.refusals.specs.declared.Refusal.{Refusal}
+use Rattle.number_bytes.specs.Bytes.{Each}
 use Rattle.reading.specs.Reading.{Vertex}
 use Rattle.reading.specs.Lent.{ringOf}
+use Rattle.book_layout.specs.Faults.{_passes}
 use Rattle.book_layout.specs.Layout.{vertexBytes, entryBytes, tailBytes, verticesLeast, verticesMost, ringsMost, within, total, bookOf}
 
 -- the rings of these vertex counts, one after the other
@@ -51,3 +53,13 @@ pub record Held (xs : List Float) (ns : List ℕ) : Type 0 where
   pub sized : sizedAll ns ≡ true
   pub whole : length xs ≡ 2 * total ns
   pub bounded : coordinates xs ≡ true
+
+-- every number of a list is one that the format holds
+abbrev pub Formed : List Float → Type 0
+Formed xs = Each (λ (x : Float). T (fits binary64 x)) xs
+
+-- the writer can write the file f: it takes these numbers and counts, with room for just that file, and their book is f
+pub record Writes (xs : List Float) (ns f : List ℕ) : Type 0 where
+  pub formed : Formed xs
+  pub taken : writeRefusal xs ns (length f) passes
+  pub book : bookOf (ringsFrom ns xs) ≡ f
