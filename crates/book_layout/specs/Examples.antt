@@ -10,7 +10,8 @@ use Rattle.refusals.specs.Refusals.{none, refuse}
 use Rattle.refusals.specs.Bounds.{coordinate, every}
 use Rattle.reading.specs.Reading.{Vertex, ord, less, best, bestOf, leastReading}
 use Rattle.reading.specs.Lent.{kept, ringOf}
-use Rattle.book_layout.specs.Layout.{bytesOf, numberOf, coordBytes, body, entries, layout, bookOf, coordinateBits, total, coordsIn, countsIn, coordsOf, countsOf, ringCount, entryOffset}
+use Rattle.number_bytes.specs.Bytes.{bytesOf, numberOf}
+use Rattle.book_layout.specs.Layout.{coordBytes, body, entries, layout, bookOf, coordinateBits, total, coordsIn, countsIn, coordsOf, countsOf, ringCount, entryOffset}
 use Rattle.book_layout.specs.Writer.{sizedAll, lengthsOk, writeRefusal}
 use Rattle.book_layout.specs.Reader.{readRefusal}
 use Rattle.book_layout.specs.Faults.{faultAt, entriesCheck, coordsCheck, leastCheck, bookCheck}
@@ -44,8 +45,8 @@ pub triangle-fine : bookCheck book ≡ none
 unfolding bookCheck entriesCheck coordsCheck leastCheck coordinateBits coordinate ofBits numberOf coordsIn countsIn countsOf ringCount entryOffset total bestOf best less ord
 triangle-fine = refl
 
--- one fault each: the length, the ring count, the offset of the entries, the ring's offset, its vertices, where the rings end, the coordinate
--- (2 ^ 20 and more, a NaN), and a ring that is not its least reading
+-- one fault each: the length, the ring count, the offset of the entries, the ring's offset, its vertices, where the rings end, the
+-- coordinate (2 ^ 20 and more, a NaN), and a ring that is not its least reading
 pub cut-short : bookCheck (take 63 book) ≡ faultAt 0
 unfolding bookCheck entriesCheck coordsCheck leastCheck coordinateBits coordinate ofBits numberOf coordsIn countsIn countsOf ringCount entryOffset total bestOf best less ord
 cut-short = refl

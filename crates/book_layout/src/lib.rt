@@ -3,11 +3,11 @@ pub const FIELD_BYTES: usize = 4;
 
 pub const COORDINATE_BYTES: usize = 8;
 
-pub const VERTEX_BYTES: usize = 16;
+pub const VERTEX_BYTES: usize = 2 * COORDINATE_BYTES;
 
-pub const ENTRY_BYTES: usize = 8;
+pub const ENTRY_BYTES: usize = 2 * FIELD_BYTES;
 
-pub const TAIL_BYTES: usize = 8;
+pub const TAIL_BYTES: usize = 2 * FIELD_BYTES;
 
 pub const VERTICES_LEAST: usize = 3;
 

@@ -8,7 +8,7 @@ use lib.ListN.{length}
 use lib.Dec.{eqb}
 use lib.Ieee.{Float}
 use borrow.Author.Tests.{le-leb, lt-leb, eq-eqb, ne-eqb}
-use Rattle.book_layout.specs.Layout.{total}
+use Rattle.book_layout.specs.Layout.{ringsMost, total}
 use Rattle.book_layout.specs.Writer.{sizedAll, lengthsOk}
 use Rattle.book_layout.proofs.Lent.{total-bounds}
 
@@ -43,17 +43,17 @@ module _ (xs : List Float) (ns : List ℕ) where
     few h = rw (eq-eqb (length xs % 2) 0 even, lt-leb 1 (length ns) h)
 
     module _ (one : 1 ≤ length ns) where
-      pub many : 8 < length ns → false ≡ lengthsOk xs ns
+      pub many : ringsMost < length ns → false ≡ lengthsOk xs ns
       unfolding lengthsOk
-      many h = rw (eq-eqb (length xs % 2) 0 even, le-leb 1 (length ns) one, lt-leb (length ns) 8 h)
+      many h = rw (eq-eqb (length xs % 2) 0 even, le-leb 1 (length ns) one, lt-leb (length ns) ringsMost h)
 
-      module _ (eight : length ns ≤ 8) (sum : ℕ) (e : sum ≡ cond (sizedAll ns) (total ns) 0) where
+      module _ (few : length ns ≤ ringsMost) (sum : ℕ) (e : sum ≡ cond (sizedAll ns) (total ns) 0) where
         pub unsized : sum ≡ 0 → false ≡ lengthsOk xs ns
         unfolding lengthsOk
-        unsized z = rw (eq-eqb (length xs % 2) 0 even, le-leb 1 (length ns) one, le-leb (length ns) 8 eight, sum-none ns sum e one z)
+        unsized z = rw (eq-eqb (length xs % 2) 0 even, le-leb 1 (length ns) one, le-leb (length ns) ringsMost few, sum-none ns sum e one z)
 
         pub sized : (sum ≡ 0 → ⊥) → eqb (length xs) (2 * sum) ≡ lengthsOk xs ns
         unfolding lengthsOk
         sized n =
             let s = sum-some ns sum e n in
-            rw (eq-eqb (length xs % 2) 0 even, le-leb 1 (length ns) one, le-leb (length ns) 8 eight, s .0, s .1)
+            rw (eq-eqb (length xs % 2) 0 even, le-leb 1 (length ns) one, le-leb (length ns) ringsMost few, s .0, s .1)

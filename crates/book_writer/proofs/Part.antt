@@ -11,6 +11,7 @@ use lib.Dec.{T}
 use lib.Ieee.{Float, nan, isNan}
 use Rattle.refusals.specs.Bounds.{coordinate, every, coordinates}
 use Rattle.reading.specs.Lent.{Lent}
+use Rattle.book_layout.specs.Layout.{verticesMost}
 use Rattle.book_layout.proofs.Lent.{coordinate-number}
 use Rattle.book_layout.proofs.Passing.{and-both}
 
@@ -36,5 +37,5 @@ module _ (xs : List Float) (at n : ℕ) (t : coordinates xs ≡ true) (inside : 
       let e : getD part i nan ≡ getD xs (at + i) nan = getD-take (at + 2 * n - at) (drop at xs) i nan (omega arith) ∙ getD-drop at xs i nan in
       subst (λ (x : Float). T (not (isNan x))) (sym e) (coordinate-number (getD xs (at + i) nan) (coordinates-at xs (at + i) t (omega arith)))
 
-  pub part-lent : n ≤ 256 → Lent part
+  pub part-lent : n ≤ verticesMost → Lent part
   part-lent h = record { even = omega (arith, part-length); most = omega (arith, part-length); numbers = part-number }

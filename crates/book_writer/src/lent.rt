@@ -12,12 +12,12 @@ ghost use mathlib.Core.Path.{_≡_};
 ghost use mathlib.Core.Bool.{cond, true};
 ghost use Prim.Native.Nat.{_≤_};
 ghost use lib.ListN.{length};
-ghost use Rattle.book_layout.specs.Layout.{total};
+ghost use Rattle.book_layout.specs.Layout.{ringsMost, total};
 ghost use Rattle.book_layout.specs.Writer.{sizedAll, bookSize, lengthsOk, writeRefusal};
 
 // The sum of at most 8 vertex counts, or 0 where one is not from 3 to 256.
 pub fn sum_of(counts: &[u32]) -> usize
-    requires { ⌜ length (now counts) ≤ 8 ⌝ }
+    requires { ⌜ length (now counts) ≤ ringsMost ⌝ }
     ensures { λ r. ⌜ r ≡ cond (sizedAll (now (counts .entry))) (total (now (counts .entry))) 0 ⌝ }
 {
     let mut sum: usize = 0;
@@ -38,7 +38,7 @@ pub fn sum_of(counts: &[u32]) -> usize
 
 // How many bytes the book of rings of these vertex counts has.
 pub fn size_of(counts: &[u32]) -> usize
-    requires { ⌜ (length (now counts) ≤ 8) × (sizedAll (now counts) ≡ true) ⌝ }
+    requires { ⌜ (length (now counts) ≤ ringsMost) × (sizedAll (now counts) ≡ true) ⌝ }
     ensures { λ r. ⌜ r ≡ bookSize (now (counts .entry)) ⌝ }
 {
     VERTEX_BYTES * sum_of(counts) + ENTRY_BYTES * counts.len() + TAIL_BYTES

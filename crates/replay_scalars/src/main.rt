@@ -1,10 +1,10 @@
 // Replays the oracle's answers for the scalars: records of five words, the operation, three operands and the answer, from standard input.
 use libc::STDIN_FILENO;
+use number_bytes::bits_of;
+use number_bytes::float_of;
 use replay::Verdict;
 use replay::after;
 use replay::begin;
-use replay::bits;
-use replay::number;
 use replay::report;
 use replay::word;
 
@@ -33,10 +33,10 @@ fn limit_or_nan(tol: f64) -> f64 {
 // Whether a record's answer is the library's.
 fn agrees(record: &[u8; 40]) -> bool {
     let op = word(record, 0);
-    let x = number(word(record, 8));
-    let y = number(word(record, 16));
-    let z = number(word(record, 24));
-    bits(answer(op, x, y, z)) == bits(number(word(record, 32)))
+    let x = float_of(word(record, 8));
+    let y = float_of(word(record, 16));
+    let z = float_of(word(record, 24));
+    bits_of(answer(op, x, y, z)) == bits_of(float_of(word(record, 32)))
 }
 
 // One record: read, worked out and compared.

@@ -1,2 +1,2 @@
 -- The definitions that the contracts of ring_printer cite.
-pub mod Printable
+pub mod Said

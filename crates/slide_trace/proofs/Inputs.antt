@@ -6,11 +6,10 @@ use mathlib.Core.List.{List, []}
 use lib.ListN.{length, take, drop, length-drop, drop-of-length-le}
 use lib.Seq.{take-all}
 use lib.Ieee.{Float, binary64, ofBits}
-use Rattle.replay.specs.Words.{wordAt}
 use Rattle.refusals.specs.declared.Settings.{Settings}
 use Rattle.book_layout.specs.Faults.{faultAt, bookCheck}
-use Rattle.slide_trace.specs.Lines.{refusalLine}
-use Rattle.slide_trace.specs.Said.{settingsOf, bookText, inputText}
+use Rattle.lines.specs.Lines.{refusalLine}
+use Rattle.slide_trace.specs.Said.{wordAt, settingsOf, bookText, inputText}
 
 pub settings-are : (l : List ℕ) {a b : Float} (x y : ℕ) {z : ℕ} → a ≡ ofBits binary64 x → x ≡ wordAt l 0 → b ≡ ofBits binary64 y → y ≡ wordAt l 8 → z ≡ wordAt l 16
     → _≡_ {A = Settings} (record { «contact_tolerance» = a; «min_translation» = b; «max_iterations» = z }) (settingsOf l)

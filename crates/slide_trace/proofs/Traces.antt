@@ -1,9 +1,9 @@
 -- What is printed of the answer that a trace gave is what is said of the trace. Assumes nothing.
 use Prim.Native.Nat.{ℕ, zero, suc, _+_, _*_, _≤_, _<_}
 use native.Mathlib.Omega.{arith}
-use mathlib.Core.Path.{_≡_, refl, sym, ap, ap₂, _∙_}
+use mathlib.Core.Path.{_≡_, refl, ap, ap₂, _∙_}
 use mathlib.Core.Bool.{Bool, true, false, _||_, cond}
-use mathlib.Core.List.{List, [], _∷_, _++_}
+use mathlib.Core.List.{List, _++_}
 use lib.ListN.{length, drop, length-append, List·getD-append}
 use lib.Ieee.{Float, nan, binary64, toBits}
 use Rattle.plane.specs.declared.Point.{Point}
@@ -14,12 +14,13 @@ use Rattle.refusals.specs.Refusals.{passed}
 use Rattle.refusals.specs.declared.Refusal.{Refusal}
 use Rattle.refusals.specs.declared.Settings.{Settings}
 use Rattle.simplify.specs.Simplify.{simplified}
-use Rattle.nfp_sliding.specs.Path.{Trace, tracedOf}
+use Rattle.nfp_sliding.specs.Path.{tracedOf}
 use Rattle.refusals.specs.Rows.{ofTrace}
 use Rattle.nfp_sliding.specs.Calls.{Answer, traces, denied, overfull, tooShort, traced, brief, cameTo, resultAfter, traceCall, traceResult}
 use Rattle.nfp_sliding.specs.declared.answer.Traced.{Traced}
 use Rattle.nfp_sliding.specs.declared.answer.Traced.the-variants.{Is, Refused, Full, Short}
-use Rattle.slide_trace.specs.Lines.{refusalLine, headingLine, pointLines, pathText, answerText, InList}
+use Rattle.lines.specs.Lines.{pointLines}
+use Rattle.slide_trace.specs.Lines.{headingLine, answerText, InList}
 use Rattle.slide_trace.specs.Said.{textOf, traceText}
 
 -- ---- points at the front of a list

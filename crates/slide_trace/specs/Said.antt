@@ -4,7 +4,7 @@ use mathlib.Core.Bool.{cond}
 use mathlib.Core.List.{List}
 use lib.ListN.{getD, take, drop}
 use lib.Ieee.{Float, binary64, ofBits}
-use Rattle.replay.specs.Words.{wordAt}
+use Rattle.number_bytes.specs.Bytes.{numberOf}
 use Rattle.refusals.specs.Refusals.{refuse, passed}
 use Rattle.refusals.specs.declared.Settings.{Settings}
 use Rattle.simplify.specs.Simplify.{simplified}
@@ -13,7 +13,8 @@ use Rattle.book_layout.specs.Faults.{bookCheck}
 use Rattle.book_layout.specs.Reader.{numbersOf}
 use Rattle.nfp_sliding.specs.Path.{tracedOf}
 use Rattle.nfp_sliding.specs.Calls.{Answer, traces, denied, overfull, tooShort, traceCall}
-use Rattle.slide_trace.specs.Lines.{refusalLine, pathText}
+use Rattle.lines.specs.Lines.{refusalLine}
+use Rattle.slide_trace.specs.Lines.{pathText}
 
 -- the numbers that each of the trace's two rooms holds: the start and a point for each of 10,000 passes
 abbrev pub roomSize : ℕ
@@ -30,6 +31,10 @@ textOf (tooShort passes stop) result = refusalLine (refuse 6 0)
 unfoldable pub traceText : List Float → List Float → Settings → List ℕ
 traceText st orb s = textOf (traceCall st orb s roomSize roomSize) (simplified (tracedOf st orb s roomSize .path) (s .«contact_tolerance»))
 
+-- the first n vertices of a list, and the m after them
+abbrev pub ringsText : List Float → ℕ → ℕ → Settings → List ℕ
+ringsText xs n m s = traceText (take (2 * n) xs) (take (2 * m) (drop (2 * n) xs)) s
+
 -- vertices of ring i of a book, 0 where it has no such ring
 abbrev pub verticesOf : List ℕ → ℕ → ℕ
 verticesOf book i = getD (countsOf book) i 0
@@ -37,10 +42,11 @@ verticesOf book i = getD (countsOf book) i 0
 -- a book: its fault, or the trace of its first two rings
 unfoldable pub bookText : List ℕ → Settings → List ℕ
 bookText book s =
-    let n = verticesOf book 0 in
-    cond (passed (bookCheck book))
-    (traceText (take (2 * n) (numbersOf book)) (take (2 * verticesOf book 1) (drop (2 * n) (numbersOf book))) s)
-    (refusalLine (bookCheck book))
+    cond (passed (bookCheck book)) (ringsText (numbersOf book) (verticesOf book 0) (verticesOf book 1) s) (refusalLine (bookCheck book))
+
+-- the word at a byte
+abbrev pub wordAt : List ℕ → ℕ → ℕ
+wordAt input at = numberOf (take 8 (drop at input))
 
 -- the tolerance, the smallest move and the pass limit
 abbrev pub settingsOf : List ℕ → Settings

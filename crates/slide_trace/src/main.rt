@@ -1,32 +1,34 @@
-// Traces one ring of a book round another and prints the result. Standard input has the tolerance and the smallest move as bit patterns, the pass limit,
-// eight bytes each, and then a book whose first ring is the stationary polygon and whose second is the orbiting one.
+// Traces one ring of a book round another and prints the result. Standard input has the tolerance and the smallest move as bit patterns,
+// the pass limit, eight bytes each, and then a book whose first ring is the stationary polygon and whose second is the orbiting one.
 mod say;
 
 use book_reader::calls::read_book;
 use libc::STDIN_FILENO;
 use libc::STDOUT_FILENO;
+use lines::put_refusal;
 use nfp_sliding::calls::compute_nfp_sliding;
+use number_bytes::float_of;
+use number_bytes::number8;
 use refusals::Refusal;
 use refusals::Settings;
 use refusals::answer::Count;
-use replay::number;
-use replay::word;
 use say::put_answer;
-use say::put_refusal;
 ghost use mathlib.Core.Path.{_≡_};
 ghost use Prim.Native.Nat.{_+_, _*_, _≤_};
-ghost use lib.ListN.{length, take, drop};
+ghost use lib.ListN.{length};
 ghost use Rattle.print.specs.Text.{Put};
-ghost use Rattle.slide_trace.specs.Said.{settingsOf, traceText, bookText, inputText};
+ghost use Rattle.slide_trace.specs.Said.{settingsOf, traceText, ringsText, bookText, inputText};
+ghost use Rattle.book_layout.specs.Layout.{verticesMost};
 
 // The settings before the book.
 fn settings(input: &[u8]) -> Settings
+    requires { ⌜ 24 ≤ length (now input) ⌝ }
     ensures { λ r. ⌜ r ≡ settingsOf (now (input .entry)) ⌝ }
 {
     Settings {
-        contact_tolerance: number(word(input, 0)),
-        min_translation: number(word(input, 8)),
-        max_iterations: word(input, 16),
+        contact_tolerance: float_of(number8(input, 0)),
+        min_translation: float_of(number8(input, 8)),
+        max_iterations: number8(input, 16),
     }
 }
 
@@ -43,9 +45,9 @@ fn put_trace(stationary: &[f64], orbiting: &[f64], settings: Settings, out: &mut
 
 // The same for the first n vertices of a list and the m after them.
 fn put_rings(xs: &[f64], n: usize, m: usize, settings: Settings, out: &mut [u8]) -> usize
-    requires { ⌜ (n ≤ 256) × (m ≤ 256) × (2 * n + 2 * m ≤ length (now xs)) ⌝ }
+    requires { ⌜ (n ≤ verticesMost) × (m ≤ verticesMost) × (2 * n + 2 * m ≤ length (now xs)) ⌝ }
     requires { ⌜ 340200 ≤ length (now out) ⌝ }
-    ensures { λ r. ⌜ Put (now (out .entry)) 0 (traceText (take (2 * n) (now (xs .entry))) (take (2 * m) (drop (2 * n) (now (xs .entry)))) settings) (now (out .exit)) r ⌝ }
+    ensures { λ r. ⌜ Put (now (out .entry)) 0 (ringsText (now (xs .entry)) n m settings) (now (out .exit)) r ⌝ }
 {
     let middle = 2 * n;
     let end = middle + 2 * m;

@@ -4,7 +4,7 @@ use mathlib.Core.Path.{_≡_, refl, sym, ap, _∙_}
 use native.Mathlib.Omega.{arith}
 use lib.ListN.{length, drop}
 use mathlib.Core.Bool.{Bool, true, false, cond}
-use Rattle.book_layout.specs.Layout.{total}
+use Rattle.book_layout.specs.Layout.{verticesMost, total}
 use Rattle.book_layout.specs.Writer.{sizedAll}
 use Rattle.book_layout.proofs.Counts.{total-on, total-end, sized-on, sized-low, sized-high, sized-end}
 use Rattle.book_writer.proofs.lent.sum_of.Statement.{statement}
@@ -12,7 +12,7 @@ use Rattle.book_writer.proofs.lent.sum_of.Tie as tie
 
 abbrev Inv-loop : tie.InvT-loop
 Inv-loop counts sum₀ i₀ sum i =
-    (i ≤ length counts) × (sum ≤ 256 * i) × (sizedAll counts ≡ sizedAll (drop i counts)) × (total counts ≡ sum + total (drop i counts))
+    (i ≤ length counts) × (sum ≤ verticesMost * i) × (sizedAll counts ≡ sizedAll (drop i counts)) × (total counts ≡ sum + total (drop i counts))
 
 abbrev μ-loop : tie.MeasureT-loop
 μ-loop counts sum₀ i₀ sum i = length counts - i
