@@ -1,5 +1,4 @@
--- A sum of two squares is not below zero, whatever the numbers: a length can be tested against a tolerance with no root
--- taken. Assumes nothing.
+-- A sum of two squares is not below zero, whatever the numbers. Assumes nothing.
 use mathlib.Core.Path.{_≡_, refl}
 use mathlib.Core.Bool.{Bool, true, false, cond}
 use Prim.Native.Nat.{ℕ, zero, suc, _+_, _*_, _^_}
@@ -8,10 +7,7 @@ use borrow.Author.Tests.{le-ltb}
 use native.Mathlib.Omega.{arith}
 use lib.IntN.{ℤ}
 use lib.Ieee.{Float, nan, inf, fin, binary64, up, down, odd, units, round, sum, ofBits, lt, add, mul}
-use lib.Ieee.Fits.{round-is, add-fits}
-use Rattle.square_root.specs.Root.{sqrtOf}
-use Rattle.square_root.specs.Limit.{IsLimit}
-use Rattle.square_root.proofs.Laws.{limit-test}
+use lib.Ieee.Fits.{round-is}
 
 -- a NaN, or a value whose sign is clear
 data Plain : Float → Type 0 where
@@ -62,10 +58,3 @@ plain-lt x (number m e) = le-ltb (m * up e * 1) (0 * 1 * down e) (omega arith)
 pub squares-not-below : (a b : Float)
     → lt (add binary64 (mul binary64 a a) (mul binary64 b b)) (ofBits binary64 0) ≡ false
 squares-not-below a b = plain-lt _ (sum-plain (mul binary64 a a) (mul binary64 b b) (square-plain a) (square-plain b))
-
--- whether the length of (a, b) is below tol, with no root taken
-pub length-test : (tol r a b : Float) → IsLimit tol r →
-    let s = add binary64 (mul binary64 a a) (mul binary64 b b) in
-    lt (sqrtOf binary64 s) tol ≡ lt s r
-length-test tol r a b L =
-    limit-test tol r _ L (add-fits binary64 (mul binary64 a a) (mul binary64 b b)) (squares-not-below a b)
