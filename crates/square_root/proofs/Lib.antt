@@ -12,4 +12,3 @@ pub mod Compare
 pub mod Above
 pub mod Order
 pub mod Laws
-pub mod Squares
