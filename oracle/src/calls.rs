@@ -63,22 +63,6 @@ pub fn sqrt(x: f64) -> f64 {
     x.sqrt()
 }
 
-/// The least s, not negative, whose root is not below the tolerance; for a
-/// tolerance above 0 and at most 1.
-pub fn limit(tolerance: f64) -> f64 {
-    let mut below = 0.0_f64.to_bits();
-    let mut reached = 1.0_f64.to_bits();
-    while reached - below > 1 {
-        let middle = below + (reached - below) / 2;
-        if f64::from_bits(middle).sqrt() < tolerance {
-            below = middle;
-        } else {
-            reached = middle;
-        }
-    }
-    f64::from_bits(reached)
-}
-
 // ---------------------------------------------------------------------------
 // Segments
 // ---------------------------------------------------------------------------

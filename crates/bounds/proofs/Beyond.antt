@@ -3,12 +3,13 @@
 use native.Mathlib.Omega.{arith}
 use mathlib.Core.Path.{_≡_, refl, sym, _∙_, subst}
 use mathlib.Core.Logic.{_⊎_, inl, inr}
-use mathlib.Core.Bool.{true, false, not, true≢false}
+use mathlib.Core.Bool.{true, false, true≢false}
 use lib.Dec.{T}
 use lib.Ieee.{Float, nan, inf, fin, binary64, fits, neg, add, sub, lt, le}
+use Rattle.laws.proofs.Parts.{parts-of-le, le-of-parts}
+use Rattle.laws.proofs.Order.{total, le-trans, lt-le, le-lt, lt-nan, nan-above, no-nan}
+use Rattle.laws.proofs.Rounding.{finite-mono}
 use Rattle.scalar.specs.Float.{f0, f1, _⊕_, _⊖_, _⊗_}
-use Rattle.bounds.proofs.Signed.{parts-of-le, le-of-parts, finite-mono}
-use Rattle.bounds.proofs.Ordered.{total, le-trans, lt-le, le-lt, lt-nan, nan-above, no-nan}
 use Rattle.bounds.proofs.Sums.{adds-more}
 use Rattle.bounds.proofs.Foot.{between}
 

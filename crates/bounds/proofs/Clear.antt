@@ -4,35 +4,28 @@ use Prim.Native.Nat.{ℕ, _*_}
 use native.Mathlib.Nat.{add-comm, mul-comm}
 use mathlib.Core.Path.{_≡_, refl, sym, ap, _∙_, subst}
 use mathlib.Core.Logic.{_⊎_, inl, inr}
-use mathlib.Core.Bool.{Bool, true, false, _&&_, _||_, cond, true≢false}
+use mathlib.Core.Bool.{Bool, true, false, _&&_, cond, true≢false}
 use lib.Dec.{T, ltb}
 use lib.Ieee.{Float, nan, inf, fin, binary64, up, down, fits, neg, ofBits, add, sum, mul, lt, le}
 use lib.Ieee.Fits.{sub-fits, mul-fits}
 use lib.Ieee.Positive.{positive, above-of-le, mul-mono}
+use Rattle.laws.proofs.Both.{both, one-of}
+use Rattle.laws.proofs.Order.{lt-le, lt-nan, not-less, lt-of-infinity, le-of-lt, lt-irrefl}
+use Rattle.laws.proofs.Plain.{Plain, infinite, number, round-plain, square-plain, to-nan, from-nan}
 use Rattle.scalar.specs.Float.{f0, f1, _⊕_, _⊖_, _⊗_}
 use Rattle.scalar.specs.Scalar.{clampOf}
 use Rattle.square_root.specs.Root.{sqrtOf}
-use Rattle.square_root.proofs.Compare.{number-or-infinite, above-zero, lt-of-infinity, le-of-lt, lt-self}
+use Rattle.square_root.proofs.Compare.{number-or-infinite, above-zero}
 use Rattle.plane.specs.Vector.{minusOf, plusOf, dotOf, lengthOf, distanceOf}
 use Rattle.plane.specs.Segment.{clampedFoot, projectOf, alongOf, toSegmentOf, nearSegmentOf, f1e-20}
 use Rattle.plane.specs.declared.Point.{Point}
 use Rattle.near.proofs.Below.{no-root}
 use Rattle.bounds.specs.Bounds.{Inside, Spans, wide, marginOf, beyond, apart, past}
 use Rattle.bounds.specs.declared.Bounds.{Bounds}
-use Rattle.bounds.proofs.Signed.{round-plain, Plain, infinite, number}
-use Rattle.bounds.proofs.Ordered.{lt-le, lt-nan, not-less}
 use Rattle.bounds.proofs.Sums.{rises}
 use Rattle.bounds.proofs.Beyond.{Far, by-low, by-high}
 
 -- ---- squares
-
-pub square-plain : (x : Float) → (x ⊗ x ≡ nan) ⊎ Plain (x ⊗ x)
-unfolding mul
-square-plain nan = inl refl
-square-plain (inf true) = inr infinite
-square-plain (inf false) = inr infinite
-square-plain (fin true m e) = inr (round-plain binary64 (m * up e * (m * up e)) (down e * down e))
-square-plain (fin false m e) = inr (round-plain binary64 (m * up e * (m * up e)) (down e * down e))
 
 -- either sign has the same
 square-turned : (x : Float) → neg x ⊗ neg x ≡ x ⊗ x
@@ -103,16 +96,11 @@ sum-turned infinite (number n d) = refl
 sum-turned (number m e) infinite = refl
 sum-turned (number m e) (number n d) = rw (add-comm (m * up e * down d) (n * up d * down e), mul-comm (down e) (down d)) refl
 
-pub plain-nan : {x : Float} → Plain x → x ⊕ nan ≡ nan
-unfolding add
-plain-nan infinite = refl
-plain-nan (number m e) = refl
-
 squares-turned : (x y : Float) → x ⊗ x ⊕ y ⊗ y ≡ y ⊗ y ⊕ x ⊗ x
 squares-turned x y =
     elim (square-plain x) [
-      | inl e ↦ elim (square-plain y) [ inl d ↦ rw (e, d) refl | inr Q ↦ rw (e, plain-nan Q) (unfold add in refl) ]
-      | inr P ↦ elim (square-plain y) [ inl d ↦ rw (d, plain-nan P) (unfold add in refl) | inr Q ↦ sum-turned P Q ]
+      | inl e ↦ elim (square-plain y) [ inl d ↦ rw (e, d) refl | inr Q ↦ rw (e, to-nan (y ⊗ y)) (from-nan (y ⊗ y)) ]
+      | inr P ↦ elim (square-plain y) [ inl d ↦ rw (d, to-nan (x ⊗ x)) (sym (from-nan (x ⊗ x))) | inr Q ↦ sum-turned P Q ]
     ]
 
 not-below : {x y : Float} → T (fits binary64 x) → Plain x → Plain y → T (le x (x ⊕ y))
@@ -132,7 +120,7 @@ module _ (tol far : Float) (G : T (fits binary64 tol)) (L : lt f0 tol ≡ true) 
       elim (square-plain x) [
         | inl e ↦ inl (rw e (unfold add in refl))
         | inr P ↦ elim (square-plain y) [
-          | inl e ↦ inl (rw e (plain-nan P))
+          | inl e ↦ inl (rw e (to-nan (x ⊗ x)))
           | inr Q ↦ inr (lt-le (tol ⊗ tol) (x ⊗ x) (x ⊗ x ⊕ y ⊗ y) (lt-le (tol ⊗ tol) (far ⊗ far) (x ⊗ x) S (squares far F x h)) (not-below (mul-fits binary64 x x) P Q))
         ]
       ]
@@ -166,14 +154,6 @@ share p a b = by (lt (dotOf (minusOf b a) (minusOf b a)) f1e-20)
     by false = clamped _
 
 -- ---- the theorem
-
-both : (a b : Bool) → a && b ≡ true → (a ≡ true) × (b ≡ true)
-both true b h = (refl, h)
-both false b h = absurd (true≢false (sym h))
-
-one-of : (a b : Bool) → a || b ≡ true → (a ≡ true) ⊎ (b ≡ true)
-one-of true b h = inl refl
-one-of false b h = inr h
 
 -- what a margin is that something is above, or below as a negative
 record Margin (tol : Float) : Type 0 where
@@ -258,15 +238,15 @@ module _ (tol : Float) (p a b : Float) (A : T (fits binary64 a)) (t : Float) (lo
   above-both g h = by (lt end a) refl
     where
       by : (z : Bool) → lt end a ≡ z → Far a (b ⊖ a) t p (marginOf tol) A W lo hi
-      by false e = by-low a (b ⊖ a) t p (marginOf tol) A W lo hi a p (lt-self a) e (lt-self p) g
-      by true e = by-low a (b ⊖ a) t p (marginOf tol) A W lo hi end p (not-less end a (le-of-lt end a e)) (lt-self end) (lt-self p) h
+      by false e = by-low a (b ⊖ a) t p (marginOf tol) A W lo hi a p (lt-irrefl a) e (lt-irrefl p) g
+      by true e = by-low a (b ⊖ a) t p (marginOf tol) A W lo hi end p (not-less end a (le-of-lt end a e)) (lt-irrefl end) (lt-irrefl p) h
 
   below-both : lt (a ⊖ p) (neg (marginOf tol)) ≡ true → lt (end ⊖ p) (neg (marginOf tol)) ≡ true → Far a (b ⊖ a) t p (marginOf tol) A W lo hi
   below-both g h = by (lt a end) refl
     where
       by : (z : Bool) → lt a end ≡ z → Far a (b ⊖ a) t p (marginOf tol) A W lo hi
-      by false e = by-high a (b ⊖ a) t p (marginOf tol) A W lo hi a p (lt-self a) e (lt-self p) g
-      by true e = by-high a (b ⊖ a) t p (marginOf tol) A W lo hi end p (not-less a end (le-of-lt a end e)) (lt-self end) (lt-self p) h
+      by false e = by-high a (b ⊖ a) t p (marginOf tol) A W lo hi a p (lt-irrefl a) e (lt-irrefl p) g
+      by true e = by-high a (b ⊖ a) t p (marginOf tol) A W lo hi end p (not-less a end (le-of-lt a end e)) (lt-irrefl end) (lt-irrefl p) h
 
   past-far : past p a b (marginOf tol) ≡ true → Margin tol × Far a (b ⊖ a) t p (marginOf tol) A W lo hi
   unfolding past

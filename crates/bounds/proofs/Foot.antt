@@ -10,9 +10,11 @@ use lib.Dec.{T, eqb}
 use lib.Ieee.{Float, nan, inf, fin, binary64, unlike, up, down, fits, round, neg, ofBits, add, mul, lt, le}
 use lib.Ieee.Fits.{up-pos, down-pos}
 use lib.Ieee.Scale.{round-same}
+use Rattle.laws.proofs.Parts.{plus, less, parts-of-le}
+use Rattle.laws.proofs.Order.{not-above, le-trans}
+use Rattle.laws.proofs.Plain.{Plain, infinite, number, round-plain}
+use Rattle.laws.proofs.Rounding.{upward, downward, rounds-mono, round-minus}
 use Rattle.scalar.specs.Float.{f0, f1, _⊕_, _⊗_}
-use Rattle.bounds.proofs.Signed.{plus, less, parts-of-le, upward, downward, rounds-mono, round-minus, round-plain, Plain, infinite, number}
-use Rattle.bounds.proofs.Ordered.{not-above, le-trans}
 use Rattle.bounds.proofs.Sums.{own, own-rounds, own-zero, rounded, rises, falls, adds-more}
 
 -- ---- a parameter from 0 to 1

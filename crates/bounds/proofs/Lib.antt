@@ -1,6 +1,4 @@
 -- The modules that belong to no one function.
-pub mod Signed
-pub mod Ordered
 pub mod Sums
 pub mod Foot
 pub mod Beyond

@@ -12,11 +12,13 @@ use lib.Ieee.Fits.{down-pos, neg-fits}
 use lib.Ieee.Order.{le-of-values}
 use lib.Ieee.Scale.{round-same}
 use lib.Ieee.Positive.{positive, den, value→cross}
+use Rattle.laws.proofs.Parts.{plus, less, NotAbove, parts-of-le, le-of-parts}
+use Rattle.laws.proofs.Order.{le-trans}
+use Rattle.laws.proofs.Plain.{number, round-plain, turned}
+use Rattle.laws.proofs.Rounding.{Rounds, upward, downward, rounds-mono, round-minus, finite-sum}
 use Rattle.square_root.specs.Nearest.{val}
 use Rattle.square_root.proofs.Above.{value-is, bits-lt}
 use Rattle.near.proofs.Below.{own-round, unit}
-use Rattle.bounds.proofs.Signed.{plus, less, NotAbove, parts-of-le, le-of-parts, Rounds, upward, downward, rounds-mono, round-minus, turned, round-plain, number, finite-sum}
-use Rattle.bounds.proofs.Ordered.{le-trans}
 
 -- ---- a finite value's own rounding
 

@@ -8,13 +8,12 @@ use mathlib.Core.Bool.{Bool, true, false, cond, true≢false}
 use mathlib.Core.List.{List}
 use lib.Dec.{T}
 use lib.Ieee.{Float, binary64, fits, lt}
-use Rattle.square_root.proofs.Compare.{lt-self, le-of-lt}
+use Rattle.laws.proofs.Order.{total, le-trans, lt-nan, not-less, lt-irrefl, le-of-lt}
 use Rattle.plane.specs.Vector.{minusOf, plusOf}
 use Rattle.plane.specs.declared.Point.{Point}
 use Rattle.ring.specs.Ring.{count, pointAt, nextOf}
 use Rattle.bounds.specs.Bounds.{Inside, Within, Held, Spans, Around, lowerOf, higherOf}
 use Rattle.bounds.specs.declared.Bounds.{Bounds}
-use Rattle.bounds.proofs.Ordered.{total, le-trans, lt-nan, not-less}
 
 -- ---- one bound
 
@@ -23,7 +22,7 @@ unfolding lowerOf
 lower-at b x = by (lt x b) refl
   where
     by : (t : Bool) → lt x b ≡ t → lt x (cond t x b) ≡ false
-    by true h = lt-self x
+    by true h = lt-irrefl x
     by false h = h
 
 lower-keeps : (b x z : Float) → lt z b ≡ false → lt z (lowerOf b x) ≡ false
@@ -43,7 +42,7 @@ unfolding higherOf
 higher-at b x = by (lt b x) refl
   where
     by : (t : Bool) → lt b x ≡ t → lt (cond t x b) x ≡ false
-    by true h = lt-self x
+    by true h = lt-irrefl x
     by false h = h
 
 higher-keeps : (b x z : Float) → lt b z ≡ false → lt (higherOf b x) z ≡ false

@@ -9,7 +9,7 @@ use lib.ListN.{length, drop}
 use lib.Ieee.{Float, lt}
 use Rattle.plane.specs.declared.Point.{Point}
 use Rattle.ring.specs.Ring.{count}
-use Rattle.first_best.specs.Best.{over, better}
+use Rattle.laws.specs.FirstBest.{over, better}
 use Rattle.pairs.specs.Pairs.{pairCount}
 use Rattle.contacts.specs.Contacts.{contactsFrom}
 use Rattle.contacts.proofs.Following.{FoundAt}

@@ -10,8 +10,8 @@ use native.Mathlib.Omega.{arith}
 use lib.Ieee.{Float, lt}
 use Rattle.plane.specs.Vector.{lengthOf}
 use Rattle.plane.specs.declared.Point.{Point}
-use Rattle.first_best.specs.Best.{First, none, some}
-use Rattle.first_best.proofs.Scan.{over-first}
+use Rattle.laws.specs.FirstBest.{First, none, some}
+use Rattle.laws.proofs.FirstBest.{over-first}
 use Rattle.pairs.specs.Pairs.{pair}
 use Rattle.pairs.specs.declared.Pair.{Pair}
 use Rattle.collision.specs.Hit.{nearer}

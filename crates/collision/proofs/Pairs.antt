@@ -8,8 +8,8 @@ use lib.Ieee.{Float}
 use Rattle.plane.specs.declared.Point.{Point}
 use Rattle.ring.specs.Ring.{count}
 use Rattle.pairs.proofs.Numbers.{first-pairs, second-pairs}
-use Rattle.first_best.specs.Best.{over, nest, flat}
-use Rattle.first_best.proofs.Scan.{over-split, over-ext, nest-flat}
+use Rattle.laws.specs.FirstBest.{over, nest, flat}
+use Rattle.laws.proofs.FirstBest.{over-split, over-ext, nest-flat}
 use Rattle.collision.specs.Hit.{countedOf, nearer}
 use Rattle.collision.specs.Check.{hitOf, scanOf, backOf, bothOf, sweepOf}
 use Rattle.collision.specs.Nearest.{pairNo, scans, rayAt}

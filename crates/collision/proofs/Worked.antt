@@ -13,7 +13,7 @@ use Rattle.refusals.specs.Refusals.{refuse}
 use Rattle.refusals.specs.Bounds.{coordinate, finite, every}
 use Rattle.refusals.specs.Rows.{ofTwoPolygons, ofMoving}
 use Rattle.refusals.specs.Answers.{answers, refuses}
-use Rattle.first_best.specs.Best.{better, over, nest}
+use Rattle.laws.specs.FirstBest.{better, over, nest}
 use Rattle.pairs.specs.Pairs.{pair, pairOf}
 use Rattle.collision.specs.Ray.{rayWithin, rayOf, edgeRay}
 use Rattle.collision.specs.Hit.{countedOf, nearer}

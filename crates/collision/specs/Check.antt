@@ -8,7 +8,7 @@ use Rattle.scalar.specs.Float.{_⊖_, _⊘_}
 use Rattle.plane.specs.Vector.{point, lengthOf}
 use Rattle.plane.specs.declared.Point.{Point}
 use Rattle.ring.specs.Ring.{count, pointAt}
-use Rattle.first_best.specs.Best.{over, nest}
+use Rattle.laws.specs.FirstBest.{over, nest}
 use Rattle.collision.specs.Ray.{edgeRay}
 use Rattle.collision.specs.Hit.{countedOf, nearer}
 use Rattle.collision.specs.declared.Sweep.{Sweep}

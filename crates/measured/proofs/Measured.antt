@@ -12,7 +12,7 @@ use Rattle.ring.specs.Points.{points}
 use Rattle.ring.specs.Moved.{movedOf}
 use Rattle.refusals.specs.Rows.{ofPoints3, ofRing, ofTwoPolygons, ofTouching, ofMoving, ofRooms, ofList}
 use Rattle.refusals.specs.Bounds.{coordinate, finite, every}
-use Rattle.first_best.specs.Best.{better, over, nest}
+use Rattle.laws.specs.FirstBest.{better, over, nest}
 use Rattle.start_position.specs.Start.{lowerOf, upperOf, vertexOf, startOf}
 use Rattle.pairs.specs.Pairs as pairs
 use Rattle.contacts.specs.Touching.{edgeEnd, edgesOf, edgesTouch, touchesBy, touching, pointBy, contactPoint}

@@ -9,6 +9,7 @@ use lib.Seq.{take-at}
 use lib.Dec.{leb}
 use lib.Ieee.{Float}
 use borrow.Author.Tests.{leb-true}
+use Rattle.laws.proofs.Both.{both}
 use Rattle.plane.specs.declared.Point.{Point}
 use Rattle.refusals.specs.Refusals.{passed, first}
 use Rattle.refusals.specs.Screens.{wrongSettings, wrongWork, wrongResult}
@@ -102,10 +103,6 @@ module _ (st orb : List Float) (s : Settings) (held : List Float) (l : 2 ≤ len
     unfolding tracedOf
     same-trace =
         rw (q, w) (ap (λ (p : List Float). ended (it .full) (it .reason) (it .passes) p) (take-at (it .path) _ (2 * count (it .path)) (from-whole (ccwOf st) (ccwOf orb) s held l)))
-
-both : (a b : Bool) → a && b ≡ true → (a ≡ true) × (b ≡ true)
-both true b h = (refl, h)
-both false b h = (h, cc)
 
 within : (s : Settings) → settingsOk s ≡ true → s .«max_iterations» ≤ 10000
 unfolding settingsOk

@@ -5,9 +5,9 @@ use mathlib.Core.Bool.{true, false}
 use mathlib.Core.List.{List}
 use lib.Ieee.{Float, nan, inf, fin, lt, isNan}
 use Rattle.ring.specs.Ring.{count}
-use Rattle.first_best.specs.Best.{flat, First}
-use Rattle.first_best.proofs.Order.{lt-weave, lt-irrefl, lt-asym}
-use Rattle.first_best.proofs.Scan.{nest-flat, over-first}
+use Rattle.laws.specs.FirstBest.{flat, First}
+use Rattle.laws.proofs.Order.{lt-weave, lt-irrefl, lt-asym}
+use Rattle.laws.proofs.FirstBest.{nest-flat, over-first}
 use Rattle.recovery.specs.Recovery.{closestAt, nearer, afar, closestOf}
 
 -- a distance that counts is no NaN

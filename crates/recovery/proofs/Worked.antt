@@ -13,7 +13,7 @@ use Rattle.ring.specs.Ring.{pointAt}
 use Rattle.refusals.specs.Refusals.{refuse}
 use Rattle.refusals.specs.Bounds.{coordinate, finite, every}
 use Rattle.refusals.specs.Answers.{answers, refuses}
-use Rattle.first_best.specs.Best.{better, over, nest}
+use Rattle.laws.specs.FirstBest.{better, over, nest}
 use Rattle.refusals.specs.Rows.{ofTwoPolygons, ofMoving}
 use Rattle.ring.proofs.Worked.{f2, f3, f4, f6, f8, S}
 use Rattle.centroid.specs.Centroid.{grownOf, momentsTo, centroidOf}

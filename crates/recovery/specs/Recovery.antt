@@ -8,7 +8,7 @@ use Rattle.plane.specs.Vector.{minusOf, distanceOf, normalizeOf, aheadOf, half}
 use Rattle.plane.specs.Segment.{projectOf, alongOf}
 use Rattle.plane.specs.declared.Point.{Point}
 use Rattle.ring.specs.Ring.{count, pointAt, nextOf}
-use Rattle.first_best.specs.Best.{nest}
+use Rattle.laws.specs.FirstBest.{nest}
 use Rattle.refusals.specs.declared.answer.Found.{Found}
 use Rattle.refusals.specs.declared.answer.Found.the-variants.{Nothing, At}
 use Rattle.centroid.specs.Centroid.{centroidOf}

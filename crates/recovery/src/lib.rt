@@ -16,7 +16,7 @@ use ring::point_at;
 ghost use mathlib.Core.Path.{_≡_};
 ghost use Prim.Native.Nat.{_<_};
 ghost use Rattle.ring.specs.Ring.{count};
-ghost use Rattle.first_best.specs.Best.{better, over};
+ghost use Rattle.laws.specs.FirstBest.{better, over};
 ghost use Rattle.recovery.specs.Recovery.{closestOn, nearer, closestOf, towardOf, recoverOf};
 
 // A point and its distance, or +infinity and nothing.

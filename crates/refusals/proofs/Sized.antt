@@ -8,6 +8,7 @@ use lib.ListN.{length}
 use lib.Dec.{leb, eqb}
 use lib.Ieee.{Float}
 use borrow.Author.Tests.{eqb-true, leb-true}
+use Rattle.laws.proofs.Both.{both}
 use Rattle.refusals.specs.Refusals.{passed, unless, first}
 use Rattle.refusals.specs.Bounds.{ringLength, polygonLength, listLength}
 use Rattle.plane.specs.declared.Point.{Point}
@@ -19,10 +20,6 @@ use Rattle.refusals.specs.declared.Refusal.{Refusal}
 pub record Sized (r : List Float) : Type 0 where
   pub even : length r % 2 ≡ 0
   pub most : length r ≤ 512
-
-both : (a b : Bool) → a && b ≡ true → (a ≡ true) × (b ≡ true)
-both true b h = (refl, h)
-both false b h = (h, cc)
 
 -- the same, of three vertices or more
 pub record Polygon (r : List Float) : Type 0 where

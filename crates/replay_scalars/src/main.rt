@@ -8,26 +8,15 @@ use replay::begin;
 use replay::report;
 use replay::word;
 
-// What the library answers: 0 abs, 1 smaller, 2 larger, 3 clamp, 4 sqrt, 5 limit.
+// What the library answers: 0 abs, 1 smaller, 2 larger, 3 clamp, 4 sqrt.
 fn answer(op: u64, x: f64, y: f64, z: f64) -> f64 {
     match op {
         0 => scalar::abs(x),
         1 => scalar::smaller(x, y),
         2 => scalar::larger(x, y),
         3 => scalar::clamp(x, y, z),
-        4 => square_root::sqrt(x),
-        _ => limit_or_nan(x),
+        _ => square_root::sqrt(x),
     }
-}
-
-// The limit of a tolerance, NaN for what is none.
-fn limit_or_nan(tol: f64) -> f64 {
-    if tol > 0.0 {
-        if tol <= 1.0 {
-            return square_root::limit(tol);
-        }
-    }
-    0.0 / 0.0
 }
 
 // Whether a record's answer is the library's.

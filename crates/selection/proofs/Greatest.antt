@@ -5,9 +5,9 @@ use mathlib.Core.Bool.{Bool, true, false}
 use mathlib.Core.List.{List}
 use lib.Ieee.{Float, inf, lt, isNan}
 use Rattle.plane.specs.declared.Point.{Point}
-use Rattle.first_best.specs.Best.{First, none, some}
-use Rattle.first_best.proofs.Order.{lt-irrefl, lt-asym}
-use Rattle.first_best.proofs.Scan.{over-first}
+use Rattle.laws.specs.FirstBest.{First, none, some}
+use Rattle.laws.proofs.Order.{lt-irrefl, lt-asym}
+use Rattle.laws.proofs.FirstBest.{over-first}
 use Rattle.selection.specs.Select.{count, scoreAt, scoredAt, above, startOf, selectOf}
 use Rattle.selection.specs.Chosen.{Chosen, greatest}
 use Rattle.selection.specs.Chosen as chosen-is

@@ -8,7 +8,7 @@ use Rattle.square_root.specs.Root.{sqrtOf}
 use Rattle.plane.specs.Vector.{point, minusOf, dotOf, lengthOf, normalizeOf}
 use Rattle.refusals.specs.Refusals.{refuse}
 use Rattle.refusals.specs.Answers.{answers, refuses}
-use Rattle.first_best.specs.Best.{better, over}
+use Rattle.laws.specs.FirstBest.{better, over}
 use Rattle.selection.specs.Score.{preferredOf, continuedOf, scoreOf}
 use Rattle.selection.specs.Select.{vectorAt, scoreAt, scoredAt, startOf, selectOf}
 use Rattle.selection.specs.Calls.{choice, selectCall}

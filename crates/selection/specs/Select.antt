@@ -6,7 +6,7 @@ use lib.ListN.{length, getD}
 use lib.Ieee.{Float, nan, inf, lt}
 use Rattle.plane.specs.Vector.{point}
 use Rattle.plane.specs.declared.Point.{Point}
-use Rattle.first_best.specs.Best.{better, over}
+use Rattle.laws.specs.FirstBest.{better, over}
 use Rattle.selection.specs.Score.{scoreOf}
 use Rattle.vectors.specs.declared.TranslationVector.{TranslationVector}
 use Rattle.selection.specs.declared.Previous.{Previous}

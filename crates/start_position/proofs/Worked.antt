@@ -11,7 +11,7 @@ use Rattle.refusals.specs.Refusals.{refuse}
 use Rattle.refusals.specs.Bounds.{coordinate, every}
 use Rattle.refusals.specs.Rows.{ofTwoPolygons}
 use Rattle.refusals.specs.Answers.{answers, refuses}
-use Rattle.first_best.specs.Best.{better, over}
+use Rattle.laws.specs.FirstBest.{better, over}
 use Rattle.start_position.specs.Start.{lowerOf, upperOf, vertexOf, startOf}
 use Rattle.start_position.specs.Calls.{startCall}
 

@@ -6,24 +6,16 @@ use mathlib.Core.Logic.{_⊎_, inl, inr}
 use mathlib.Core.Bool.{Bool, true, false}
 use lib.IntN.{ℤ, pos}
 use lib.Dec.{T}
-use lib.Ieee.{Float, nan, inf, fin, binary64, up, down, size, nearest, fits, add, sum, lt, le}
+use lib.Ieee.{Float, nan, inf, fin, binary64, up, down, size, nearest, fits, add, lt, le}
+use Rattle.laws.proofs.Parts.{le-of-parts}
+use Rattle.laws.proofs.Order.{total, le-trans, lt-nan, not-less, no-nan, lt-of-infinity, le-of-infinity}
+use Rattle.laws.proofs.Plain.{Plain, infinite, number, units-plain, squares-plain, to-nan, from-nan}
 use Rattle.scalar.specs.Float.{_⊕_}
 use Rattle.square_root.specs.Root.{isqrt, rooted, sqrtOf}
-use Rattle.square_root.proofs.Compare.{lt-of-infinity, le-of-infinity}
 use Rattle.plane.specs.Vector.{dotOf, lengthOf}
 use Rattle.plane.specs.declared.Point.{Point}
-use Rattle.bounds.proofs.Signed.{Plain, infinite, number, units-plain, round-plain, le-of-parts}
-use Rattle.bounds.proofs.Ordered.{total, le-trans, lt-nan, not-less, no-nan}
 use Rattle.bounds.proofs.Sums.{rises}
 use Rattle.bounds.proofs.Beyond.{sums}
-use Rattle.bounds.proofs.Clear.{square-plain, plain-nan}
-
-sum-plain : {x y : Float} → Plain x → Plain y → Plain (x ⊕ y)
-unfolding add sum
-sum-plain infinite infinite = infinite
-sum-plain infinite (number n d) = infinite
-sum-plain (number m e) infinite = infinite
-sum-plain (number m e) (number n d) = round-plain binary64 (m * up e * down d + n * up d * down e) (down e * down d)
 
 rooted-plain : (n : ℕ) → Plain (rooted binary64 n)
 unfolding rooted
@@ -40,11 +32,7 @@ root-plain (number (suc m) e) = rooted-plain (suc m * up e * 4 ^ 1074 / down e)
 
 pub length-plain : (v : Point) → (lengthOf v ≡ nan) ⊎ Plain (lengthOf v)
 unfolding lengthOf dotOf
-length-plain v =
-    elim (square-plain (v .x)) [
-      | inl e ↦ inl (rw e (unfold add sqrtOf in refl))
-      | inr P ↦ elim (square-plain (v .y)) [ inl e ↦ inl (rw (e, plain-nan P) (unfold sqrtOf in refl)) | inr Q ↦ inr (root-plain (sum-plain P Q)) ]
-    ]
+length-plain v = elim (squares-plain (v .x) (v .y)) [ inl e ↦ inl (rw e (unfold sqrtOf in refl)) | inr P ↦ inr (root-plain P) ]
 
 -- ---- a sum with what is not below zero
 
@@ -52,16 +40,6 @@ zero-below : {y : Float} → Plain y → T (le (fin false 0 (pos 0)) y)
 unfolding le
 zero-below infinite = tt
 zero-below (number m e) = le-of-parts false 0 (pos 0) false m e (omega arith)
-
-to-nan : (x : Float) → x ⊕ nan ≡ nan
-unfolding add
-to-nan nan = refl
-to-nan (inf s) = refl
-to-nan (fin s m e) = refl
-
-from-nan : (y : Float) → nan ⊕ y ≡ nan
-unfolding add
-from-nan y = refl
 
 no-less : (x lim : Float) → x ≡ nan → lt x lim ≡ false
 unfolding lt

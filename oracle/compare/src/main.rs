@@ -30,16 +30,14 @@ fn run(count: u64, seed: u64) -> Tally {
     for checked in LISTS {
         let list = list(checked.name).expect("each of these is a list");
         for (place, record) in (list.stored)().iter().enumerate() {
-            if let Some(compared) = (checked.check)(record) {
-                tally.add(compared, || format!("{}, stored record {place}", checked.name));
-            }
+            let origin = || format!("{}, stored record {place}", checked.name);
+            tally.add((checked.check)(record), origin);
         }
         let seeded = &mut Seeded::new(seed);
-        let records = (0..).map(|place| (place, (list.long)(seeded, place)));
-        let compared =
-            records.filter_map(|(place, record)| Some((place, (checked.check)(&record)?)));
-        for (place, compared) in compared.take((count * checked.share / 100) as usize) {
-            tally.add(compared, || format!("{}, seed {seed}, record {place}", checked.name));
+        for place in 0..count * checked.share / 100 {
+            let record = (list.long)(seeded, place);
+            let origin = || format!("{}, seed {seed}, record {place}", checked.name);
+            tally.add((checked.check)(&record), origin);
         }
     }
     tally

@@ -7,8 +7,8 @@ use mathlib.Core.List.{List}
 use lib.Dec.{eqb}
 use lib.Ieee.{Float}
 use mathlib.Core.Path.{_≡_, refl, ap, _∙_}
-use Rattle.first_best.specs.Best.{better, over}
-use Rattle.first_best.proofs.Scan.{over-turn}
+use Rattle.laws.specs.FirstBest.{better, over}
+use Rattle.laws.proofs.FirstBest.{over-turn}
 use Rattle.plane.specs.declared.Point.{Point}
 use Rattle.ring.specs.Ring.{pointAt}
 use Rattle.collision.specs.Ray.{edgeRay}

@@ -4,8 +4,8 @@ use borrow.Author.Needs.{needs}
 use Prim.Native.Nat.{_-_, _≤_}
 use mathlib.Core.Path.{_≡_, refl, ap, _∙_}
 use Rattle.ring.specs.Ring.{count}
-use Rattle.first_best.specs.Best.{nest}
-use Rattle.first_best.proofs.Scan.{nest-turn}
+use Rattle.laws.specs.FirstBest.{nest}
+use Rattle.laws.proofs.FirstBest.{nest-turn}
 use Rattle.collision.specs.Hit.{nearer}
 use Rattle.collision.specs.Check.{hitOf, rowOf, scanOf}
 use Rattle.collision.proofs.scan.Statement.{statement}

@@ -7,8 +7,8 @@ use mathlib.Core.List.{List}
 use lib.Ieee.{Float, div, ofBits}
 use Rattle.plane.specs.declared.Point.{Point}
 use Rattle.ring.specs.Ring.{count, pointAt}
-use Rattle.first_best.specs.Best.{over, nest}
-use Rattle.first_best.proofs.Scan.{nest-turn}
+use Rattle.laws.specs.FirstBest.{over, nest}
+use Rattle.laws.proofs.FirstBest.{nest-turn}
 use Rattle.recovery.specs.Recovery.{closestOn, closestAt, nearer, afar, closestOf}
 use Rattle.recovery.specs.declared.Closest.{Closest}
 use Rattle.recovery.proofs.scan.Statement.{statement}

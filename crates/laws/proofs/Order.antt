@@ -1,4 +1,5 @@
--- The order of all values that are no NaN: it is total, and it goes through. Assumes nothing.
+-- The order of floats, of every sign and at infinities: among the values that are no NaN it is total, and it goes through.
+-- Assumes nothing.
 use Prim.Native.Nat.{ℕ, _+_, _*_, _<_}
 use native.Mathlib.Omega.{arith}
 use native.Mathlib.Nat.{mul-le-mul-right, le-of-mul-le-mul-right}
@@ -8,10 +9,10 @@ use mathlib.Core.Bool.{Bool, true, false, true≢false}
 use borrow.Author.Tests.{ltb-true, ltb-false}
 use lib.IntN.{ℤ}
 use lib.Dec.{T}
-use lib.Ieee.{Float, nan, inf, fin, up, down, lt, le}
+use lib.Ieee.{Float, nan, inf, fin, up, down, isNan, lt, le}
 use lib.Ieee.Fits.{down-pos}
-use lib.Ieee.Positive.{den}
-use Rattle.bounds.proofs.Signed.{plus, less, NotAbove, parts-of-le, le-of-parts}
+use lib.Ieee.Positive.{positive, den}
+use Rattle.laws.proofs.Parts.{plus, less, NotAbove, parts-of-le, le-of-parts}
 
 -- ---- of two values one is not above the other
 
@@ -147,3 +148,52 @@ not-less x y h = by (lt y x) refl
     by : (b : Bool) → lt y x ≡ b → b ≡ false
     by true e = absurd (clash y x e h)
     by false e = refl
+
+-- ---- what is less
+
+pub le-of-lt : (x y : Float) → lt x y ≡ true → T (le x y)
+unfolding le
+le-of-lt x y h = rw h tt
+
+pub lt-asym : (x y : Float) → lt x y ≡ true → lt y x ≡ false
+lt-asym x y h = not-less x y (le-of-lt x y h)
+
+pub lt-irrefl : (x : Float) → lt x x ≡ false
+lt-irrefl x = by (lt x x) refl
+  where
+    by : (b : Bool) → lt x x ≡ b → b ≡ false
+    by true e = absurd (clash x x e (le-of-lt x x e))
+    by false e = refl
+
+is-nan : isNan nan ≡ true
+unfolding isNan
+is-nan = refl
+
+-- x < y and not z < y give x < z
+pub lt-weave : (x y z : Float) → isNan z ≡ false → lt x y ≡ true → lt z y ≡ false → lt x z ≡ true
+lt-weave x y z n h k =
+    elim (total z y k) [
+      | inl e ↦ absurd (true≢false (sym is-nan ∙ rw e at n))
+      | inr g ↦ elim g [ inl e ↦ absurd (true≢false (sym h ∙ rw e (lt-nan x))) | inr l ↦ lt-le x y z h l ]
+    ]
+
+-- ---- the infinity
+
+pub lt-of-infinity : (y : Float) → lt (inf false) y ≡ false
+unfolding lt
+lt-of-infinity nan = refl
+lt-of-infinity (inf s) = refl
+lt-of-infinity (fin s m e) = refl
+
+pub le-of-infinity : (y : Float) → T (le (inf false) y) → y ≡ inf false
+unfolding le
+le-of-infinity nan h = absurd h
+le-of-infinity (inf true) h = absurd h
+le-of-infinity (inf false) h = refl
+le-of-infinity (fin s m e) h = absurd h
+
+pub lt-infinity : (x : Float) → T (positive x) → lt x (inf false) ≡ true
+unfolding lt
+lt-infinity nan p = absurd p
+lt-infinity (inf s) p = absurd p
+lt-infinity (fin s m e) p = refl

@@ -1,2 +1,2 @@
 -- The definitions that the crates that scan cite.
-pub mod Best
+pub mod FirstBest

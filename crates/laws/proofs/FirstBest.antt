@@ -6,7 +6,7 @@ use native.Mathlib.Omega.{arith}
 use mathlib.Core.Path.{_≡_, refl, sym, ap, _∙_}
 use mathlib.Core.Bool.{Bool, true, false, cond}
 use borrow.Author.Count.{below-more, below-none}
-use Rattle.first_best.specs.Best.{better, over, nest, flat, First, none, some}
+use Rattle.laws.specs.FirstBest.{better, over, nest, flat, First, none, some}
 
 -- what holds of each number below i, and of i, holds of each below suc i
 pub below-suc : (P : ℕ → Type 0) (i : ℕ) → ((k : ℕ) → k < i → P k) → P i → (k : ℕ) → k < suc i → P k
