@@ -9,7 +9,8 @@ use lib.Seq.{sets, sets-eq, drop-at, drop-drop}
 use Rattle.reading.specs.Reading.{Vertex, flat, vertices}
 use Rattle.number_bytes.specs.Bytes.{bytesOf, numberOf, Each}
 use Rattle.number_bytes.proofs.Bytes.{length-bytesOf, take-number, drop-number}
-use Rattle.book_layout.specs.Layout.{fieldBytes, coordinateBytes, vertexBytes, entryBytes, verticesMost, coordBytes, body, entries, Corner, Outline, coordsIn, countsIn, ringsIn}
+use Rattle.refusals.specs.Rings.{verticesMost}
+use Rattle.book_layout.specs.Layout.{fieldBytes, coordinateBytes, vertexBytes, entryBytes, coordBytes, body, entries, Corner, Outline, coordsIn, countsIn, ringsIn}
 use Rattle.reading.proofs.Leasts.{vertices-flat, length-flat}
 
 -- ---- a list stored at the front of a room that it fits

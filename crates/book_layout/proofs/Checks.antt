@@ -13,10 +13,12 @@ use Rattle.refusals.proofs.First.{first-assoc}
 use Rattle.reading.specs.Reading.{Vertex, flat, leastReading}
 use Rattle.number_bytes.specs.Bytes.{bytesOf, numberOf, Each}
 use Rattle.number_bytes.proofs.Bytes.{take-number, drop-number}
-use Rattle.book_layout.specs.Layout.{fieldBytes, coordinateBytes, vertexBytes, entryBytes, tailBytes, verticesLeast, verticesMost, ringsMost, bookLeast, bookMost, within, total, coordBytes, body, entries, layout, coordinateBits, Coordinate, Corner, Outline, Accepted, ringCount, entryOffset, countsOf}
+use Rattle.refusals.specs.Rings.{verticesLeast, verticesMost, ringsMost, within, total}
+use Rattle.book_layout.specs.Layout.{fieldBytes, coordinateBytes, vertexBytes, entryBytes, tailBytes, bookLeast, bookMost, coordBytes, body, entries, layout, coordinateBits, Coordinate, Corner, Outline, Accepted, ringCount, entryOffset, countsOf}
 use Rattle.book_layout.specs.Faults.{fault, entriesCheck, coordsCheck, leastCheck, bookCheck, _passes}
 use Rattle.book_layout.proofs.Bytes.{length-ring, entry-offset, entry-count, entry-rest, ring-back}
-use Rattle.book_layout.proofs.Passing.{pass, within-true}
+use Rattle.refusals.proofs.Counts.{within-true}
+use Rattle.book_layout.proofs.Passing.{pass}
 use Rattle.book_layout.proofs.Laid.{tail, layout-is, length-layout, body-most, body-least, count-back, offset-back, counts-of}
 use Rattle.reading.proofs.Leasts.{length-flat}
 use Rattle.reading.proofs.Own.{is-own}

@@ -12,10 +12,13 @@ use Rattle.reading.specs.Reading.{Vertex, leastReading}
 use Rattle.number_bytes.specs.Bytes.{bytesOf, numberOf, Each, Byte}
 use Rattle.number_bytes.proofs.Bytes.{bytes-take}
 use Rattle.number_bytes.proofs.Each.{each-drop}
-use Rattle.book_layout.specs.Layout.{fieldBytes, coordinateBytes, vertexBytes, entryBytes, tailBytes, verticesLeast, verticesMost, ringsMost, bookLeast, bookMost, within, total, body, entries, layout, bookOf, Outline, Accepted, ringCount, entryOffset, countsOf, ringsOf}
+use Rattle.refusals.specs.Rings.{verticesLeast, verticesMost, ringsMost, within, total}
+use Rattle.book_layout.specs.Layout.{fieldBytes, coordinateBytes, vertexBytes, entryBytes, tailBytes, bookLeast, bookMost, body, entries, layout, bookOf, Outline, Accepted, ringCount, entryOffset, countsOf, ringsOf}
 use Rattle.book_layout.specs.Faults.{fault, entriesCheck, coordsCheck, leastCheck, bookCheck, _passes}
 use Rattle.book_layout.proofs.Books.{least-accepted}
-use Rattle.book_layout.proofs.Passing.{both, held, is-within}
+use Rattle.refusals.proofs.Counts.{is-within}
+use Rattle.refusals.proofs.Sized.{row-parts}
+use Rattle.book_layout.proofs.Passing.{held}
 use Rattle.reading.proofs.Leasts.{least-again}
 use Rattle.book_layout.proofs.Checks.{layout-pass}
 use Rattle.book_layout.proofs.Found.{length-countsIn, entries-are, rings-counts, rings-body, rings-kept}
@@ -43,12 +46,12 @@ checked f h =
     let t3 = eqb (e + entryBytes * k + tailBytes) n in
     let v5 = first (fault t5 (n - fieldBytes)) (first v6 v7) in
     let v3 = first (fault t3 (n - fieldBytes)) (first v4 v5) in
-    let p1 = both (fault (within bookLeast bookMost n) 0) (first (fault (within 1 ringsMost k) (n - tailBytes)) v3) h in
-    let p2 = both (fault (within 1 ringsMost k) (n - tailBytes)) v3 (p1 .1) in
-    let p3 = both (fault t3 (n - fieldBytes)) (first v4 v5) (p2 .1) in
-    let p4 = both v4 v5 (p3 .1) in
-    let p5 = both (fault t5 (n - fieldBytes)) (first v6 v7) (p4 .1) in
-    let p6 = both v6 v7 (p5 .1) in
+    let p1 = row-parts (fault (within bookLeast bookMost n) 0) (first (fault (within 1 ringsMost k) (n - tailBytes)) v3) h in
+    let p2 = row-parts (fault (within 1 ringsMost k) (n - tailBytes)) v3 (p1 .1) in
+    let p3 = row-parts (fault t3 (n - fieldBytes)) (first v4 v5) (p2 .1) in
+    let p4 = row-parts v4 v5 (p3 .1) in
+    let p5 = row-parts (fault t5 (n - fieldBytes)) (first v6 v7) (p4 .1) in
+    let p6 = row-parts v6 v7 (p5 .1) in
     record {
       long = is-within bookLeast bookMost n (held (within bookLeast bookMost n) 0 (p1 .0));
       count = is-within 1 ringsMost k (held (within 1 ringsMost k) (n - tailBytes) (p2 .0));

@@ -12,9 +12,12 @@ use Rattle.reading.specs.Reading.{Vertex, flat, vertices, bestOf, leastReading}
 use Rattle.number_bytes.specs.Bytes.{bytesOf, numberOf, Byte, Each}
 use Rattle.number_bytes.proofs.Bytes.{bytes-take, number-lt}
 use Rattle.number_bytes.proofs.Each.{each-take, each-drop}
-use Rattle.book_layout.specs.Layout.{fieldBytes, coordinateBytes, vertexBytes, entryBytes, verticesLeast, verticesMost, within, total, coordBytes, body, entries, coordinateBits, Coordinate, Corner, coordsIn, countsIn, ringsIn}
+use Rattle.refusals.specs.Rings.{verticesLeast, verticesMost, within, total}
+use Rattle.book_layout.specs.Layout.{fieldBytes, coordinateBytes, vertexBytes, entryBytes, coordBytes, body, entries, coordinateBits, Coordinate, Corner, coordsIn, countsIn, ringsIn}
 use Rattle.book_layout.specs.Faults.{fault, entriesCheck, coordsCheck, leastCheck, _passes}
-use Rattle.book_layout.proofs.Passing.{both, held, is-within}
+use Rattle.refusals.proofs.Counts.{is-within}
+use Rattle.refusals.proofs.Sized.{row-parts}
+use Rattle.book_layout.proofs.Passing.{held}
 use Rattle.reading.proofs.Leasts.{length-flat}
 use Rattle.reading.proofs.Places.{flat-vertices}
 use Rattle.reading.proofs.Own.{own}
@@ -38,7 +41,7 @@ pub coords-hold : (k at : ℕ) (f : List ℕ) → Each Byte f → coordinateByte
 unfolding coordsCheck coordsIn
 coords-hold zero at f h n c = tt
 coords-hold (suc k) at f h n c =
-    let p = both (fault (coordinateBits (numberOf (take coordinateBytes f))) at) (coordsCheck k (at + coordinateBytes) (drop coordinateBytes f)) c in
+    let p = row-parts (fault (coordinateBits (numberOf (take coordinateBytes f))) at) (coordsCheck k (at + coordinateBytes) (drop coordinateBytes f)) c in
     let z : length (take coordinateBytes f) ≡ coordinateBytes = length-take-le coordinateBytes f (omega arith) in
     let q : numberOf (take coordinateBytes f) < 256 ^ coordinateBytes = subst (λ (j : ℕ). numberOf (take coordinateBytes f) < 256 ^ j) z (number-lt (take coordinateBytes f) (each-take Byte coordinateBytes f h)) in (
       record { pattern = q; bounded = held (coordinateBits (numberOf (take coordinateBytes f))) at (p .0) },
@@ -82,7 +85,7 @@ unfolding ringsIn leastCheck
 rings-kept [] f at z c = refl
 rings-kept (n ∷ ns) f at z c =
     let r = vertices (coordsIn (2 * n) f) in
-    let p = both (fault (eqb (bestOf r) 0) at) (leastCheck ns (at + vertexBytes * n) (drop (vertexBytes * n) f)) c in
+    let p = row-parts (fault (eqb (bestOf r) 0) at) (leastCheck ns (at + vertexBytes * n) (drop (vertexBytes * n) f)) c in
     ap₂ (λ (a : List Vertex) (b : List (List Vertex)). a ∷ b) (own r (omega (arith, ring-length n f, z .0 .0)) (eqb-true (bestOf r) 0 (held (eqb (bestOf r) 0) at (p .0)))) (rings-kept ns (drop (vertexBytes * n) f) (at + vertexBytes * n) (z .1) (p .1))
 
 -- ---- the entries
@@ -100,8 +103,8 @@ entries-are (suc k) at before f h s c =
     let o = numberOf (take fieldBytes f) in
     let n = numberOf (take fieldBytes (drop fieldBytes f)) in
     let v = entriesCheck k (at + entryBytes) (before + vertexBytes * n) (drop entryBytes f) in
-    let p = both (fault (eqb o before) at) (first (fault (within verticesLeast verticesMost n) (at + fieldBytes)) v) c in
-    let q = both (fault (within verticesLeast verticesMost n) (at + fieldBytes)) v (p .1) in
+    let p = row-parts (fault (eqb o before) at) (first (fault (within verticesLeast verticesMost n) (at + fieldBytes)) v) c in
+    let q = row-parts (fault (within verticesLeast verticesMost n) (at + fieldBytes)) v (p .1) in
     let ih = entries-are k (at + entryBytes) (before + vertexBytes * n) (drop entryBytes f) (each-drop Byte entryBytes f h) (omega (arith, length-drop entryBytes f)) (q .1) in
     let e : entryBytes * suc k ≡ 4 + (4 + entryBytes * k) = omega arith in
     let a : take fieldBytes f ≡ bytesOf fieldBytes before = sym (bytes-take fieldBytes f h (omega arith)) ∙ ap (bytesOf fieldBytes) (eqb-true o before (held (eqb o before) at (p .0))) in

@@ -8,7 +8,8 @@ use lib.Seq.{drop-at}
 use Rattle.reading.specs.Reading.{Vertex, flat}
 use Rattle.number_bytes.specs.Bytes.{bytesOf, numberOf, Each}
 use Rattle.number_bytes.proofs.Bytes.{length-bytesOf, take-number}
-use Rattle.book_layout.specs.Layout.{fieldBytes, vertexBytes, entryBytes, tailBytes, verticesLeast, verticesMost, ringsMost, coordBytes, body, entries, layout, Outline, Accepted, countsIn, ringsIn, ringCount, entryOffset, countsOf, ringsOf}
+use Rattle.refusals.specs.Rings.{verticesLeast, verticesMost, ringsMost}
+use Rattle.book_layout.specs.Layout.{fieldBytes, vertexBytes, entryBytes, tailBytes, coordBytes, body, entries, layout, Outline, Accepted, countsIn, ringsIn, ringCount, entryOffset, countsOf, ringsOf}
 use Rattle.book_layout.proofs.Bytes.{length-ring, length-entries, counts-back, rings-back}
 
 -- ---- lengths

@@ -10,7 +10,9 @@ use lib.Dec.{T, leb, eqb}
 use lib.Ieee.{Float, nan, inf, fin, binary64, fits, isNan, ofBits}
 use lib.Ieee.Bits.{ofBits-fits}
 use borrow.Author.Tests.{le-leb, leb-true, eq-eqb, eqb-true}
-use Rattle.refusals.specs.Refusals.{unless, first}
+use Rattle.refusals.specs.Refusals.{first}
+use Rattle.refusals.specs.Screens.{wrongRings, wrongCounts, wrongSum, wrongNumber, wrongBook}
+use Rattle.refusals.specs.Rows.{ofRings}
 use Rattle.refusals.specs.Bounds.{coordinate, every, coordinates}
 use Rattle.reading.specs.Reading.{Vertex, vertices}
 use Rattle.reading.specs.Lent.{kept, ringOf}
@@ -19,43 +21,43 @@ use Rattle.reading.proofs.Order.{no-bool}
 use Rattle.reading.proofs.Places.{length-ringOf}
 use Rattle.number_bytes.specs.Bytes.{numberOf, Each, Byte}
 use Rattle.number_bytes.proofs.Each.{each-take, each-drop}
-use Rattle.book_layout.specs.Layout.{coordinateBytes, vertexBytes, verticesLeast, verticesMost, ringsMost, within, coordinateBits, Coordinate, Outline, Accepted, total, coordsIn, ringsIn, ringCount, entryOffset, coordsOf, countsOf, ringsOf}
+use Rattle.refusals.specs.Rings.{verticesLeast, verticesMost, ringsMost, within, total, ringsOk, sizedAll, sumOk}
+use Rattle.book_layout.specs.Layout.{coordinateBytes, vertexBytes, coordinateBits, Coordinate, Outline, Accepted, coordsIn, ringsIn, ringCount, entryOffset, coordsOf, countsOf, ringsOf}
 use Rattle.book_layout.specs.Faults.{_passes, bookCheck}
-use Rattle.book_layout.specs.Writer.{ringsFrom, sizedAll, lengthsOk, bookSize, writeRefusal, Held, Formed}
+use Rattle.book_layout.specs.Writer.{ringsFrom, bookSize, writeRefusal, Held, Formed}
 use Rattle.book_layout.specs.Reader.{numbersOf}
-use Rattle.book_layout.proofs.Passing.{both, and-both, within-true, is-within}
-use Rattle.refusals.proofs.Sized.{holds}
+use Rattle.laws.proofs.Both.{both}
+use Rattle.refusals.proofs.Counts.{within-true, is-within}
+use Rattle.refusals.proofs.Sized.{row-parts, holds}
 use Rattle.book_layout.proofs.Found.{corners, coords-hold, length-coordsIn, length-countsIn}
 use Rattle.book_layout.proofs.Exact.{checked, listing}
 
 -- ---- the writer's tests
 
-pub lengths-held : (xs : List Float) (ns : List ℕ) → lengthsOk xs ns ≡ true
-    → (1 ≤ length ns) × (length ns ≤ ringsMost) × (sizedAll ns ≡ true) × (length xs ≡ 2 * total ns)
-unfolding lengthsOk
-lengths-held xs ns h =
-    let a = and-both (eqb (length xs % 2) 0) (within 1 ringsMost (length ns) && (sizedAll ns && eqb (length xs) (2 * total ns))) h in
-    let b = and-both (within 1 ringsMost (length ns)) (sizedAll ns && eqb (length xs) (2 * total ns)) (a .1) in
-    let d = and-both (sizedAll ns) (eqb (length xs) (2 * total ns)) (b .1) in
-    let w = is-within 1 ringsMost (length ns) (b .0) in
-    (w .0, w .1, d .0, eqb-true (length xs) (2 * total ns) (d .1))
-
 module _ (xs : List Float) (ns : List ℕ) (size : ℕ) where
   pub takes : writeRefusal xs ns size passes → Held xs ns × (bookSize ns ≤ size)
-  unfolding writeRefusal
+  unfolding writeRefusal ofRings
   takes h =
-      let p = both (unless (lengthsOk xs ns) 1 0) (first (unless (coordinates xs) 2 0) (unless (leb (bookSize ns) size) 4 0)) h in
-      let q = both (unless (coordinates xs) 2 0) (unless (leb (bookSize ns) size) 4 0) (p .1) in
-      let l = lengths-held xs ns (holds (lengthsOk xs ns) 1 0 refl (p .0)) in (
-        record { one = l .0; few = l .1; sized = l .2; whole = l .3; bounded = holds (coordinates xs) 2 0 refl (q .0) },
-        leb-true (bookSize ns) size (holds (leb (bookSize ns) size) 4 0 refl (q .1)),
+      let last = first (wrongSum xs ns) (wrongNumber xs) in
+      let p = row-parts (ofRings xs ns) (wrongBook (bookSize ns) size) h in
+      let r = row-parts (wrongRings ns) (first (wrongCounts ns) last) (p .0) in
+      let k = row-parts (wrongCounts ns) last (r .1) in
+      let s = row-parts (wrongSum xs ns) (wrongNumber xs) (k .1) in
+      let w = is-within 1 ringsMost (length ns) (holds (ringsOk ns) 1 0 refl (r .0)) in (
+        record {
+          one = w .0;
+          few = w .1;
+          sized = holds (sizedAll ns) 1 0 refl (k .0);
+          whole = eqb-true (length xs) (2 * total ns) (holds (sumOk xs ns) 1 0 refl (s .0));
+          bounded = holds (coordinates xs) 2 0 refl (s .1);
+        },
+        leb-true (bookSize ns) size (holds (leb (bookSize ns) size) 4 0 refl (p .1)),
       )
 
   pub taken : Held xs ns → bookSize ns ≤ size → writeRefusal xs ns size passes
-  unfolding writeRefusal lengthsOk
+  unfolding writeRefusal ofRings
   taken h l =
-      let even : length xs % 2 ≡ 0 = omega (arith, h .whole) in
-      rw (eq-eqb (length xs % 2) 0 even, within-true 1 ringsMost (length ns) (h .one) (h .few), h .sized, eq-eqb (length xs) (2 * total ns) (h .whole), h .bounded, le-leb (bookSize ns) size l)
+      rw (within-true 1 ringsMost (length ns) (h .one) (h .few), h .sized, eq-eqb (length xs) (2 * total ns) (h .whole), h .bounded, le-leb (bookSize ns) size l)
 
 -- ---- coordinates
 
@@ -80,32 +82,23 @@ unfolding every
 coordinates-take zero xs t = refl
 coordinates-take (suc n) [] t = refl
 coordinates-take (suc n) (x ∷ xs) t =
-    let p = and-both (coordinate x) (coordinates xs) t in
+    let p = both (coordinate x) (coordinates xs) t in
     rw (p .0) (coordinates-take n xs (p .1))
 
 coordinates-drop : (n : ℕ) (xs : List Float) → coordinates xs ≡ true → coordinates (drop n xs) ≡ true
 unfolding every
 coordinates-drop zero xs t = t
 coordinates-drop (suc n) [] t = refl
-coordinates-drop (suc n) (x ∷ xs) t = coordinates-drop n xs (and-both (coordinate x) (coordinates xs) t .1)
+coordinates-drop (suc n) (x ∷ xs) t = coordinates-drop n xs (both (coordinate x) (coordinates xs) t .1)
 
 all-kept : (xs : List Float) → Formed xs → coordinates xs ≡ true → Each Coordinate (map kept xs)
 unfolding every
 all-kept [] f t = tt
 all-kept (x ∷ xs) f t =
-    let p = and-both (coordinate x) (coordinates xs) t in
+    let p = both (coordinate x) (coordinates xs) t in
     (coordinate-kept x (f .0) (p .0), all-kept xs (f .1) (p .1))
 
 -- ---- what the writer takes is what a book holds
-
-pub total-bounds : (ns : List ℕ) → sizedAll ns ≡ true → (verticesLeast * length ns ≤ total ns) × (total ns ≤ verticesMost * length ns)
-unfolding sizedAll total
-total-bounds [] h = ((omega arith), (omega arith))
-total-bounds (n ∷ ns) h =
-    let p = and-both (within verticesLeast verticesMost n) (sizedAll ns) h in
-    let w = is-within verticesLeast verticesMost n (p .0) in
-    let b = total-bounds ns (p .1) in
-    ((omega arith), (omega arith))
 
 length-rings : (ns : List ℕ) (xs : List Float) → length (ringsFrom ns xs) ≡ length ns
 unfolding ringsFrom
@@ -121,7 +114,7 @@ rings-outline : (ns : List ℕ) (xs : List Float) → Formed xs → sizedAll ns 
 unfolding ringsFrom sizedAll total
 rings-outline [] xs f s t h = tt
 rings-outline (n ∷ ns) xs f s t h =
-    let p = and-both (within verticesLeast verticesMost n) (sizedAll ns) s in
+    let p = both (within verticesLeast verticesMost n) (sizedAll ns) s in
     let w = is-within verticesLeast verticesMost n (p .0) in
     let c : length (ringOf (take (2 * n) xs)) ≡ n = ring-count n xs (omega arith) in (
       record {

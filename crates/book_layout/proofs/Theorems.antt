@@ -11,15 +11,17 @@ use borrow.Author.Tests.{le-leb}
 use Rattle.refusals.specs.Refusals.{passed, unless}
 use Rattle.reading.specs.Reading.{BitForBit, leastReading}
 use Rattle.number_bytes.specs.Bytes.{Each, Byte}
-use Rattle.book_layout.specs.Layout.{verticesMost, ringsMost, bookOf, SameOutlines, coordsOf, countsOf, ringsOf}
+use Rattle.refusals.specs.Rings.{verticesMost, ringsMost}
+use Rattle.book_layout.specs.Layout.{bookOf, SameOutlines, coordsOf, countsOf, ringsOf}
 use Rattle.book_layout.specs.Faults.{_passes, bookCheck}
 use Rattle.book_layout.specs.Writer.{ringsFrom, writeRefusal, Formed, Writes}
 use Rattle.book_layout.specs.Reader.{numbersOf, holdsAll, readRefusal}
-use Rattle.book_layout.proofs.Passing.{both}
+use Rattle.refusals.proofs.Sized.{row-parts}
 use Rattle.book_layout.proofs.Books.{same-book, least-accepted}
 use Rattle.book_layout.proofs.Laid.{rings-of}
 use Rattle.book_layout.proofs.Exact.{written-again, book-passes}
-use Rattle.book_layout.proofs.Lent.{formed, takes, taken, held-accepted, handed, read-held, read-size, total-bounds}
+use Rattle.refusals.proofs.Counts.{total-bounds}
+use Rattle.book_layout.proofs.Lent.{formed, takes, taken, held-accepted, handed, read-held, read-size}
 
 -- For two lists of rings that the writer takes, the books are the same bytes exactly if the lists are equally long and each ring is, bit for bit, a
 -- reading of the one at its place.
@@ -32,7 +34,7 @@ same-bytes xs ys ns ms s t f g h k =
 pub again : (f : List ℕ) (room counts : ℕ) → Each Byte f → readRefusal f room counts passes → Writes (numbersOf f) (countsOf f) f
 unfolding readRefusal
 again f room counts bytes h =
-    let ok = both (bookCheck f) (unless (holdsAll f room counts) 4 0) h .0 in
+    let ok = row-parts (bookCheck f) (unless (holdsAll f room counts) 4 0) h .0 in
     record {
       formed = formed (coordsOf f);
       taken = taken (numbersOf f) (countsOf f) (length f) (read-held f bytes ok) (omega (arith, read-size f bytes ok));

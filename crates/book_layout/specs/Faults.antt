@@ -1,23 +1,24 @@
 -- The checks of a file, "first fault told, L the length": refusal 7 with the place of the first fault. Definitions only.
 use Prim.Native.Nat.{ℕ, zero, suc, _+_, _-_, _*_, _/_}
 use mathlib.Core.Path.{_≡_}
-use mathlib.Core.Bool.{Bool, true, cond}
+use mathlib.Core.Bool.{Bool, true}
 use mathlib.Core.List.{List, [], _∷_}
 use lib.ListN.{length, take, drop}
 use lib.Dec.{eqb}
-use Rattle.refusals.specs.Refusals.{none, passed, firstOf}
+use Rattle.refusals.specs.Refusals.{refusedBook, none, refuse, passed, unless, firstOf}
 use Rattle.refusals.specs.declared.Refusal.{Refusal}
 use Rattle.reading.specs.Reading.{vertices, isLeast}
 use Rattle.number_bytes.specs.Bytes.{numberOf}
-use Rattle.book_layout.specs.Layout.{fieldBytes, coordinateBytes, vertexBytes, entryBytes, tailBytes, verticesLeast, verticesMost, ringsMost, bookLeast, bookMost, within, coordinateBits, total, coordsIn, countsOf, ringCount, entryOffset}
+use Rattle.refusals.specs.Rings.{verticesLeast, verticesMost, ringsMost, within, total}
+use Rattle.book_layout.specs.Layout.{fieldBytes, coordinateBytes, vertexBytes, entryBytes, tailBytes, bookLeast, bookMost, coordinateBits, coordsIn, countsOf, ringCount, entryOffset}
 
 -- refusal 7 with a place
 abbrev pub faultAt : ℕ → Refusal
-faultAt p = record { number = 7; place = p }
+faultAt p = refuse refusedBook p
 
 -- what must hold, or else the fault
 abbrev pub fault : Bool → ℕ → Refusal
-fault ok p = cond ok none (faultAt p)
+fault ok p = unless ok refusedBook p
 
 -- no check has found a fault
 infix 30 _passes

@@ -8,6 +8,7 @@ use lib.Dec.{leb}
 use lib.Ieee.{binary64, ofBits}
 use Rattle.number_bytes.specs.Bytes.{bytesOf, numberOf, Each}
 use Rattle.refusals.specs.Bounds.{coordinate}
+use Rattle.refusals.specs.Rings.{verticesLeast, verticesMost, ringsMost}
 use Rattle.reading.specs.Reading.{ReadsUpTo, Vertex, flat, vertices, leastReading}
 
 -- ---- sizes, in bytes
@@ -29,27 +30,12 @@ entryBytes = 2 * fieldBytes
 abbrev pub tailBytes : ℕ
 tailBytes = 2 * fieldBytes
 
--- ---- bounds
-
-abbrev pub verticesLeast : ℕ
-verticesLeast = 3
-
-abbrev pub verticesMost : ℕ
-verticesMost = 256
-
-abbrev pub ringsMost : ℕ
-ringsMost = 8
-
 -- the shortest book and the longest: 64 and 32,840 bytes
 abbrev pub bookLeast : ℕ
 bookLeast = verticesLeast * vertexBytes + entryBytes + tailBytes
 
 abbrev pub bookMost : ℕ
 bookMost = ringsMost * (verticesMost * vertexBytes + entryBytes) + tailBytes
-
--- between the two, both included
-abbrev pub within : ℕ → ℕ → ℕ → Bool
-within low high n = leb low n && leb n high
 
 -- ---- the layout
 
@@ -106,11 +92,6 @@ pub record SameOutlines (R : ℕ → ℕ → Type 0) (rs xs : List (List Vertex)
   pub each : (i : ℕ) → i < length rs → ReadsUpTo R (getD rs i []) (getD xs i [])
 
 -- ---- what a file holds, if it is a book
-
--- the sum of vertex counts
-unfoldable pub total : List ℕ → ℕ
-total [] = 0
-total (n ∷ ns) = n + total ns
 
 -- k coordinates
 unfoldable pub coordsIn : ℕ → List ℕ → List ℕ

@@ -8,36 +8,30 @@ use lib.Dec.{T, leb, eqb}
 use lib.Ieee.{Float, binary64, fits}
 use Rattle.ring.specs.Room.{laid}
 use Rattle.refusals.specs.Answers.{Outcome, outcome, left}
-use Rattle.refusals.specs.Refusals.{unless, firstOf}
+use Rattle.refusals.specs.Refusals.{firstOf}
+use Rattle.refusals.specs.Screens.{wrongBook}
+use Rattle.refusals.specs.Rows.{ofRings}
 use Rattle.refusals.specs.Bounds.{coordinates}
 use Rattle.refusals.specs.declared.Refusal.{Refusal}
 use Rattle.number_bytes.specs.Bytes.{Each}
 use Rattle.reading.specs.Reading.{Vertex}
 use Rattle.reading.specs.Lent.{ringOf}
 use Rattle.book_layout.specs.Faults.{_passes}
-use Rattle.book_layout.specs.Layout.{vertexBytes, entryBytes, tailBytes, verticesLeast, verticesMost, ringsMost, within, total, bookOf}
+use Rattle.refusals.specs.Rings.{ringsMost, total, sizedAll}
+use Rattle.book_layout.specs.Layout.{vertexBytes, entryBytes, tailBytes, bookOf}
 
 -- the rings of these vertex counts, one after the other
 unfoldable pub ringsFrom : List ℕ → List Float → List (List Vertex)
 ringsFrom [] xs = []
 ringsFrom (n ∷ ns) xs = ringOf (take (2 * n) xs) ∷ ringsFrom ns (drop (2 * n) xs)
 
--- each ring has 3 to 256 vertices
-unfoldable pub sizedAll : List ℕ → Bool
-sizedAll [] = true
-sizedAll (n ∷ ns) = within verticesLeast verticesMost n && sizedAll ns
-
 -- how many bytes the book has
 abbrev pub bookSize : List ℕ → ℕ
 bookSize ns = vertexBytes * total ns + entryBytes * length ns + tailBytes
 
--- the lengths of what is lent: an even list, 1 to 8 rings of 3 to 256 vertices, and the list is the sum of the counts
-unfoldable pub lengthsOk : List Float → List ℕ → Bool
-lengthsOk xs ns = eqb (length xs % 2) 0 && (within 1 ringsMost (length ns) && (sizedAll ns && eqb (length xs) (2 * total ns)))
-
 -- the first of the tests that fails, for a room of so many bytes
 unfoldable pub writeRefusal : List Float → List ℕ → ℕ → Refusal
-writeRefusal xs ns size = firstOf (unless (lengthsOk xs ns) 1 0 ∷ unless (coordinates xs) 2 0 ∷ unless (leb (bookSize ns) size) 4 0 ∷ [])
+writeRefusal xs ns size = firstOf (ofRings xs ns ∷ wrongBook (bookSize ns) size ∷ [])
 
 -- what the call answers, and the room as it leaves it
 abbrev pub writeCall : List Float → List ℕ → ℕ → Outcome ℕ

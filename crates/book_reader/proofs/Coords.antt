@@ -12,7 +12,8 @@ use Rattle.refusals.specs.declared.Refusal.{Refusal}
 use Rattle.number_bytes.specs.Bytes.{numberOf}
 use Rattle.book_layout.specs.Layout.{coordinateBytes, coordinateBits, coordsIn}
 use Rattle.book_layout.specs.Faults.{faultAt, fault, _passes, coordsCheck}
-use Rattle.book_layout.proofs.Passing.{both, held}
+use Rattle.refusals.proofs.Sized.{row-parts}
+use Rattle.book_layout.proofs.Passing.{held}
 
 -- with j of m coordinates passed, from the place `at` on
 module _ (f : List ℕ) (at m j : ℕ) (h : j < m) where
@@ -47,7 +48,7 @@ module _ (f : List ℕ) (at m j : ℕ) (h : j < m) where
   -- where the check passes, it passes here and further on
   pub coord-held : coordsCheck (m - j) p (drop p f) passes → (coordinateBits b ≡ true) × (later passes)
   coord-held c =
-      let q = both (fault (coordinateBits b) p) later (ap passed (sym left) ∙ c) in
+      let q = row-parts (fault (coordinateBits b) p) later (ap passed (sym left) ∙ c) in
       (held (coordinateBits b) p (q .0), q .1)
 
   pub load-on : (room : List Float)

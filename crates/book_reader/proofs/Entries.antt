@@ -11,9 +11,12 @@ use borrow.Author.Tests.{eq-eqb, ne-eqb, eqb-true}
 use Rattle.refusals.specs.Refusals.{none, passed, first}
 use Rattle.refusals.specs.declared.Refusal.{Refusal}
 use Rattle.number_bytes.specs.Bytes.{numberOf}
-use Rattle.book_layout.specs.Layout.{fieldBytes, vertexBytes, entryBytes, verticesLeast, verticesMost, within, total, countsIn}
+use Rattle.refusals.specs.Rings.{verticesLeast, verticesMost, within, total}
+use Rattle.book_layout.specs.Layout.{fieldBytes, vertexBytes, entryBytes, countsIn}
 use Rattle.book_layout.specs.Faults.{faultAt, fault, _passes, entriesCheck}
-use Rattle.book_layout.proofs.Passing.{both, held, is-within}
+use Rattle.refusals.proofs.Counts.{is-within}
+use Rattle.refusals.proofs.Sized.{row-parts}
+use Rattle.book_layout.proofs.Passing.{held}
 use Rattle.book_reader.specs.Parts.{listCheck}
 
 -- with i of k entries passed, from the place `from` on, and `before` bytes before the next ring
@@ -60,8 +63,8 @@ module _ (f : List ℕ) (from k i before : ℕ) (h : i < k) where
   -- where the check passes, it passes here and further on
   pub entry-held : entriesCheck (k - i) p before (drop p f) passes → (verticesLeast ≤ n) × (n ≤ verticesMost) × (later passes)
   entry-held e =
-      let a = both (fault (eqb o before) p) (first (fault (within verticesLeast verticesMost n) (p + fieldBytes)) later) (ap passed (sym left) ∙ e) in
-      let b = both (fault (within verticesLeast verticesMost n) (p + fieldBytes)) later (a .1) in
+      let a = row-parts (fault (eqb o before) p) (first (fault (within verticesLeast verticesMost n) (p + fieldBytes)) later) (ap passed (sym left) ∙ e) in
+      let b = row-parts (fault (within verticesLeast verticesMost n) (p + fieldBytes)) later (a .1) in
       let w = is-within verticesLeast verticesMost n (held (within verticesLeast verticesMost n) (p + fieldBytes) (b .0)) in
       (w .0, w .1, b .1)
 
@@ -126,5 +129,5 @@ module _ (f : List ℕ) (from k : ℕ) where
   unfolding listCheck
   list-passed h =
       let t = eqb (vertexBytes * total (countsIn k (drop from f))) from in
-      let p = both (entriesCheck k from 0 (drop from f)) (fault t (length f - fieldBytes)) h in
+      let p = row-parts (entriesCheck k from 0 (drop from f)) (fault t (length f - fieldBytes)) h in
       (p .0, eqb-true (vertexBytes * total (countsIn k (drop from f))) from (held t (length f - fieldBytes) (p .1)))

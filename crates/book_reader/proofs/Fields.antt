@@ -9,7 +9,8 @@ use lib.Ieee.{Float, nan, inf, fin, binary64, isNan, nanBits, ofBits}
 use lib.Ieee.Bits.{nanBits-is, nanBits-above}
 use borrow.Author.Tests.{le-leb, lt-leb, lt-ltb}
 use Rattle.refusals.specs.Bounds.{coordinate}
-use Rattle.book_layout.specs.Layout.{verticesLeast, verticesMost, ringsMost, coordinateBits}
+use Rattle.refusals.specs.Rings.{verticesLeast, verticesMost, ringsMost}
+use Rattle.book_layout.specs.Layout.{coordinateBits}
 use Rattle.book_layout.proofs.Lent.{coordinate-number}
 use Rattle.book_reader.specs.Parts.{fieldOk}
 

@@ -8,16 +8,20 @@ use lib.ListN.{length, drop}
 use lib.Dec.{leb, eqb}
 use lib.Ieee.{Float}
 use borrow.Author.Tests.{le-leb, lt-leb, leb-true, eqb-true}
-use Rattle.refusals.specs.Refusals.{none, refuse, passed, unless, first}
+use Rattle.refusals.specs.Refusals.{none, passed, first}
+use Rattle.refusals.specs.Screens.{wrongBookRooms}
 use Rattle.refusals.specs.Answers.{counted}
 use Rattle.refusals.specs.declared.Refusal.{Refusal}
 use Rattle.refusals.specs.declared.answer.Count.{Count}
 use Rattle.refusals.proofs.First.{first-assoc}
-use Rattle.book_layout.specs.Layout.{fieldBytes, coordinateBytes, vertexBytes, entryBytes, tailBytes, ringsMost, bookLeast, bookMost, within, total, ringCount, entryOffset, countsIn, countsOf}
+use Rattle.refusals.specs.Rings.{ringsMost, within, total}
+use Rattle.book_layout.specs.Layout.{fieldBytes, coordinateBytes, vertexBytes, entryBytes, tailBytes, bookLeast, bookMost, ringCount, entryOffset, countsIn, countsOf}
 use Rattle.book_layout.specs.Faults.{faultAt, fault, _passes, entriesCheck, coordsCheck, leastCheck, bookCheck}
 use Rattle.book_layout.specs.Reader.{numbersOf, holdsAll, readRefusal, readCall, readRoom, readCounts}
-use Rattle.book_layout.proofs.Passing.{both, held, and-both, is-within}
-use Rattle.refusals.proofs.Sized.{holds}
+use Rattle.laws.proofs.Both.{both}
+use Rattle.refusals.proofs.Counts.{is-within}
+use Rattle.refusals.proofs.Sized.{row-parts, holds}
+use Rattle.book_layout.proofs.Passing.{held}
 use Rattle.book_layout.proofs.Lent.{length-numbers, length-counts}
 use Rattle.refusals.proofs.Calls.{unique, count-only}
 use Rattle.book_reader.specs.Parts.{tailCheck, listCheck}
@@ -62,8 +66,8 @@ tail-passed f h =
     let t1 = fault (within bookLeast bookMost (length f)) 0 in
     let t2 = fault (within 1 ringsMost (ringCount f)) (length f - tailBytes) in
     let t3 = fault e (length f - fieldBytes) in
-    let p = both t1 (first t2 t3) h in
-    let q = both t2 t3 (p .1) in
+    let p = row-parts t1 (first t2 t3) h in
+    let q = row-parts t2 t3 (p .1) in
     let w = is-within bookLeast bookMost (length f) (held (within bookLeast bookMost (length f)) 0 (p .0)) in
     record {
       low = w .0;
@@ -103,19 +107,16 @@ module _ (f : List ℕ) (room counts : ℕ) where
   at-fault h = rw h
 
   module _ (ok : bookCheck f passes) where
-    pub small-room : room < entryOffset f / coordinateBytes → refuse 4 0 ≡ readRefusal f room counts
+    pub rooms-read : {n k : ℕ} {r : Refusal} → n ≡ entryOffset f → k ≡ ringCount f → r ≡ wrongBookRooms (n / coordinateBytes) room k counts
+        → r ≡ readRefusal f room counts
     unfolding readRefusal
-    small-room h = rw (ok, lt-leb (length (numbersOf f)) room (omega (arith, length-numbers f)))
-
-    pub large-room : entryOffset f / coordinateBytes ≤ room → unless (leb (ringCount f) counts) 4 0 ≡ readRefusal f room counts
-    unfolding readRefusal
-    large-room h = rw (ok, le-leb (length (numbersOf f)) room (omega (arith, length-numbers f)), length-counts f)
+    rooms-read a b e = rw (ok, length-numbers f, length-counts f, ← a, ← b) e
 
   pub reads : readRefusal f room counts passes → (bookCheck f passes) × (length (numbersOf f) ≤ room) × (length (countsOf f) ≤ counts)
   unfolding readRefusal
   reads h =
-      let p = both (bookCheck f) (unless (holdsAll f room counts) 4 0) h in
-      let q = and-both (leb (length (numbersOf f)) room) (leb (length (countsOf f)) counts) (holds (holdsAll f room counts) 4 0 refl (p .1)) in
+      let p = row-parts (bookCheck f) (wrongBookRooms (length (numbersOf f)) room (length (countsOf f)) counts) h in
+      let q = both (leb (length (numbersOf f)) room) (leb (length (countsOf f)) counts) (holds (holdsAll f room counts) 4 0 refl (p .1)) in
       (p .0, leb-true (length (numbersOf f)) room (q .0), leb-true (length (countsOf f)) counts (q .1))
 
 -- ---- the answer and the rooms

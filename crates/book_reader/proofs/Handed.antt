@@ -13,7 +13,8 @@ use Rattle.refusals.specs.declared.Refusal.{Refusal}
 use Rattle.refusals.specs.declared.answer.Count.{Count}
 use Rattle.refusals.specs.declared.answer.Count.the-variants.{Is, Refused}
 use Rattle.number_bytes.proofs.Bytes.{each-byte}
-use Rattle.book_layout.specs.Layout.{verticesMost, ringsMost, countsOf}
+use Rattle.refusals.specs.Rings.{verticesMost, ringsMost}
+use Rattle.book_layout.specs.Layout.{countsOf}
 use Rattle.book_layout.specs.Faults.{_passes, bookCheck}
 use Rattle.book_layout.specs.Writer.{Held}
 use Rattle.book_layout.specs.Reader.{numbersOf, readRefusal}

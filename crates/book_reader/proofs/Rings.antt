@@ -15,9 +15,10 @@ use Rattle.reading.specs.Lent.{ringOf, Lent}
 use Rattle.number_bytes.specs.Bytes.{Each, numberOf, Byte}
 use Rattle.number_bytes.proofs.Bytes.{each-byte}
 use Rattle.number_bytes.proofs.Each.{each-drop}
-use Rattle.book_layout.specs.Layout.{fieldBytes, coordinateBytes, vertexBytes, entryBytes, verticesMost, Coordinate, total, coordsIn, countsIn}
+use Rattle.refusals.specs.Rings.{verticesMost, total}
+use Rattle.book_layout.specs.Layout.{fieldBytes, coordinateBytes, vertexBytes, entryBytes, Coordinate, coordsIn, countsIn}
 use Rattle.book_layout.specs.Faults.{faultAt, fault, _passes, coordsCheck, leastCheck}
-use Rattle.book_layout.proofs.Passing.{both}
+use Rattle.refusals.proofs.Sized.{row-parts}
 use Rattle.book_layout.proofs.Checks.{coords-split}
 use Rattle.book_layout.proofs.Found.{coords-hold, length-coordsIn}
 use Rattle.book_layout.proofs.Lent.{bits-number, ring-loaded}
@@ -70,7 +71,7 @@ module _ (f : List ℕ) (from k i at : ℕ) (h : i < k) where
   coords-next e =
       let z : 2 * n + 2 * total rest ≡ 2 * total (countsIn (k - i) (drop (from + entryBytes * i) f)) = omega (arith, total-left f from k i at h) in
       let d : coordinateBytes * (2 * n) ≡ vertexBytes * n = omega arith in
-      let p = both (coordsCheck (2 * n) at (drop at f)) (coordsCheck (2 * total rest) (at + coordinateBytes * (2 * n)) (drop (coordinateBytes * (2 * n)) (drop at f)))
+      let p = row-parts (coordsCheck (2 * n) at (drop at f)) (coordsCheck (2 * total rest) (at + coordinateBytes * (2 * n)) (drop (coordinateBytes * (2 * n)) (drop at f)))
       (ap passed (sym (coords-split (2 * n) (2 * total rest) at (drop at f)) ∙ ap (λ (j : ℕ). coordsCheck j at (drop at f)) z) ∙ e) in
       let q : coordsCheck (2 * total rest) (at + coordinateBytes * (2 * n)) (drop (coordinateBytes * (2 * n)) (drop at f)) ≡ coordsCheck (2 * total rest) (at + vertexBytes * n) (drop (at + vertexBytes * n) f) =
       ap (coordsCheck (2 * total rest) (at + coordinateBytes * (2 * n))) (drop-drop (coordinateBytes * (2 * n)) at f)

@@ -6,7 +6,8 @@ use lib.ListN.{length, drop}
 use lib.Dec.{eqb}
 use Rattle.refusals.specs.Refusals.{firstOf}
 use Rattle.refusals.specs.declared.Refusal.{Refusal}
-use Rattle.book_layout.specs.Layout.{fieldBytes, vertexBytes, entryBytes, tailBytes, verticesLeast, verticesMost, ringsMost, bookLeast, bookMost, within, total, countsIn, ringCount, entryOffset}
+use Rattle.refusals.specs.Rings.{verticesLeast, verticesMost, ringsMost, within, total}
+use Rattle.book_layout.specs.Layout.{fieldBytes, vertexBytes, entryBytes, tailBytes, bookLeast, bookMost, countsIn, ringCount, entryOffset}
 use Rattle.book_layout.specs.Faults.{fault, entriesCheck}
 
 -- whether the field with a code is right, by its value and what it is held to

@@ -7,22 +7,24 @@ use book_layout::BOOK_MOST;
 use book_layout::COORDINATE_BYTES;
 use book_layout::ENTRY_BYTES;
 use book_layout::FIELD_BYTES;
-use book_layout::RINGS_MOST;
 use book_layout::TAIL_BYTES;
 use book_layout::VERTEX_BYTES;
-use book_layout::VERTICES_LEAST;
-use book_layout::VERTICES_MOST;
 use number_bytes::number4;
 use number_bytes::number8;
 use reading::is_least;
+use refusals::REFUSED_BOOK;
+use refusals::RINGS_MOST;
 use refusals::Refusal;
-use refusals::screen::unless;
+use refusals::VERTICES_LEAST;
+use refusals::VERTICES_MOST;
+use refusals::screen::book_rooms;
 use refusals::test::is_coordinate;
 ghost use mathlib.Core.Path.{_≡_};
 ghost use Prim.Native.Nat.{_+_, _*_, _/_, _≤_};
 ghost use lib.ListN.{length, drop};
 ghost use Rattle.reading.specs.Reading.{vertices, isLeast};
-ghost use Rattle.book_layout.specs.Layout.{coordinateBytes, vertexBytes, entryBytes, tailBytes, verticesLeast, verticesMost, ringsMost, bookMost, coordinateBits, coordsIn, countsIn};
+ghost use Rattle.refusals.specs.Rings.{verticesLeast, verticesMost, ringsMost};
+ghost use Rattle.book_layout.specs.Layout.{coordinateBytes, vertexBytes, entryBytes, tailBytes, bookMost, coordinateBits, coordsIn, countsIn};
 ghost use Rattle.book_layout.specs.Faults.{faultAt, _passes, coordsCheck, leastCheck, bookCheck};
 ghost use Rattle.book_layout.specs.Reader.{readRefusal};
 ghost use Rattle.book_reader.specs.Parts.{fieldOk, tailCheck, listCheck};
@@ -31,10 +33,7 @@ ghost use Rattle.book_reader.specs.Parts.{fieldOk, tailCheck, listCheck}
 fn fault(place: usize) -> Refusal
     ensures { λ r. ⌜ r ≡ faultAt place ⌝ }
 {
-    Refusal {
-        number: 7,
-        place: place as u64,
-    }
+    Refusal::new(REFUSED_BOOK, place as u64)
 }
 
 // Whether the field with a code is right: 0 a ring's offset, which is told; 1 its vertices; 2 the ring count; 3 the end of the entries,
@@ -196,8 +195,6 @@ pub fn refusal(f: &[u8], room: usize, counts: usize) -> Refusal
     if !no.passed() {
         return no;
     }
-    if room < entry_offset(f) / COORDINATE_BYTES {
-        return Refusal::new(4, 0);
-    }
-    unless(ring_count(f) <= counts, 4, 0)
+    let numbers = entry_offset(f) / COORDINATE_BYTES;
+    book_rooms(numbers, room, ring_count(f), counts)
 }

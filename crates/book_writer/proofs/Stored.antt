@@ -13,11 +13,13 @@ use Rattle.reading.specs.Lent.{ringOf}
 use Rattle.reading.proofs.Leasts.{length-least}
 use Rattle.number_bytes.specs.Bytes.{bytesOf}
 use Rattle.number_bytes.proofs.Bytes.{length-bytesOf}
-use Rattle.book_layout.specs.Layout.{fieldBytes, vertexBytes, entryBytes, verticesLeast, verticesMost, within, entries, layout, bookOf, total}
-use Rattle.book_layout.specs.Writer.{ringsFrom, sizedAll, bookSize}
+use Rattle.refusals.specs.Rings.{verticesLeast, verticesMost, within, total, sizedAll}
+use Rattle.book_layout.specs.Layout.{fieldBytes, vertexBytes, entryBytes, entries, layout, bookOf}
+use Rattle.book_layout.specs.Writer.{ringsFrom, bookSize}
 use Rattle.book_layout.proofs.Bytes.{laid-is, length-entries}
 use Rattle.book_layout.proofs.Checks.{body-total}
-use Rattle.book_layout.proofs.Passing.{and-both, is-within}
+use Rattle.laws.proofs.Both.{both}
+use Rattle.refusals.proofs.Counts.{is-within}
 use Rattle.book_layout.proofs.Lent.{ring-count}
 use Rattle.book_writer.proofs.Storing.{stored, sets-append}
 
@@ -25,7 +27,7 @@ stored-counts : (ns : List ℕ) (xs : List Float) → sizedAll ns ≡ true → 2
 unfolding ringsFrom sizedAll total
 stored-counts [] xs s h = refl
 stored-counts (n ∷ ns) xs s h =
-    let p = and-both (within verticesLeast verticesMost n) (sizedAll ns) s in
+    let p = both (within verticesLeast verticesMost n) (sizedAll ns) s in
     let c : length (ringOf (take (2 * n) xs)) ≡ n = ring-count n xs (omega arith) in
     ap₂ (λ (a : ℕ) (b : List ℕ). a ∷ b)
     (length-least (ringOf (take (2 * n) xs)) (omega (arith, is-within verticesLeast verticesMost n (p .0))) ∙ c)

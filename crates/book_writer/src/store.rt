@@ -1,5 +1,4 @@
 // The bytes of a book, stored in a room.
-use crate::lent::sum_of;
 use book_layout::COORDINATE_BYTES;
 use book_layout::ENTRY_BYTES;
 use book_layout::FIELD_BYTES;
@@ -8,6 +7,7 @@ use book_layout::VERTEX_BYTES;
 use number_bytes::put;
 use reading::coordinate;
 use reading::least;
+use refusals::rings::sum_of;
 ghost use mathlib.Core.Path.{_≡_};
 ghost use mathlib.Core.List.{map};
 ghost use Prim.Native.Nat.{_+_, _*_, _<_, _≤_};
@@ -16,7 +16,8 @@ ghost use lib.Seq.{sets};
 ghost use Rattle.ring.specs.Room.{laid};
 ghost use Rattle.reading.specs.Reading.{flat, choice, leastReading};
 ghost use Rattle.reading.specs.Lent.{ringOf, Lent};
-ghost use Rattle.book_layout.specs.Layout.{coordinateBytes, entryBytes, verticesMost, ringsMost, coordBytes, body, entries, total, bookOf};
+ghost use Rattle.refusals.specs.Rings.{verticesMost, ringsMost, total};
+ghost use Rattle.book_layout.specs.Layout.{coordinateBytes, entryBytes, coordBytes, body, entries, bookOf};
 ghost use Rattle.book_layout.specs.Writer.{ringsFrom, bookSize, Held};
 
 // The reading c of a ring, from room[at] on.

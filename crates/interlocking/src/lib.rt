@@ -1,7 +1,6 @@
 // A position toward a concave vertex of the stationary polygon: `detect_interlocking_opportunity` of `nfp_sliding.rs`.
 pub mod calls;
 
-use refusals::answer::Found;
 use overlap::compute_bbox;
 use overlap::edge_vector;
 use overlap::polygons_overlap;
@@ -11,6 +10,7 @@ use plane::vector::dot;
 use plane::vector::minus;
 use plane::vector::normalize;
 use plane::vector::turn;
+use refusals::answer::Found;
 use ring::moving::move_ring;
 use ring::next;
 use ring::point_at;

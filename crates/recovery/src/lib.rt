@@ -2,7 +2,6 @@
 pub mod calls;
 
 use centroid::centroid;
-use refusals::answer::Found;
 use plane::Point;
 use plane::segment::along;
 use plane::segment::project_point_to_segment;
@@ -10,6 +9,7 @@ use plane::vector::ahead;
 use plane::vector::distance;
 use plane::vector::minus;
 use plane::vector::normalize;
+use refusals::answer::Found;
 use refusals::answer::Found;
 use ring::next;
 use ring::point_at;

@@ -6,6 +6,7 @@ use lib.Ieee.{Float}
 use Rattle.plane.specs.declared.Point.{Point}
 use Rattle.refusals.specs.Refusals.{firstOf}
 use Rattle.refusals.specs.Screens.{wrongLength, wrongPolygon, wrongList, wrongNumber, wrongInfinite, wrongPosition, wrongPoint, wrongTolerance, wrongSettings, wrongWork, wrongResult, wrongFit}
+use Rattle.refusals.specs.Screens.{wrongRings, wrongCounts, wrongSum}
 use Rattle.refusals.specs.declared.Refusal.{Refusal}
 use Rattle.refusals.specs.declared.Settings.{Settings}
 
@@ -35,6 +36,10 @@ ofTwoPolygons a b = firstOf (wrongPolygon a ∷ wrongPolygon b ∷ wrongNumber a
 -- a list to simplify and a tolerance
 unfoldable pub ofList : List Float → Float → Refusal
 ofList r tol = firstOf (wrongList r ∷ wrongInfinite r ∷ wrongTolerance tol ∷ [])
+
+-- rings and their vertex counts, as a book's writer is lent them: the number of rings, ring by ring its vertices, the sum, the coordinates
+unfoldable pub ofRings : List Float → List ℕ → Refusal
+ofRings xs ns = firstOf (wrongRings ns ∷ wrongCounts ns ∷ wrongSum xs ns ∷ wrongNumber xs ∷ [])
 
 -- ---- two polygons and what is lent with them
 

@@ -1,5 +1,6 @@
 -- The single tests of what a call is lent, each with the refusal that it gives. Definitions only.
 use Prim.Native.Nat.{ℕ, _*_}
+use mathlib.Core.Bool.{_&&_}
 use mathlib.Core.List.{List}
 use lib.ListN.{length}
 use lib.Dec.{leb}
@@ -7,6 +8,7 @@ use lib.Ieee.{Float}
 use Rattle.plane.specs.declared.Point.{Point}
 use Rattle.refusals.specs.Refusals.{refusedLength, refusedNumber, refusedSetting, refusedRoom, refusedFit, unless}
 use Rattle.refusals.specs.Bounds.{coordinates, allFinite, finitePoint, pointOk, ringLength, polygonLength, listLength, vectorsLength, toleranceOk, settingsOk, workOk}
+use Rattle.refusals.specs.Rings.{ringsOk, sizedAll, sumOk}
 use Rattle.refusals.specs.declared.Refusal.{Refusal}
 use Rattle.refusals.specs.declared.Settings.{Settings}
 
@@ -23,6 +25,16 @@ wrongList r = unless (listLength r) refusedLength 0
 
 abbrev pub wrongVectors : List Float → Refusal
 wrongVectors vs = unless (vectorsLength vs) refusedLength 0
+
+-- a number of rings, the vertices of each, and a list that is not the sum of these
+abbrev pub wrongRings : List ℕ → Refusal
+wrongRings ns = unless (ringsOk ns) refusedLength 0
+
+abbrev pub wrongCounts : List ℕ → Refusal
+wrongCounts ns = unless (sizedAll ns) refusedLength 0
+
+abbrev pub wrongSum : List Float → List ℕ → Refusal
+wrongSum xs ns = unless (sumOk xs ns) refusedLength 0
 
 -- ---- 2: a list's numbers, a point's numbers
 
@@ -47,13 +59,20 @@ wrongTolerance t = unless (toleranceOk t) refusedSetting 0
 abbrev pub wrongSettings : Settings → Refusal
 wrongSettings s = unless (settingsOk s) refusedSetting 0
 
--- ---- 4: a work room that does not hold whole points, one at least; a result room shorter than it; a book's room of too few bytes or numbers
+-- ---- 4: a work room that does not hold whole points, one at least; a result room shorter than it; a room that is shorter than a book
 
 abbrev pub wrongWork : ℕ → Refusal
 wrongWork size = unless (workOk size) refusedRoom 0
 
 abbrev pub wrongResult : ℕ → ℕ → Refusal
 wrongResult work result = unless (leb work result) refusedRoom 0
+
+abbrev pub wrongBook : ℕ → ℕ → Refusal
+wrongBook needed size = unless (leb needed size) refusedRoom 0
+
+-- a book's rings, or their counts, do not fit their rooms
+abbrev pub wrongBookRooms : ℕ → ℕ → ℕ → ℕ → Refusal
+wrongBookRooms needed size needed2 size2 = unless (leb needed size && leb needed2 size2) refusedRoom 0
 
 -- ---- 5: so many numbers, or so many points, do not fit a room of so many numbers
 

@@ -1,5 +1,6 @@
 // The refusals of the public calls: the record and its numbers, the tests of what a call is lent, and the rows in which they speak.
 pub mod answer;
+pub mod rings;
 pub mod row;
 pub mod screen;
 pub mod test;
@@ -27,6 +28,13 @@ pub const REFUSED_SHORT_PATH: u32 = 6;
 
 // A book is wrong.
 pub const REFUSED_BOOK: u32 = 7;
+
+// A ring of a book has 3 to 256 vertices, and a book 1 to 8 rings.
+pub const VERTICES_LEAST: usize = 3;
+
+pub const VERTICES_MOST: usize = 256;
+
+pub const RINGS_MOST: usize = 8;
 
 // A refusal's number and the place it tells, 0 where it tells none. The number 0 is no refusal.
 pub struct Refusal {

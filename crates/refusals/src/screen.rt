@@ -22,7 +22,7 @@ ghost use mathlib.Core.Path.{_≡_};
 ghost use Rattle.refusals.specs.Refusals.{unless, first};
 ghost use Rattle.refusals.specs.Screens.{wrongLength, wrongPolygon, wrongList, wrongVectors};
 ghost use Rattle.refusals.specs.Screens.{wrongNumber, wrongInfinite, wrongPoint, wrongPosition, wrongTolerance, wrongSettings};
-ghost use Rattle.refusals.specs.Screens.{wrongWork, wrongResult, wrongFit, wrongRoom};
+ghost use Rattle.refusals.specs.Screens.{wrongWork, wrongResult, wrongBook, wrongBookRooms, wrongFit, wrongRoom};
 
 // The refusal with a number and a place where a test does not hold.
 pub fn unless(ok: bool, number: u32, place: u64) -> Refusal
@@ -127,6 +127,24 @@ pub fn result_room(work: usize, result: usize) -> Refusal
     ensures { λ r. ⌜ r ≡ wrongResult work result ⌝ }
 {
     unless(work <= result, REFUSED_ROOM, 0)
+}
+
+// A room of size bytes for a book of so many.
+pub fn book(needed: usize, size: usize) -> Refusal
+    ensures { λ r. ⌜ r ≡ wrongBook needed size ⌝ }
+{
+    unless(needed <= size, REFUSED_ROOM, 0)
+}
+
+// Two rooms for what a book holds: its numbers and its counts.
+pub fn book_rooms(needed: usize, size: usize, needed2: usize, size2: usize) -> Refusal
+    ensures { λ r. ⌜ r ≡ wrongBookRooms needed size needed2 size2 ⌝ }
+{
+    if needed <= size {
+        unless(needed2 <= size2, REFUSED_ROOM, 0)
+    } else {
+        Refusal::new(REFUSED_ROOM, 0)
+    }
 }
 
 // A room of size numbers, of which so many are needed.

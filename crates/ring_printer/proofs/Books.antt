@@ -11,8 +11,9 @@ use Rattle.lines.specs.Lines.{refusalLine}
 use Rattle.refusals.specs.declared.Refusal.{Refusal}
 use Rattle.refusals.specs.declared.answer.Count.{Count}
 use Rattle.refusals.specs.declared.answer.Count.the-variants.{Is, Refused}
-use Rattle.book_layout.specs.Layout.{ringsMost, total, countsOf}
-use Rattle.book_layout.specs.Writer.{sizedAll, Held}
+use Rattle.refusals.specs.Rings.{ringsMost, total, sizedAll}
+use Rattle.book_layout.specs.Layout.{countsOf}
+use Rattle.book_layout.specs.Writer.{Held}
 use Rattle.book_layout.specs.Reader.{numbersOf}
 use Rattle.book_reader.proofs.Files.{Promised}
 use Rattle.book_reader.proofs.Handed.{rings-told, a-book, book-held, room-is, counts-are, no-book}

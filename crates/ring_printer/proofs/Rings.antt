@@ -9,8 +9,8 @@ use lib.Seq.{length-take-le, take-append-le, drop-append-le}
 use lib.Ieee.{Float}
 use Rattle.print.specs.Text.{Put}
 use Rattle.print.proofs.Puts.{empty, then, reads}
-use Rattle.book_layout.specs.Layout.{total}
-use Rattle.book_layout.proofs.Counts.{total-on}
+use Rattle.refusals.specs.Rings.{total}
+use Rattle.refusals.proofs.Counts.{total-on}
 use Rattle.ring_printer.specs.Said.{ringText, ringTexts}
 
 -- ---- counts

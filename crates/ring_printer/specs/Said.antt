@@ -8,7 +8,8 @@ use Rattle.print.specs.Digits.{decimal}
 use Rattle.print.specs.Text.{newline}
 use Rattle.lines.specs.Lines.{refusalLine, pointLines}
 use Rattle.refusals.specs.Refusals.{passed}
-use Rattle.book_layout.specs.Layout.{total, countsOf}
+use Rattle.refusals.specs.Rings.{total}
+use Rattle.book_layout.specs.Layout.{countsOf}
 use Rattle.book_layout.specs.Faults.{bookCheck}
 use Rattle.book_layout.specs.Reader.{numbersOf}
 

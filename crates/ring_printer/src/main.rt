@@ -12,8 +12,7 @@ ghost use mathlib.Core.Bool.{true};
 ghost use Prim.Native.Nat.{_+_, _*_, _≤_};
 ghost use lib.ListN.{length};
 ghost use Rattle.print.specs.Text.{Put};
-ghost use Rattle.book_layout.specs.Layout.{verticesMost, ringsMost, total};
-ghost use Rattle.book_layout.specs.Writer.{sizedAll};
+ghost use Rattle.refusals.specs.Rings.{verticesMost, ringsMost, total, sizedAll};
 ghost use Rattle.ring_printer.specs.Said.{ringsLine, ringLine, ringText, ringTexts, ringsText, bookText};
 
 // The first line: how many rings there are.

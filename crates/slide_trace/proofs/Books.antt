@@ -12,10 +12,12 @@ use Rattle.refusals.specs.declared.Refusal.{Refusal}
 use Rattle.refusals.specs.declared.Settings.{Settings}
 use Rattle.refusals.specs.declared.answer.Count.{Count}
 use Rattle.refusals.specs.declared.answer.Count.the-variants.{Is, Refused}
-use Rattle.book_layout.specs.Layout.{verticesLeast, verticesMost, within, total, countsOf}
-use Rattle.book_layout.specs.Writer.{sizedAll, Held}
+use Rattle.refusals.specs.Rings.{verticesLeast, verticesMost, within, total, sizedAll}
+use Rattle.book_layout.specs.Layout.{countsOf}
+use Rattle.book_layout.specs.Writer.{Held}
 use Rattle.book_layout.specs.Reader.{numbersOf}
-use Rattle.book_layout.proofs.Passing.{and-both, is-within}
+use Rattle.laws.proofs.Both.{both}
+use Rattle.refusals.proofs.Counts.{is-within}
 use Rattle.book_reader.proofs.Files.{Promised}
 use Rattle.book_reader.proofs.Handed.{a-book, book-held, room-is, counts-are, no-book}
 use Rattle.lines.specs.Lines.{refusalLine}
@@ -45,10 +47,10 @@ record Two (ns : List ℕ) : Type 0 where
 two : (ns : List ℕ) → sizedAll ns ≡ true → Two ns
 unfolding sizedAll total
 two [] s = record { first = (omega arith); second = (omega arith); sum = (omega arith) }
-two (n ∷ []) s = let p = is-within verticesLeast verticesMost n (and-both (within verticesLeast verticesMost n) true s .0) in record { first = p .1; second = (omega arith); sum = (omega arith) }
+two (n ∷ []) s = let p = is-within verticesLeast verticesMost n (both (within verticesLeast verticesMost n) true s .0) in record { first = p .1; second = (omega arith); sum = (omega arith) }
 two (n ∷ m ∷ ns) s =
-    let p = and-both (within verticesLeast verticesMost n) (sizedAll (m ∷ ns)) s in
-    let q = and-both (within verticesLeast verticesMost m) (sizedAll ns) (p .1) in
+    let p = both (within verticesLeast verticesMost n) (sizedAll (m ∷ ns)) s in
+    let q = both (within verticesLeast verticesMost m) (sizedAll ns) (p .1) in
     record { first = is-within verticesLeast verticesMost n (p .0) .1; second = is-within verticesLeast verticesMost m (q .0) .1; sum = (omega arith) }
 
 -- ---- the reader's answer

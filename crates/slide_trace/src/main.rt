@@ -18,7 +18,7 @@ ghost use Prim.Native.Nat.{_+_, _*_, _≤_};
 ghost use lib.ListN.{length};
 ghost use Rattle.print.specs.Text.{Put};
 ghost use Rattle.slide_trace.specs.Said.{settingsOf, traceText, ringsText, bookText, inputText};
-ghost use Rattle.book_layout.specs.Layout.{verticesMost};
+ghost use Rattle.refusals.specs.Rings.{verticesMost};
 
 // The settings before the book.
 fn settings(input: &[u8]) -> Settings

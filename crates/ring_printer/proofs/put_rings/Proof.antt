@@ -8,9 +8,8 @@ use native.Mathlib.Omega.{arith}
 use borrow.Author.Needs.{needs}
 use lib.ListN.{length, getD, take, drop}
 use Rattle.print.specs.Text.{Put}
-use Rattle.book_layout.specs.Layout.{verticesLeast, verticesMost, total}
-use Rattle.book_layout.specs.Writer.{sizedAll}
-use Rattle.book_layout.proofs.Counts.{total-on, sized-here}
+use Rattle.refusals.specs.Rings.{verticesLeast, verticesMost, total, sizedAll}
+use Rattle.refusals.proofs.Counts.{total-on, sized-here}
 use Rattle.ring_printer.specs.Said.{ringTexts}
 use Rattle.ring_printer.proofs.Rings.{total-parts, no-ring, ring-more, part-is, part-long}
 use Rattle.ring_printer.proofs.put_rings.Statement.{statement}

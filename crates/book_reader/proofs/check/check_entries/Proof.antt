@@ -10,10 +10,11 @@ use borrow.Author.Tests.{not-true, not-false}
 use lib.ListN.{take, drop}
 use lib.Dec.{eqb}
 use Rattle.number_bytes.specs.Bytes.{numberOf}
-use Rattle.book_layout.specs.Layout.{fieldBytes, vertexBytes, entryBytes, verticesLeast, verticesMost, within, total, countsIn}
+use Rattle.refusals.specs.Rings.{verticesLeast, verticesMost, within, total}
+use Rattle.book_layout.specs.Layout.{fieldBytes, vertexBytes, entryBytes, countsIn}
 use Rattle.book_layout.specs.Faults.{entriesCheck}
 use Rattle.refusals.specs.Refusals.{none}
-use Rattle.book_layout.proofs.Passing.{is-within}
+use Rattle.refusals.proofs.Counts.{is-within}
 use Rattle.book_reader.proofs.Entries.{offset-bad, count-bad, entry-good, total-left, entries-start, entries-end, counts-start, total-end, list-wrong, list-long, list-fine}
 use Rattle.book_reader.proofs.check.check_entries.Statement.{statement}
 use Rattle.book_reader.proofs.check.check_entries.Tie as tie

@@ -10,7 +10,8 @@ use lib.ListN.{take, drop}
 use Rattle.refusals.specs.Refusals.{passed}
 use Rattle.reading.specs.Reading.{vertices, isLeast}
 use Rattle.number_bytes.specs.Bytes.{numberOf}
-use Rattle.book_layout.specs.Layout.{fieldBytes, coordinateBytes, vertexBytes, entryBytes, verticesLeast, verticesMost, total, coordsIn, countsIn}
+use Rattle.refusals.specs.Rings.{verticesLeast, verticesMost, total}
+use Rattle.book_layout.specs.Layout.{fieldBytes, coordinateBytes, vertexBytes, entryBytes, coordsIn, countsIn}
 use Rattle.book_layout.specs.Faults.{_passes, entriesCheck, coordsCheck, leastCheck}
 use Rattle.book_reader.proofs.Entries.{entry-held, total-left, entries-start, counts-start, counts-end, list-passed}
 use Rattle.book_reader.proofs.Rings.{coords-next, least-good, least-bad, least-end}

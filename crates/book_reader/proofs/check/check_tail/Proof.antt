@@ -6,7 +6,8 @@ use borrow.Author.Needs.{needs}
 use borrow.Author.Tests.{not-true, not-false}
 use lib.ListN.{length}
 use lib.Dec.{eqb}
-use Rattle.book_layout.specs.Layout.{entryBytes, tailBytes, ringsMost, within, ringCount, entryOffset}
+use Rattle.refusals.specs.Rings.{ringsMost, within}
+use Rattle.book_layout.specs.Layout.{entryBytes, tailBytes, ringCount, entryOffset}
 use Rattle.book_reader.proofs.Files.{too-short, too-long, bad-count, bad-end, good-end}
 use Rattle.book_reader.proofs.check.check_tail.Statement.{statement}
 use Rattle.book_reader.proofs.check.check_tail.Tie as tie

@@ -4,9 +4,8 @@ use mathlib.Core.Path.{_≡_}
 use native.Mathlib.Omega.{arith}
 use borrow.Author.Needs.{needs}
 use lib.ListN.{length}
-use Rattle.book_layout.specs.Layout.{verticesMost, total}
-use Rattle.book_layout.proofs.Lent.{total-bounds}
-use Rattle.book_writer.proofs.Lengths.{sum-is}
+use Rattle.refusals.specs.Rings.{verticesMost, total}
+use Rattle.refusals.proofs.Counts.{total-bounds, sum-is}
 use Rattle.book_writer.proofs.lent.size_of.Statement.{statement}
 use Rattle.book_writer.proofs.lent.size_of.Tie as tie
 

@@ -8,10 +8,10 @@ use lib.ListN.{length}
 use lib.Ieee.{Float}
 use lib.Seq.{sets, length-sets}
 use Rattle.number_bytes.specs.Bytes.{bytesOf}
-use Rattle.book_layout.specs.Layout.{fieldBytes, vertexBytes, entryBytes, verticesMost, entries, total}
-use Rattle.book_layout.proofs.Lent.{total-bounds}
+use Rattle.refusals.specs.Rings.{verticesMost, total}
+use Rattle.book_layout.specs.Layout.{fieldBytes, vertexBytes, entryBytes, entries}
+use Rattle.refusals.proofs.Counts.{total-bounds, sum-is}
 use Rattle.book_writer.proofs.Storing.{stored}
-use Rattle.book_writer.proofs.Lengths.{sum-is}
 use Rattle.book_writer.proofs.Stored.{four-runs}
 use Rattle.book_writer.proofs.store.put_book.Statement.{statement}
 use Rattle.book_writer.proofs.store.put_book.Tie as tie

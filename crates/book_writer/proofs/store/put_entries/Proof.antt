@@ -8,8 +8,9 @@ use borrow.Author.Needs.{needs}
 use lib.ListN.{length, getD, drop}
 use lib.Seq.{sets, length-sets}
 use Rattle.number_bytes.specs.Bytes.{bytesOf}
-use Rattle.book_layout.specs.Layout.{fieldBytes, vertexBytes, entryBytes, entries, total}
-use Rattle.book_layout.proofs.Counts.{total-on}
+use Rattle.refusals.specs.Rings.{total}
+use Rattle.book_layout.specs.Layout.{fieldBytes, vertexBytes, entryBytes, entries}
+use Rattle.refusals.proofs.Counts.{total-on}
 use Rattle.book_writer.proofs.Storing.{entries-start, entries-on, entries-end}
 use Rattle.book_writer.proofs.store.put_entries.Statement.{statement}
 use Rattle.book_writer.proofs.store.put_entries.Tie as tie

@@ -11,9 +11,9 @@ use lib.Seq.{sets, length-sets}
 use lib.Ieee.{Float}
 use Rattle.reading.specs.Reading.{flat, leastReading}
 use Rattle.reading.specs.Lent.{ringOf}
-use Rattle.book_layout.specs.Layout.{coordinateBytes, verticesLeast, verticesMost, coordBytes, total}
-use Rattle.book_layout.specs.Writer.{sizedAll}
-use Rattle.book_layout.proofs.Counts.{total-on, sized-here}
+use Rattle.refusals.specs.Rings.{verticesLeast, verticesMost, total, sizedAll}
+use Rattle.book_layout.specs.Layout.{coordinateBytes, coordBytes}
+use Rattle.refusals.proofs.Counts.{total-on, sized-here}
 use Rattle.book_writer.proofs.Storing.{stored, rings-on, rings-end}
 use Rattle.book_writer.proofs.Part.{part-is, part-length, part-lent}
 use Rattle.book_writer.proofs.store.put_rings.Statement.{statement}

@@ -1,14 +1,13 @@
--- `book_writer::lent::sum_of` meets its contract. The loop's invariant: the counts passed are sized and sum is theirs; the counts left decide. Assumes nothing.
+-- `refusals::rings::sum_of` meets its contract. The loop's invariant: the counts passed are sized and sum is theirs; the counts left decide. Assumes nothing.
 use Prim.Native.Nat.{_+_, _*_, _-_, _≤_}
 use mathlib.Core.Path.{_≡_, refl, sym, ap, _∙_}
 use native.Mathlib.Omega.{arith}
 use lib.ListN.{length, drop}
 use mathlib.Core.Bool.{Bool, true, false, cond}
-use Rattle.book_layout.specs.Layout.{verticesMost, total}
-use Rattle.book_layout.specs.Writer.{sizedAll}
-use Rattle.book_layout.proofs.Counts.{total-on, total-end, sized-on, sized-low, sized-high, sized-end}
-use Rattle.book_writer.proofs.lent.sum_of.Statement.{statement}
-use Rattle.book_writer.proofs.lent.sum_of.Tie as tie
+use Rattle.refusals.specs.Rings.{verticesMost, total, sizedAll}
+use Rattle.refusals.proofs.Counts.{total-on, total-end, sized-on, sized-low, sized-high, sized-end}
+use Rattle.refusals.proofs.rings.sum_of.Statement.{statement}
+use Rattle.refusals.proofs.rings.sum_of.Tie as tie
 
 abbrev Inv-loop : tie.InvT-loop
 Inv-loop counts sum₀ i₀ sum i =
