@@ -10,9 +10,9 @@ use Rattle.plane.specs.Vector.{minusOf, parallelOf}
 use Rattle.plane.specs.Segment.{nearSegmentOf}
 use Rattle.plane.specs.declared.Point.{Point}
 use Rattle.ring.specs.Ring.{count, pointAt}
-use Rattle.bounds.specs.Bounds.{Inside, Spans, Around, apart}
-use Rattle.bounds.specs.declared.Bounds.{Bounds}
-use Rattle.bounds.proofs.Clear.{clear}
+use Rattle.frames.specs.Frame.{Inside, Spans, Around, apart}
+use Rattle.frames.specs.declared.Frame.{Frame}
+use Rattle.frames.proofs.Clear.{clear}
 use Rattle.contacts.specs.Touching.{edgeEnd, edgesTouch}
 use Rattle.contacts.specs.Rows.{First, onEdge, alongEdge}
 
@@ -23,7 +23,7 @@ never : (p t : Bool) → p && (false && t) ≡ false
 never true t = refl
 never false t = refl
 
-module _ (r : List Float) (tol : Float) (around b : Bounds) (from : ℕ) (h : from < count r) (A : Around around r (count r)) where
+module _ (r : List Float) (tol : Float) (around b : Frame) (from : ℕ) (h : from < count r) (A : Around around r (count r)) where
   pub no-near : (p : Point) {t : Bool} → Inside b p → (t ≡ apart around b tol) × T (fits binary64 tol) → t ≡ true → First (onEdge p r tol) from (count r) (count r)
   unfolding onEdge edgeEnd
   no-near p P e k = none-of (onEdge p r tol) from (count r) h (λ i l. clear around b tol p _ _ (e .1) (A i l) P (sym (e .0) ∙ k))

@@ -1,4 +1,4 @@
--- Worked examples, by computation: the contacts of document 01's S and Q where Q starts. Assumes nothing.
+-- Worked examples, by computation: the contacts of docs/SCOPE.md's S and Q where Q starts. Assumes nothing.
 use mathlib.Core.Path.{_≡_, refl}
 use mathlib.Core.List.{List, [], _∷_}
 use lib.Ieee.{Float, add, sub, mul, div, lt, neg, ofBits}

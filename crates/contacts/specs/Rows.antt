@@ -7,7 +7,7 @@ use lib.Ieee.{Float}
 use Rattle.plane.specs.Segment.{nearSegmentOf}
 use Rattle.plane.specs.declared.Point.{Point}
 use Rattle.ring.specs.Ring.{count, pointAt}
-use Rattle.bounds.specs.Bounds.{Around}
+use Rattle.frames.specs.Frame.{Around}
 use Rattle.contacts.specs.Touching.{edgeEnd, edgesTouch}
 use Rattle.contacts.specs.declared.Frames.{Frames}
 

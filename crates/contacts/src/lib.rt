@@ -1,8 +1,8 @@
 // The contacts of a stationary and an orbiting ring, one after the other, in the order of the pairs' numbers.
 mod rows;
 
-use bounds::Bounds;
-use bounds::bounds_of;
+use frames::Frame;
+use frames::frame_of;
 use pairs::Pair;
 use plane::Point;
 use ring::next;
@@ -30,8 +30,8 @@ pub struct Edges {
 
 // The bounds around both rings.
 pub struct Frames {
-    pub stationary: Bounds,
-    pub orbiting: Bounds,
+    pub stationary: Frame,
+    pub orbiting: Frame,
 }
 
 // The first contact from a pair's number on.
@@ -145,8 +145,8 @@ pub fn frames_of(stationary: &[f64], orbiting: &[f64]) -> Frames
     ensures { λ r. ⌜ Framed r (now (stationary .entry)) (now (orbiting .entry)) ⌝ }
 {
     Frames {
-        stationary: bounds_of(stationary),
-        orbiting: bounds_of(orbiting),
+        stationary: frame_of(stationary),
+        orbiting: frame_of(orbiting),
     }
 }
 

@@ -77,7 +77,9 @@ pub fn hand_count(answer: Count, out: &mut u64) -> u32
 
 // How many rings a book has, or the place of its first fault.
 pub fn hand_count_or_place(answer: Count, out: &mut u64, place: &mut u64) -> u32
-    ensures { λ r. ⌜ (r ≡ returned (counted answer)) × (now (out .exit) ≡ told itself (counted answer) (now (out .entry))) × (now (place .exit) ≡ toldPlace (counted answer) (now (place .entry))) ⌝ }
+    ensures { λ r. ⌜ r ≡ returned (counted answer) ⌝ }
+    ensures { λ _. ⌜ now (out .exit) ≡ told itself (counted answer) (now (out .entry)) ⌝ }
+    ensures { λ _. ⌜ now (place .exit) ≡ toldPlace (counted answer) (now (place .entry)) ⌝ }
 {
     match answer {
         Count::Is(rings) => {
@@ -95,7 +97,9 @@ pub fn hand_count_or_place(answer: Count, out: &mut u64, place: &mut u64) -> u32
 
 // A position.
 pub fn hand_start(answer: Start, x: &mut f64, y: &mut f64) -> u32
-    ensures { λ r. ⌜ (r ≡ returned (started answer)) × (now (x .exit) ≡ told xOf (started answer) (now (x .entry))) × (now (y .exit) ≡ told yOf (started answer) (now (y .entry))) ⌝ }
+    ensures { λ r. ⌜ r ≡ returned (started answer) ⌝ }
+    ensures { λ _. ⌜ now (x .exit) ≡ told xOf (started answer) (now (x .entry)) ⌝ }
+    ensures { λ _. ⌜ now (y .exit) ≡ told yOf (started answer) (now (y .entry)) ⌝ }
 {
     match answer {
         Start::Is(p) => {

@@ -17,7 +17,7 @@ use Rattle.start_position.specs.Start.{lowerOf, upperOf, vertexOf, startOf}
 use Rattle.pairs.specs.Pairs as pairs
 use Rattle.contacts.specs.Touching.{edgeEnd, edgesOf, edgesTouch, touchesBy, touching, pointBy, contactPoint}
 use Rattle.contacts.specs.Contacts.{picks, contactsOf, whichOf, pointsOf}
-use Rattle.find_contacts.specs.Calls.{findRefusal}
+use Rattle.contacts_call.specs.Calls.{findRefusal}
 use Rattle.collision.specs.Ray.{rayWithin, rayOf, edgeRay}
 use Rattle.collision.specs.Hit.{countedOf, nearer}
 use Rattle.collision.specs.Check.{hitOf, scanOf, backOf, bothOf, sweepOf, collisionOf}

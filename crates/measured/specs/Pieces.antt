@@ -1,4 +1,4 @@
--- Document 01's starred pieces, in its order and under its words: what the written rules answer, and the values that it gives. Definitions only.
+-- docs/SCOPE.md's starred pieces, in its order and under its words: what the written rules answer, and the values that it gives. Definitions only.
 use Prim.Native.Nat.{_^_}
 use mathlib.Core.Bool.{false}
 use mathlib.Core.List.{List, [], _∷_, _++_}
@@ -9,7 +9,7 @@ use Rattle.plane.specs.Vector.{root}
 use Rattle.refusals.specs.Answers.{answers}
 use Rattle.projection.specs.Calls.{projectCall, distanceCall}
 use Rattle.start_position.specs.Calls.{startCall}
-use Rattle.find_contacts.specs.Calls.{findCall, findWhich, findPoints}
+use Rattle.contacts_call.specs.Calls.{findCall, findWhich, findPoints}
 use Rattle.collision.specs.Calls.{collisionCall}
 use Rattle.pairs.specs.Pairs.{pair}
 use Rattle.collision.specs.Nearest.{pairNo, rayAt}

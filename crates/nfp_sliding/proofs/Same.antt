@@ -19,8 +19,8 @@ use Rattle.pass.specs.Pass.{Scene, passOf}
 use Rattle.pass.specs.declared.Pose.{Pose}
 use Rattle.pass.specs.declared.Step.{Step}
 use Rattle.pass.specs.declared.Step.the-variants.{Stop, Stay, Store}
-use Rattle.passes.specs.declared.run.State.{State}
-use Rattle.passes.specs.Run.{Done, afterOf, afterBy, runOf, done, onward, state}
+use Rattle.pass_run.specs.declared.run.State.{State}
+use Rattle.pass_run.specs.Run.{Done, afterOf, afterBy, runOf, done, onward, state}
 use Rattle.nfp_sliding.specs.Path.{Trace, traceOf, follow, ended, coordinates, endOf}
 
 -- what a run over the room and a trace have to do with each other

@@ -26,8 +26,8 @@ use Rattle.winding.proofs.Order.{ccw-length, ccw-front}
 use Rattle.start_position.specs.Start.{startOf}
 use Rattle.centroid.specs.Centroid.{centroidOf}
 use Rattle.pass.specs.Pass.{Scene, scene}
-use Rattle.passes.specs.declared.run.End.{End}
-use Rattle.passes.specs.Run.{Done, runOf, state}
+use Rattle.pass_run.specs.declared.run.End.{End}
+use Rattle.pass_run.specs.Run.{Done, runOf, state}
 use Rattle.nfp_sliding.specs.Path.{Trace, ended, endOf, coordinates, atStart, marginsOf, Ready, traceFrom, tracedOf}
 use Rattle.nfp_sliding.specs.Calls.{traced, cameTo, resultAfter, traceCall, traceWork, traceResult}
 use Rattle.nfp_sliding.specs.declared.answer.Traced.{Traced}

@@ -1,4 +1,4 @@
--- What the call answers: the refusal of what is lent, or what the trace came to, with document 01's number and values. Definitions only.
+-- What the call answers: the refusal of what is lent, or what the trace came to, with docs/SCOPE.md's number and values. Definitions only.
 use Prim.Native.Nat.{ℕ}
 use mathlib.Core.Bool.{Bool, _||_, cond}
 use mathlib.Core.List.{List}
@@ -25,7 +25,7 @@ pub data Answer : Type 0 where
   overfull : (passes : ℕ) → Answer
   tooShort : (passes stop : ℕ) → Answer
 
--- document 01's number
+-- docs/SCOPE.md's number
 unfoldable pub refusalOf : Answer → Refusal
 refusalOf (traces points stored passes stop) = none
 refusalOf (denied r) = r

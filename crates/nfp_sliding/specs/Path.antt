@@ -19,7 +19,7 @@ use Rattle.pass.specs.declared.Margins.{Margins}
 use Rattle.pass.specs.declared.Pose.{Pose}
 use Rattle.pass.specs.declared.Step.{Step}
 use Rattle.pass.specs.declared.Step.the-variants.{Stop, Stay, Store}
-use Rattle.passes.specs.declared.run.End.{End}
+use Rattle.pass_run.specs.declared.run.End.{End}
 
 -- whether the room was full, the reason where it was not, the passes begun, and the points stored
 pub record Trace : Type 0 where

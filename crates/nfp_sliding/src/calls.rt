@@ -17,7 +17,15 @@ pub fn compute_nfp_sliding(
     work: &mut [f64],
     result: &mut [f64],
 ) -> Traced
-    ensures { λ r. ⌜ (traced r ≡ traceCall (now (stationary .entry)) (now (orbiting .entry)) settings (length (now (work .entry))) (length (now (result .entry)))) × (now (work .exit) ≡ traceWork (now (stationary .entry)) (now (orbiting .entry)) settings (now (work .entry)) (length (now (result .entry)))) × (now (result .exit) ≡ traceResult (now (stationary .entry)) (now (orbiting .entry)) settings (length (now (work .entry))) (now (result .entry))) ⌝ }
+    ensures { λ r.
+        ⌜ traced r ≡ traceCall (now (stationary .entry)) (now (orbiting .entry)) settings (length (now (work .entry)))
+        (length (now (result .entry))) ⌝ }
+    ensures { λ _.
+        ⌜ now (work .exit) ≡ traceWork (now (stationary .entry)) (now (orbiting .entry)) settings (now (work .entry))
+        (length (now (result .entry))) ⌝ }
+    ensures { λ _.
+        ⌜ now (result .exit) ≡ traceResult (now (stationary .entry)) (now (orbiting .entry)) settings (length (now (work .entry)))
+        (now (result .entry)) ⌝ }
 {
     let no = row::tracing(stationary, orbiting, settings, work.len(), result.len());
     if no.passed() {

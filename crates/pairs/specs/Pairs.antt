@@ -1,4 +1,4 @@
--- The pairs of two rings' elements, by their numbers in document 01's scan order. Definitions only.
+-- The pairs of two rings' elements, by their numbers in docs/SCOPE.md's scan order. Definitions only.
 use Prim.Native.Nat.{ℕ, _*_, _/_, _%_, _≤_, _<_}
 use mathlib.Core.Bool.{cond}
 use lib.Dec.{eqb}

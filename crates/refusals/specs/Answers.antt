@@ -1,4 +1,4 @@
--- What a call answers, in document 01's terms: its value, or the refusal's number with what it returns. Definitions only.
+-- What a call answers, in docs/SCOPE.md's terms: its value, or the refusal's number with what it returns. Definitions only.
 use Prim.Native.Nat.{ℕ}
 use mathlib.Core.Bool.{Bool, cond}
 use mathlib.Core.Option.{Option, none, some}

@@ -1,4 +1,4 @@
--- Document 01's bounds of what is lent. Definitions only.
+-- docs/SCOPE.md's bounds of what is lent. Definitions only.
 use Prim.Native.Nat.{ℕ, _*_, _%_}
 use mathlib.Core.Bool.{Bool, true, false, _&&_}
 use mathlib.Core.List.{List, [], _∷_}

@@ -5,7 +5,7 @@ use mathlib.Core.List.{List, [], _∷_}
 use lib.Dec.{eqb}
 use Rattle.refusals.specs.declared.Refusal.{Refusal}
 
--- ---- document 01's numbers
+-- ---- docs/SCOPE.md's numbers
 
 -- a lent list has a wrong length
 abbrev pub refusedLength : ℕ

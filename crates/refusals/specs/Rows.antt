@@ -1,4 +1,4 @@
--- The tests of what calls are lent, in document 01's order: 1, 2, 3, 4, stationary before orbiting in each. A call that is lent the same takes the same
+-- The tests of what calls are lent, in docs/SCOPE.md's order: 1, 2, 3, 4, stationary before orbiting in each. A call that is lent the same takes the same
 -- row. Definitions only.
 use Prim.Native.Nat.{ℕ}
 use mathlib.Core.List.{List, [], _∷_}

@@ -1,4 +1,4 @@
-// The rows of tests of what calls are lent, in document 01's order: the first that refuses. The numbers of lists are read only where the
+// The rows of tests of what calls are lent, in docs/SCOPE.md's order: the first that refuses. The numbers of lists are read only where the
 // lengths of all are right.
 use crate::Refusal;
 use crate::Settings;

@@ -106,15 +106,15 @@ fn on_rooms(
     numbers: &mut [u64],
 ) -> Told {
     match call {
-        0 => told::count(find_contacts::calls::find_contacts(s, o, x[0], numbers, room)),
-        1 => told::count(translation_vectors::calls::compute_translation_vectors(
+        0 => told::count(contacts_call::calls::find_contacts(s, o, x[0], numbers, room)),
+        1 => told::count(vectors_call::calls::compute_translation_vectors(
             s,
             o,
             x[0],
             room,
             numbers,
         )),
-        2 => told::count(translation_vectors::calls::handle_perfect_fit(
+        2 => told::count(vectors_call::calls::handle_perfect_fit(
             s,
             o,
             Point { x: x[0], y: x[1] },

@@ -14,7 +14,8 @@ ghost use Rattle.ring_copies.specs.Calls.{mirrorCall, mirrorRoom, openCa
 
 // The ring mirrored in the y axis, its order reversed, in the room: how many vertices were written.
 pub fn mirror_polygon(ring: &[f64], room: &mut [f64]) -> Count
-    ensures { λ r. ⌜ (counted r ≡ mirrorCall (now (ring .entry)) (length (now (room .entry)))) × (now (room .exit) ≡ mirrorRoom (now (ring .entry)) (now (room .entry))) ⌝ }
+    ensures { λ r. ⌜ counted r ≡ mirrorCall (now (ring .entry)) (length (now (room .entry))) ⌝ }
+    ensures { λ _. ⌜ now (room .exit) ≡ mirrorRoom (now (ring .entry)) (now (room .entry)) ⌝ }
 {
     let n = ring.len() / 2;
     let no = screen::first(row::ring(ring), screen::room(n, room.len()));
@@ -39,7 +40,8 @@ fn open_fits(lent: Refusal, ring: &[f64], size: usize) -> Refusal
 
 // The ring without its closing repeat, in the room: how many vertices were written.
 pub fn open_ring(ring: &[f64], room: &mut [f64]) -> Count
-    ensures { λ r. ⌜ (counted r ≡ openCall (now (ring .entry)) (length (now (room .entry)))) × (now (room .exit) ≡ openRoom (now (ring .entry)) (now (room .entry))) ⌝ }
+    ensures { λ r. ⌜ counted r ≡ openCall (now (ring .entry)) (length (now (room .entry))) ⌝ }
+    ensures { λ _. ⌜ now (room .exit) ≡ openRoom (now (ring .entry)) (now (room .entry)) ⌝ }
 {
     let no = open_fits(row::ring(ring), ring, room.len());
     if no.passed() {

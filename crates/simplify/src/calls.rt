@@ -25,7 +25,8 @@ fn fits(lent: Refusal, list: &[f64], tolerance: f64, size: usize) -> Refusal
 
 // The list without its collinear points, in the room: how many points were written.
 pub fn simplify_polygon(list: &[f64], tolerance: f64, room: &mut [f64]) -> Count
-    ensures { λ r. ⌜ (counted r ≡ simplifyCall (now (list .entry)) tolerance (length (now (room .entry)))) × (now (room .exit) ≡ simplifyRoom (now (list .entry)) tolerance (now (room .entry))) ⌝ }
+    ensures { λ r. ⌜ counted r ≡ simplifyCall (now (list .entry)) tolerance (length (now (room .entry))) ⌝ }
+    ensures { λ _. ⌜ now (room .exit) ≡ simplifyRoom (now (list .entry)) tolerance (now (room .entry)) ⌝ }
 {
     let no = fits(row::list(list, tolerance), list, tolerance, room.len());
     if no.passed() {

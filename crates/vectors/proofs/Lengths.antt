@@ -14,8 +14,8 @@ use Rattle.scalar.specs.Float.{_⊕_}
 use Rattle.square_root.specs.Root.{isqrt, rooted, sqrtOf}
 use Rattle.plane.specs.Vector.{dotOf, lengthOf}
 use Rattle.plane.specs.declared.Point.{Point}
-use Rattle.bounds.proofs.Sums.{rises}
-use Rattle.bounds.proofs.Beyond.{sums}
+use Rattle.frames.proofs.Sums.{rises}
+use Rattle.frames.proofs.Beyond.{sums}
 
 rooted-plain : (n : ℕ) → Plain (rooted binary64 n)
 unfolding rooted

@@ -5,7 +5,7 @@ use Prim.Native.Nat.{_-_, _<_}
 use mathlib.Core.Path.{_≡_, refl, ap, _∙_}
 use Rattle.plane.specs.Segment.{nearSegmentOf}
 use Rattle.ring.specs.Ring.{pointAt}
-use Rattle.bounds.proofs.Widened.{next-start}
+use Rattle.frames.proofs.Widened.{next-start}
 use Rattle.contacts.specs.Rows.{alongEdge}
 use Rattle.contacts.proofs.Rowing.{Sought, begun, onward, found, none-found, is-along}
 use Rattle.contacts.proofs.rows.edge_along.Statement.{statement}
