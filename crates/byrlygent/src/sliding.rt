@@ -108,7 +108,8 @@ pub extern "C" fn byr_find_contacts(
 ) -> u32
     ensures { λ r.
         ⌜ r ≡ returned
-        (findCall (now (stationary .entry)) (now (orbiting .entry)) tolerance (length (now (which .entry))) (length (now (points .entry)))) ⌝ }
+        (findCall (now (stationary .entry)) (now (orbiting .entry)) tolerance (length (now (which .entry))) (length (now
+        (points .entry)))) ⌝ }
     ensures { λ _.
         ⌜ now (count .exit) ≡ told itself
         (findCall (now (stationary .entry)) (now (orbiting .entry)) tolerance (length (now (which .entry))) (length (now (points .entry))))
@@ -138,10 +139,12 @@ pub extern "C" fn byr_compute_translation_vectors(
 ) -> u32
     ensures { λ r.
         ⌜ r ≡ returned
-        (vectorsCall (now (stationary .entry)) (now (orbiting .entry)) tolerance (length (now (vectors .entry))) (length (now (sources .entry)))) ⌝ }
+        (vectorsCall (now (stationary .entry)) (now (orbiting .entry)) tolerance (length (now (vectors .entry))) (length (now
+        (sources .entry)))) ⌝ }
     ensures { λ _.
         ⌜ now (count .exit) ≡ told itself
-        (vectorsCall (now (stationary .entry)) (now (orbiting .entry)) tolerance (length (now (vectors .entry))) (length (now (sources .entry))))
+        (vectorsCall (now (stationary .entry)) (now (orbiting .entry)) tolerance (length (now (vectors .entry))) (length (now
+        (sources .entry))))
         (now (count .entry)) ⌝ }
     ensures { λ _.
         ⌜ now (vectors .exit) ≡ vectorsRoom (now (stationary .entry)) (now (orbiting .entry)) tolerance (now (vectors .entry))
@@ -177,10 +180,12 @@ pub extern "C" fn byr_handle_perfect_fit(
 ) -> u32
     ensures { λ r.
         ⌜ r ≡ returned
-        (fitCall (now (stationary .entry)) (now (orbiting .entry)) (point rx ry) (now (visited .entry)) tolerance (length (now (vectors .entry))) (length (now (sources .entry)))) ⌝ }
+        (fitCall (now (stationary .entry)) (now (orbiting .entry)) (point rx ry) (now (visited .entry)) tolerance (length (now
+        (vectors .entry))) (length (now (sources .entry)))) ⌝ }
     ensures { λ _.
         ⌜ now (count .exit) ≡ told itself
-        (fitCall (now (stationary .entry)) (now (orbiting .entry)) (point rx ry) (now (visited .entry)) tolerance (length (now (vectors .entry))) (length (now (sources .entry))))
+        (fitCall (now (stationary .entry)) (now (orbiting .entry)) (point rx ry) (now (visited .entry)) tolerance (length (now
+        (vectors .entry))) (length (now (sources .entry))))
         (now (count .entry)) ⌝ }
     ensures { λ _.
         ⌜ now (vectors .exit) ≡ fitRoom (now (stationary .entry)) (now (orbiting .entry)) (point rx ry) (now (visited .entry))
@@ -434,23 +439,28 @@ pub extern "C" fn byr_compute_nfp_sliding(
 ) -> u32
     ensures { λ r.
         ⌜ r ≡ refusalOf
-        (traceCall (now (stationary .entry)) (now (orbiting .entry)) (settingsOf tolerance smallest limit) (length (now (work .entry))) (length (now (result .entry))))
+        (traceCall (now (stationary .entry)) (now (orbiting .entry)) (settingsOf tolerance smallest limit) (length (now (work
+        .entry))) (length (now (result .entry))))
         .number ⌝ }
     ensures { λ _.
         ⌜ now (points .exit) ≡ pointsTold
-        (traceCall (now (stationary .entry)) (now (orbiting .entry)) (settingsOf tolerance smallest limit) (length (now (work .entry))) (length (now (result .entry))))
+        (traceCall (now (stationary .entry)) (now (orbiting .entry)) (settingsOf tolerance smallest limit) (length (now (work
+        .entry))) (length (now (result .entry))))
         (now (points .entry)) ⌝ }
     ensures { λ _.
         ⌜ now (stored .exit) ≡ storedTold
-        (traceCall (now (stationary .entry)) (now (orbiting .entry)) (settingsOf tolerance smallest limit) (length (now (work .entry))) (length (now (result .entry))))
+        (traceCall (now (stationary .entry)) (now (orbiting .entry)) (settingsOf tolerance smallest limit) (length (now (work
+        .entry))) (length (now (result .entry))))
         (now (stored .entry)) ⌝ }
     ensures { λ _.
         ⌜ now (passes .exit) ≡ passesTold
-        (traceCall (now (stationary .entry)) (now (orbiting .entry)) (settingsOf tolerance smallest limit) (length (now (work .entry))) (length (now (result .entry))))
+        (traceCall (now (stationary .entry)) (now (orbiting .entry)) (settingsOf tolerance smallest limit) (length (now (work
+        .entry))) (length (now (result .entry))))
         (now (passes .entry)) ⌝ }
     ensures { λ _.
         ⌜ now (stop .exit) ≡ stopTold
-        (traceCall (now (stationary .entry)) (now (orbiting .entry)) (settingsOf tolerance smallest limit) (length (now (work .entry))) (length (now (result .entry))))
+        (traceCall (now (stationary .entry)) (now (orbiting .entry)) (settingsOf tolerance smallest limit) (length (now (work
+        .entry))) (length (now (result .entry))))
         (now (stop .entry)) ⌝ }
     ensures { λ _.
         ⌜ now (work .exit) ≡ traceWork (now (stationary .entry)) (now (orbiting .entry)) (settingsOf tolerance smallest limit)

@@ -51,7 +51,8 @@ fn put_rings(xs: &[f64], counts: &[u32], out: &mut [u8], from: usize) -> usize
     requires { ⌜ (length (now counts) ≤ ringsMost) × (sizedAll (now counts) ≡ true) × (2 * total (now counts) ≤ length (now xs)) ⌝ }
     requires { ⌜ (from ≤ 100) × (73000 ≤ length (now out)) ⌝ }
     ensures { λ r.
-        ⌜ Put (now (out .entry)) from (ringTexts (now (counts .entry)) (now (xs .entry)) (length (now (counts .entry)))) (now (out .exit)) r ⌝ }
+        ⌜ Put (now (out .entry)) from (ringTexts (now (counts .entry)) (now (xs .entry)) (length (now (counts .entry)))) (now
+        (out .exit)) r ⌝ }
 {
     let mut next = from;
     let mut at = 0;

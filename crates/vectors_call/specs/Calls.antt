@@ -32,14 +32,21 @@ abbrev pub sourcesRoom : List Float → List Float → Float → List Float → 
 sourcesRoom st orb tol vectors sources =
     left (vectorsRefusal st orb tol (length vectors) (length sources)) (laid (sourcesOf (vectorsOf st orb tol)) sources) sources
 
+-- the vectors that lead to no visited position: how many, and the tests of the rooms for them
+abbrev pub fitCount : List Float → List Float → Point → List Float → Float → ℕ
+fitCount st orb from visited tol = length (fitOf st orb from visited tol)
+
+abbrev pub fitRooms : List Float → List Float → Point → List Float → Float → ℕ → ℕ → Refusal
+fitRooms st orb from visited tol vectors sources = ofVectorRooms (fitCount st orb from visited tol) vectors sources
+
 -- 1, 2, 3, then 5
 unfoldable pub fitRefusal : List Float → List Float → Point → List Float → Float → ℕ → ℕ → Refusal
 fitRefusal st orb from visited tol vectors sources =
-    firstOf (ofFit st orb from visited tol ∷ ofVectorRooms (length (fitOf st orb from visited tol)) vectors sources ∷ [])
+    firstOf (ofFit st orb from visited tol ∷ fitRooms st orb from visited tol vectors sources ∷ [])
 
 abbrev pub fitCall : List Float → List Float → Point → List Float → Float → ℕ → ℕ → Outcome ℕ
 fitCall st orb from visited tol vectors sources =
-    outcome (fitRefusal st orb from visited tol vectors sources) (length (fitOf st orb from visited tol))
+    outcome (fitRefusal st orb from visited tol vectors sources) (fitCount st orb from visited tol)
 
 abbrev pub fitRoom : List Float → List Float → Point → List Float → Float → List Float → List ℕ → List Float
 fitRoom st orb from visited tol vectors sources =

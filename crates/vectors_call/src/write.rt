@@ -13,9 +13,9 @@ ghost use Rattle.ring.specs.Ring.{count};
 ghost use Rattle.ring.specs.Room.{laid};
 ghost use Rattle.pairs.specs.Pairs.{Sides};
 ghost use Rattle.vectors.specs.Vectors.{numbersOf, sourcesOf};
-ghost use Rattle.refusals.specs.Rows.{ofRooms};
 ghost use Rattle.refusals.specs.Answers.{counted, outcome, left};
 ghost use Rattle.vectors.specs.Fit.{fitOf};
+ghost use Rattle.vectors_call.specs.Calls.{fitCount, fitRooms};
 
 // How many there are.
 pub fn count_vectors(
@@ -118,16 +118,19 @@ pub fn answer(
     requires { ⌜ Sides (count (now stationary)) (count (now orbiting)) ⌝ }
     ensures { λ r.
         ⌜ counted r ≡ outcome
-        (ofRooms (3 * length (fitOf (now (stationary .entry)) (now (orbiting .entry)) from (now (visited .entry)) tol)) (length (now (vectors .entry))) (length (fitOf (now (stationary .entry)) (now (orbiting .entry)) from (now (visited .entry)) tol)) (length (now (sources .entry))))
-        (length (fitOf (now (stationary .entry)) (now (orbiting .entry)) from (now (visited .entry)) tol)) ⌝ }
+        (fitRooms (now (stationary .entry)) (now (orbiting .entry)) from (now (visited .entry)) tol
+        (length (now (vectors .entry))) (length (now (sources .entry))))
+        (fitCount (now (stationary .entry)) (now (orbiting .entry)) from (now (visited .entry)) tol) ⌝ }
     ensures { λ _.
         ⌜ now (vectors .exit) ≡ left
-        (ofRooms (3 * length (fitOf (now (stationary .entry)) (now (orbiting .entry)) from (now (visited .entry)) tol)) (length (now (vectors .entry))) (length (fitOf (now (stationary .entry)) (now (orbiting .entry)) from (now (visited .entry)) tol)) (length (now (sources .entry))))
+        (fitRooms (now (stationary .entry)) (now (orbiting .entry)) from (now (visited .entry)) tol
+        (length (now (vectors .entry))) (length (now (sources .entry))))
         (laid (numbersOf (fitOf (now (stationary .entry)) (now (orbiting .entry)) from (now (visited .entry)) tol)) (now (vectors .entry)))
         (now (vectors .entry)) ⌝ }
     ensures { λ _.
         ⌜ now (sources .exit) ≡ left
-        (ofRooms (3 * length (fitOf (now (stationary .entry)) (now (orbiting .entry)) from (now (visited .entry)) tol)) (length (now (vectors .entry))) (length (fitOf (now (stationary .entry)) (now (orbiting .entry)) from (now (visited .entry)) tol)) (length (now (sources .entry))))
+        (fitRooms (now (stationary .entry)) (now (orbiting .entry)) from (now (visited .entry)) tol
+        (length (now (vectors .entry))) (length (now (sources .entry))))
         (laid (sourcesOf (fitOf (now (stationary .entry)) (now (orbiting .entry)) from (now (visited .entry)) tol)) (now (sources .entry)))
         (now (sources .entry)) ⌝ }
 {
