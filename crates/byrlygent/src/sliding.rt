@@ -351,8 +351,8 @@ pub extern "C" fn byr_recover_contact(
         (now (toy .entry)) ⌝ }
 {
     let current = Point { x, y };
-    let answer = recovery::calls::recover_contact(stationary, orbiting, current, tolerance);
-    hand_position(answer, found, tox, toy)
+    let recovered = recovery::calls::recover_contact(stationary, orbiting, current, tolerance);
+    hand_position(recovered, found, tox, toy)
 }
 
 // Whether two polygons overlap, or lie no more than 1e-6 apart.
@@ -474,11 +474,12 @@ pub extern "C" fn byr_compute_nfp_sliding(
         min_translation: smallest,
         max_iterations: limit,
     };
-    hand_traced(
-        nfp_sliding::calls::compute_nfp_sliding(stationary, orbiting, settings, work, result),
-        points,
-        stored,
-        passes,
-        stop,
-    )
+    let traced = nfp_sliding::calls::compute_nfp_sliding(
+        stationary,
+        orbiting,
+        settings,
+        work,
+        result,
+    );
+    hand_traced(traced, points, stored, passes, stop)
 }
