@@ -40,6 +40,10 @@ verticesMost = 256
 abbrev pub ringsMost : ℕ
 ringsMost = 8
 
+-- the coordinates of all rings: 4,096
+abbrev pub numbersMost : ℕ
+numbersMost = 2 * ringsMost * verticesMost
+
 -- the shortest book and the longest: 64 and 32,840 bytes
 abbrev pub bookLeast : ℕ
 bookLeast = verticesLeast * vertexBytes + entryBytes + tailBytes

@@ -15,6 +15,9 @@ pub const VERTICES_MOST: usize = 256;
 
 pub const RINGS_MOST: usize = 8;
 
+// The coordinates of all rings.
+pub const NUMBERS_MOST: usize = 2 * RINGS_MOST * VERTICES_MOST;
+
 pub const BOOK_LEAST: usize = VERTICES_LEAST * VERTEX_BYTES + ENTRY_BYTES + TAIL_BYTES;
 
 pub const BOOK_MOST: usize = RINGS_MOST * (VERTICES_MOST * VERTEX_BYTES + ENTRY_BYTES) + TAIL_BYTES;
