@@ -1,5 +1,5 @@
 -- What is asked of the book, over what is lent: lists of f64s with vertex counts, and files. Assumes nothing.
-use Prim.Native.Nat.{ℕ, _*_, _≤_}
+use Prim.Native.Nat.{ℕ, _≤_}
 use native.Mathlib.Omega.{arith}
 use mathlib.Core.Path.{_≡_, sym, ap, _∙_}
 use mathlib.Core.Logic.{_↔_}
@@ -11,8 +11,8 @@ use borrow.Author.Tests.{le-leb}
 use Rattle.refusals.specs.Refusals.{passed, unless}
 use Rattle.reading.specs.Reading.{BitForBit, leastReading}
 use Rattle.number_bytes.specs.Bytes.{Each, Byte}
-use Rattle.refusals.specs.Rings.{verticesMost, ringsMost}
-use Rattle.book_layout.specs.Layout.{bookOf, SameOutlines, coordsOf, countsOf, ringsOf}
+use Rattle.refusals.specs.Rings.{ringsMost}
+use Rattle.book_layout.specs.Layout.{numbersMost, bookOf, SameOutlines, coordsOf, countsOf, ringsOf}
 use Rattle.book_layout.specs.Faults.{_passes, bookCheck}
 use Rattle.book_layout.specs.Writer.{ringsFrom, writeRefusal, Formed, Writes}
 use Rattle.book_layout.specs.Reader.{numbersOf, holdsAll, readRefusal}
@@ -56,7 +56,7 @@ accepts f room counts bytes enough = (
 )
 
 -- Room for 4,096 numbers and 8 counts is enough for every file that passes the checks.
-pub enough : (f : List ℕ) (room counts : ℕ) → Each Byte f → bookCheck f passes → 2 * (verticesMost * ringsMost) ≤ room → ringsMost ≤ counts → holdsAll f room counts ≡ true
+pub enough : (f : List ℕ) (room counts : ℕ) → Each Byte f → bookCheck f passes → numbersMost ≤ room → ringsMost ≤ counts → holdsAll f room counts ≡ true
 enough f room counts bytes ok h k =
     let held = read-held f bytes ok in
     let n : length (numbersOf f) ≤ room = omega (arith, held .whole, held .few, total-bounds (countsOf f) (held .sized)) in

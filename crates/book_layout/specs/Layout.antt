@@ -30,6 +30,10 @@ entryBytes = 2 * fieldBytes
 abbrev pub tailBytes : ℕ
 tailBytes = 2 * fieldBytes
 
+-- the coordinates of all rings: 4,096
+abbrev pub numbersMost : ℕ
+numbersMost = 2 * ringsMost * verticesMost
+
 -- the shortest book and the longest: 64 and 32,840 bytes
 abbrev pub bookLeast : ℕ
 bookLeast = verticesLeast * vertexBytes + entryBytes + tailBytes

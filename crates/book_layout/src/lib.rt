@@ -13,6 +13,9 @@ pub const ENTRY_BYTES: usize = 2 * FIELD_BYTES;
 
 pub const TAIL_BYTES: usize = 2 * FIELD_BYTES;
 
+// The coordinates of all rings.
+pub const NUMBERS_MOST: usize = 2 * RINGS_MOST * VERTICES_MOST;
+
 pub const BOOK_LEAST: usize = VERTICES_LEAST * VERTEX_BYTES + ENTRY_BYTES + TAIL_BYTES;
 
 pub const BOOK_MOST: usize = RINGS_MOST * (VERTICES_MOST * VERTEX_BYTES + ENTRY_BYTES) + TAIL_BYTES;

@@ -1,5 +1,5 @@
 -- What a caller of `read_book` holds: the rings and their counts at the fronts of the rooms, or the first fault of the file. Assumes nothing.
-use Prim.Native.Nat.{ℕ, _*_, _≤_, _<_}
+use Prim.Native.Nat.{ℕ, _≤_, _<_}
 use native.Mathlib.Omega.{arith}
 use mathlib.Core.Path.{_≡_, refl, sym, ap, _∙_}
 use mathlib.Core.Bool.{Bool, true, false, cond}
@@ -13,8 +13,8 @@ use Rattle.refusals.specs.declared.Refusal.{Refusal}
 use Rattle.refusals.specs.declared.answer.Count.{Count}
 use Rattle.refusals.specs.declared.answer.Count.the-variants.{Is, Refused}
 use Rattle.number_bytes.proofs.Bytes.{each-byte}
-use Rattle.refusals.specs.Rings.{verticesMost, ringsMost}
-use Rattle.book_layout.specs.Layout.{countsOf}
+use Rattle.refusals.specs.Rings.{ringsMost}
+use Rattle.book_layout.specs.Layout.{numbersMost, countsOf}
 use Rattle.book_layout.specs.Faults.{_passes, bookCheck}
 use Rattle.book_layout.specs.Writer.{Held}
 use Rattle.book_layout.specs.Reader.{numbersOf, readRefusal}
@@ -55,7 +55,7 @@ module _ (f : List ℕ) (bytes : (i : ℕ) → getD f i 0 < 256) (room x : List 
     counts-are = p .2 ∙ (rw (taken .0))
 
   -- rooms for every book
-  module _ (numbers-fit : 2 * (verticesMost * ringsMost) ≤ length room) (counts-fit : ringsMost ≤ length counts) (told : Refusal) (e : r ≡ Refused told) where
+  module _ (numbers-fit : numbersMost ≤ length room) (counts-fit : ringsMost ≤ length counts) (told : Refusal) (e : r ≡ Refused told) where
     not-read : (passed refusal ≡ false) × (told ≡ refusal)
     not-read = refused refusal told (passed refusal) (length (countsOf f)) refl (ap counted (sym e) ∙ p .0)
 

@@ -31,7 +31,7 @@ numbers [] h i k = absurd (not-suc-le-zero k)
 numbers (b ∷ l) h zero k = bits-number b (h .0)
 numbers (b ∷ l) h (suc i) k = numbers l (h .1) i (omega arith)
 
--- the ring of n vertices at the place `at` of a file, in a room of 512 numbers
+-- the ring of n vertices at the place `at` of a file, in a room for the longest ring
 module _ (f : List ℕ) (bytes : (i : ℕ) → getD f i 0 < 256) (at n : ℕ) (inside : at + vertexBytes * n ≤ length f) (most : n ≤ verticesMost) (ok : coordsCheck (2 * n) at (drop at f) passes) where
   abbrev l : List ℕ
   l = coordsIn (2 * n) (drop at f)

@@ -119,7 +119,7 @@ fn is_least_at(f: &[u8], at: usize, n: usize) -> bool
     requires { ⌜ coordsCheck (2 * n) at (drop at (now f)) passes ⌝ }
     ensures { λ r. ⌜ r ≡ isLeast (vertices (coordsIn (2 * n) (drop at (now (f .entry))))) ⌝ }
 {
-    let mut ring = [0.0; 512];
+    let mut ring = [0.0; 2 * VERTICES_MOST];
     let end = 2 * n;
     load(f, at, end, &mut ring);
     is_least(&ring[..end])

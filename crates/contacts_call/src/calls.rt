@@ -16,14 +16,12 @@ pub fn find_contacts(
     points: &mut [f64],
 ) -> Count
     ensures { λ r.
-        ⌜ counted r ≡ findCall (now (stationary .entry)) (now (orbiting .entry)) tolerance (length (now (which .entry)))
-        (length (now (points .entry))) ⌝ }
-    ensures { λ _.
-        ⌜ now (which .exit) ≡ findWhich (now (stationary .entry)) (now (orbiting .entry)) tolerance (now (which .entry))
-        (now (points .entry)) ⌝ }
-    ensures { λ _.
-        ⌜ now (points .exit) ≡ findPoints (now (stationary .entry)) (now (orbiting .entry)) tolerance (now (which .entry))
-        (now (points .entry)) ⌝ }
+        ⌜ (counted r ≡ findCall (now (stationary .entry)) (now (orbiting .entry)) tolerance (length (now (which .entry)))
+        (length (now (points .entry))))
+        × (now (which .exit) ≡ findWhich (now (stationary .entry)) (now (orbiting .entry)) tolerance (now (which .entry))
+        (now (points .entry)))
+        × (now (points .exit) ≡ findPoints (now (stationary .entry)) (now (orbiting .entry)) tolerance (now (which .entry))
+        (now (points .entry))) ⌝ }
 {
     let no = row::touching(stationary, orbiting, tolerance);
     if no.passed() {

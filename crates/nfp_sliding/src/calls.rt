@@ -18,14 +18,12 @@ pub fn compute_nfp_sliding(
     result: &mut [f64],
 ) -> Traced
     ensures { λ r.
-        ⌜ traced r ≡ traceCall (now (stationary .entry)) (now (orbiting .entry)) settings (length (now (work .entry)))
-        (length (now (result .entry))) ⌝ }
-    ensures { λ _.
-        ⌜ now (work .exit) ≡ traceWork (now (stationary .entry)) (now (orbiting .entry)) settings (now (work .entry))
-        (length (now (result .entry))) ⌝ }
-    ensures { λ _.
-        ⌜ now (result .exit) ≡ traceResult (now (stationary .entry)) (now (orbiting .entry)) settings (length (now (work .entry)))
-        (now (result .entry)) ⌝ }
+        ⌜ (traced r ≡ traceCall (now (stationary .entry)) (now (orbiting .entry)) settings (length (now (work .entry)))
+        (length (now (result .entry))))
+        × (now (work .exit) ≡ traceWork (now (stationary .entry)) (now (orbiting .entry)) settings (now (work .entry))
+        (length (now (result .entry))))
+        × (now (result .exit) ≡ traceResult (now (stationary .entry)) (now (orbiting .entry)) settings (length (now (work .entry)))
+        (now (result .entry))) ⌝ }
 {
     let no = row::tracing(stationary, orbiting, settings, work.len(), result.len());
     if no.passed() {

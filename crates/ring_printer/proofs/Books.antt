@@ -12,7 +12,7 @@ use Rattle.refusals.specs.declared.Refusal.{Refusal}
 use Rattle.refusals.specs.declared.answer.Count.{Count}
 use Rattle.refusals.specs.declared.answer.Count.the-variants.{Is, Refused}
 use Rattle.refusals.specs.Rings.{ringsMost, total, sizedAll}
-use Rattle.book_layout.specs.Layout.{countsOf}
+use Rattle.book_layout.specs.Layout.{numbersMost, countsOf}
 use Rattle.book_layout.specs.Writer.{Held}
 use Rattle.book_layout.specs.Reader.{numbersOf}
 use Rattle.book_reader.proofs.Files.{Promised}
@@ -22,10 +22,10 @@ use Rattle.ring_printer.proofs.Rings.{same-texts}
 
 -- the two rooms before the reader
 abbrev room : List Float
-room = replicate 4096 (ofBits binary64 0)
+room = replicate numbersMost (ofBits binary64 0)
 
 abbrev counts : List ℕ
-counts = replicate 8 0
+counts = replicate ringsMost 0
 
 -- what can be printed: a few rings that lie in a list
 abbrev Printable : List Float → List ℕ → Type 0
@@ -75,5 +75,5 @@ module _ (f : List ℕ) (bytes : (i : ℕ) → getD f i 0 < 256) (x : List Float
     pub fault-told : refusalLine no-one ≡ bookText f
     unfolding bookText
     fault-told =
-        let b = no-book f bytes room x counts n r p (omega (arith, length-replicate 4096 (ofBits binary64 0))) (omega (arith, length-replicate {A = ℕ} 8 0)) no-one e in
+        let b = no-book f bytes room x counts n r p (omega (arith, length-replicate numbersMost (ofBits binary64 0))) (omega (arith, length-replicate {A = ℕ} ringsMost 0)) no-one e in
         rw (b .0) (ap refusalLine (b .1))

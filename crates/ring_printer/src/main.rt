@@ -1,4 +1,6 @@
 // The ring printer: reads a book from standard input and prints its rings, the coordinates by their bit patterns.
+use book_layout::BOOK_MOST;
+use book_layout::NUMBERS_MOST;
 use book_reader::calls::read_book;
 use libc::STDIN_FILENO;
 use libc::STDOUT_FILENO;
@@ -6,6 +8,7 @@ use lines::put_points;
 use lines::put_refusal;
 use print::put_decimal;
 use print::put_text;
+use refusals::RINGS_MOST;
 use refusals::answer::Count;
 ghost use mathlib.Core.Path.{_≡_};
 ghost use mathlib.Core.Bool.{true};
@@ -51,8 +54,8 @@ fn put_rings(xs: &[f64], counts: &[u32], out: &mut [u8], from: usize) -> usize
     requires { ⌜ (length (now counts) ≤ ringsMost) × (sizedAll (now counts) ≡ true) × (2 * total (now counts) ≤ length (now xs)) ⌝ }
     requires { ⌜ (from ≤ 100) × (73000 ≤ length (now out)) ⌝ }
     ensures { λ r.
-        ⌜ Put (now (out .entry)) from (ringTexts (now (counts .entry)) (now (xs .entry)) (length (now (counts .entry)))) (now
-        (out .exit)) r ⌝ }
+        ⌜ Put (now (out .entry)) from (ringTexts (now (counts .entry)) (now (xs .entry)) (length (now (counts .entry))))
+        (now (out .exit)) r ⌝ }
 {
     let mut next = from;
     let mut at = 0;
@@ -82,8 +85,8 @@ fn put_book(book: &[u8], out: &mut [u8]) -> usize
     requires { ⌜ 73000 ≤ length (now out) ⌝ }
     ensures { λ r. ⌜ Put (now (out .entry)) 0 (bookText (now (book .entry))) (now (out .exit)) r ⌝ }
 {
-    let mut room = [0.0; 4096];
-    let mut counts = [0u32; 8];
+    let mut room = [0.0; NUMBERS_MOST];
+    let mut counts = [0u32; RINGS_MOST];
     match read_book(book, &mut room, &mut counts) {
         Count::Is(k) => put_all(&room, &counts[..k], out),
         Count::Refused(no) => put_refusal(no, out),
@@ -92,7 +95,7 @@ fn put_book(book: &[u8], out: &mut [u8]) -> usize
 
 // One byte more than the longest book is read, so that what is too long is refused like any other wrong length.
 fn main() {
-    let mut book = [0u8; 32841];
+    let mut book = [0u8; BOOK_MOST + 1];
     let mut out = [0u8; 73000];
     let n = io::read_full(STDIN_FILENO, &mut book);
     let length = put_book(&book[..n], &mut out);

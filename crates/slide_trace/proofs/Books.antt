@@ -12,8 +12,8 @@ use Rattle.refusals.specs.declared.Refusal.{Refusal}
 use Rattle.refusals.specs.declared.Settings.{Settings}
 use Rattle.refusals.specs.declared.answer.Count.{Count}
 use Rattle.refusals.specs.declared.answer.Count.the-variants.{Is, Refused}
-use Rattle.refusals.specs.Rings.{verticesLeast, verticesMost, within, total, sizedAll}
-use Rattle.book_layout.specs.Layout.{countsOf}
+use Rattle.refusals.specs.Rings.{verticesLeast, verticesMost, ringsMost, within, total, sizedAll}
+use Rattle.book_layout.specs.Layout.{numbersMost, countsOf}
 use Rattle.book_layout.specs.Writer.{Held}
 use Rattle.book_layout.specs.Reader.{numbersOf}
 use Rattle.laws.proofs.Both.{both}
@@ -57,10 +57,10 @@ two (n ∷ m ∷ ns) s =
 
 -- the two rooms before it
 abbrev room : List Float
-room = replicate 4096 (ofBits binary64 0)
+room = replicate numbersMost (ofBits binary64 0)
 
 abbrev counts : List ℕ
-counts = replicate 8 0
+counts = replicate ringsMost 0
 
 module _ (f : List ℕ) (bytes : (i : ℕ) → getD f i 0 < 256) (s : Settings) (x : List Float) (n : List ℕ) (r : Count) (p : Promised f room counts r x n) where
   module _ (k : ℕ) (e : r ≡ Is k) where
@@ -73,7 +73,7 @@ module _ (f : List ℕ) (bytes : (i : ℕ) → getD f i 0 < 256) (s : Settings) 
     vertices : (i : ℕ) → getD n i 0 ≡ verticesOf f i
     vertices i =
         ap (λ (l : List ℕ). getD l i 0) (counts-are f bytes room x counts n r p k e)
-        ∙ count-at (countsOf f) (drop (length (countsOf f)) counts) i (zeros (length (countsOf f)) 8)
+        ∙ count-at (countsOf f) (drop (length (countsOf f)) counts) i (zeros (length (countsOf f)) ringsMost)
 
     bounds : Two (countsOf f)
     bounds = two (countsOf f) (held .sized)
@@ -106,5 +106,5 @@ module _ (f : List ℕ) (bytes : (i : ℕ) → getD f i 0 < 256) (s : Settings) 
     pub fault-told : refusalLine told ≡ bookText f s
     unfolding bookText
     fault-told =
-        let b = no-book f bytes room x counts n r p (omega (arith, length-replicate 4096 (ofBits binary64 0))) (omega (arith, length-replicate {A = ℕ} 8 0)) told e in
+        let b = no-book f bytes room x counts n r p (omega (arith, length-replicate numbersMost (ofBits binary64 0))) (omega (arith, length-replicate {A = ℕ} ringsMost 0)) told e in
         rw (b .0) (ap refusalLine (b .1))

@@ -44,6 +44,10 @@ unfoldable pub bookText : List ℕ → Settings → List ℕ
 bookText book s =
     cond (passed (bookCheck book)) (ringsText (numbersOf book) (verticesOf book 0) (verticesOf book 1) s) (refusalLine (bookCheck book))
 
+-- bytes of the settings, three words
+abbrev pub settingsBytes : ℕ
+settingsBytes = 24
+
 -- the word at a byte
 abbrev pub wordAt : List ℕ → ℕ → ℕ
 wordAt input at = numberOf (take 8 (drop at input))
@@ -58,4 +62,4 @@ settingsOf input = record {
 
 -- the settings, and then the book
 unfoldable pub inputText : List ℕ → List ℕ
-inputText input = bookText (drop 24 input) (settingsOf input)
+inputText input = bookText (drop settingsBytes input) (settingsOf input)

@@ -17,14 +17,12 @@ pub fn compute_translation_vectors(
     sources: &mut [u64],
 ) -> Count
     ensures { λ r.
-        ⌜ counted r ≡ vectorsCall (now (stationary .entry)) (now (orbiting .entry)) tolerance (length (now (vectors .entry)))
-        (length (now (sources .entry))) ⌝ }
-    ensures { λ _.
-        ⌜ now (vectors .exit) ≡ vectorsRoom (now (stationary .entry)) (now (orbiting .entry)) tolerance (now (vectors .entry))
-        (now (sources .entry)) ⌝ }
-    ensures { λ _.
-        ⌜ now (sources .exit) ≡ sourcesRoom (now (stationary .entry)) (now (orbiting .entry)) tolerance (now (vectors .entry))
-        (now (sources .entry)) ⌝ }
+        ⌜ (counted r ≡ vectorsCall (now (stationary .entry)) (now (orbiting .entry)) tolerance (length (now (vectors .entry)))
+        (length (now (sources .entry))))
+        × (now (vectors .exit) ≡ vectorsRoom (now (stationary .entry)) (now (orbiting .entry)) tolerance (now (vectors .entry))
+        (now (sources .entry)))
+        × (now (sources .exit) ≡ sourcesRoom (now (stationary .entry)) (now (orbiting .entry)) tolerance (now (vectors .entry))
+        (now (sources .entry))) ⌝ }
 {
     let no = row::touching(stationary, orbiting, tolerance);
     if no.passed() {
@@ -55,14 +53,12 @@ pub fn handle_perfect_fit(
     sources: &mut [u64],
 ) -> Count
     ensures { λ r.
-        ⌜ counted r ≡ fitCall (now (stationary .entry)) (now (orbiting .entry)) reference (now (visited .entry)) tolerance
-        (length (now (vectors .entry))) (length (now (sources .entry))) ⌝ }
-    ensures { λ _.
-        ⌜ now (vectors .exit) ≡ fitRoom (now (stationary .entry)) (now (orbiting .entry)) reference (now (visited .entry)) tolerance
-        (now (vectors .entry)) (now (sources .entry)) ⌝ }
-    ensures { λ _.
-        ⌜ now (sources .exit) ≡ fitSources (now (stationary .entry)) (now (orbiting .entry)) reference (now (visited .entry))
-        tolerance (now (vectors .entry)) (now (sources .entry)) ⌝ }
+        ⌜ (counted r ≡ fitCall (now (stationary .entry)) (now (orbiting .entry)) reference (now (visited .entry)) tolerance
+        (length (now (vectors .entry))) (length (now (sources .entry))))
+        × (now (vectors .exit) ≡ fitRoom (now (stationary .entry)) (now (orbiting .entry)) reference (now (visited .entry)) tolerance
+        (now (vectors .entry)) (now (sources .entry)))
+        × (now (sources .exit) ≡ fitSources (now (stationary .entry)) (now (orbiting .entry)) reference (now (visited .entry))
+        tolerance (now (vectors .entry)) (now (sources .entry))) ⌝ }
 {
     let no = row::perfect_fit(stationary, orbiting, reference, visited, tolerance);
     if no.passed() {
