@@ -26,11 +26,36 @@ pub fn count_vectors(
     tol: f64,
 ) -> usize
     requires { ⌜ Sides (count (now stationary)) (count (now orbiting)) ⌝ }
-    ensures { λ r.
-        ⌜ (r ≡ length (fitOf (now (stationary .entry)) (now (orbiting .entry)) from (now (visited .entry)) tol))
-        × (r ≤ 393216)
-        × (now (room .exit) ≡ set (set (set (now (room .entry)) at (v .direction .x)) (at + 1) (v .direction .y)) (at + 2)
-        (v .distance)) ⌝ }
+    ensures { λ r. ⌜ r ≡ length (fitOf (now (stationary .entry)) (now (orbiting .entry)) from (now (visited .entry)) tol) ⌝ }
+    ensures { λ r. ⌜ r ≤ 393216 ⌝ }
+{
+    let mut n = 0;
+    let mut at = Place {
+        contact: 0,
+        side: 0,
+        source: 0,
+    };
+    loop {
+        match next_kept(stationary, orbiting, tol, from, visited, at) {
+            Step::End => return n,
+            Step::Vector {
+                vector: _,
+                source: _,
+                rest,
+            } => {
+                n += 1;
+                at = rest;
+            }
+        }
+    }
+}
+
+// A vector's direction and distance, from at on.
+fn put_vector(room: &mut [f64], at: usize, v: TranslationVector)
+    requires { ⌜ at + 2 < length (now room) ⌝ }
+    ensures { λ _.
+        ⌜ now (room .exit) ≡ set (set (set (now (room .entry)) at (v .direction .x)) (at + 1) (v .direction .y)) (at + 2)
+        (v .distance) ⌝ }
 {
     room[at] = v.direction.x;
     room[at + 1] = v.direction.y;
@@ -50,12 +75,49 @@ pub fn write_vectors(
     requires { ⌜ Sides (count (now stationary)) (count (now orbiting)) ⌝ }
     requires { ⌜ 3 * length (fitOf (now stationary) (now orbiting) from (now visited) tol) ≤ length (now vectors) ⌝ }
     requires { ⌜ length (fitOf (now stationary) (now orbiting) from (now visited) tol) ≤ length (now sources) ⌝ }
+    ensures { λ _.
+        ⌜ now (vectors .exit) ≡ laid
+        (numbersOf (fitOf (now (stationary .entry)) (now (orbiting .entry)) from (now (visited .entry)) tol)) (now (vectors .entry)) ⌝ }
+    ensures { λ _.
+        ⌜ now (sources .exit) ≡ laid
+        (sourcesOf (fitOf (now (stationary .entry)) (now (orbiting .entry)) from (now (visited .entry)) tol)) (now (sources .entry)) ⌝ }
+{
+    let mut n = 0;
+    let mut at = Place {
+        contact: 0,
+        side: 0,
+        source: 0,
+    };
+    loop {
+        match next_kept(stationary, orbiting, tol, from, visited, at) {
+            Step::End => return,
+            Step::Vector {
+                vector,
+                source,
+                rest,
+            } => {
+                put_vector(vectors, 3 * n, vector);
+                sources[n] = source as u64;
+                n += 1;
+                at = rest;
+            }
+        }
+    }
+}
+
+// The vectors in the rooms, and how many there are, or the refusal of a room that is too short.
+pub fn answer(
+    stationary: &[f64],
+    orbiting: &[f64],
+    from: Point,
+    visited: &[f64],
+    tol: f64,
+    vectors: &mut [f64],
+    sources: &mut [u64],
+) -> Count
+    requires { ⌜ Sides (count (now stationary)) (count (now orbiting)) ⌝ }
     ensures { λ r.
-        ⌜ (now (vectors .exit) ≡ laid
-        (numbersOf (fitOf (now (stationary .entry)) (now (orbiting .entry)) from (now (visited .entry)) tol)) (now (vectors .entry)))
-        × (now (sources .exit) ≡ laid
-        (sourcesOf (fitOf (now (stationary .entry)) (now (orbiting .entry)) from (now (visited .entry)) tol)) (now (sources .entry)))
-        × (counted r ≡ outcome
+        ⌜ (counted r ≡ outcome
         (fitRooms (now (stationary .entry)) (now (orbiting .entry)) from (now (visited .entry)) tol
         (length (now (vectors .entry))) (length (now (sources .entry))))
         (fitCount (now (stationary .entry)) (now (orbiting .entry)) from (now (visited .entry)) tol))
