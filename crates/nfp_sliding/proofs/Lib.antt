@@ -2,3 +2,4 @@
 pub mod Same
 pub mod Traced
 pub mod Told
+pub mod Ends
