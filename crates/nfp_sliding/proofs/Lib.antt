@@ -3,3 +3,4 @@ pub mod Same
 pub mod Traced
 pub mod Told
 pub mod Ends
+pub mod Worked

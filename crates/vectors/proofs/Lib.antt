@@ -1,3 +1,4 @@
 -- The modules that belong to no one function.
 pub mod Steps
 pub mod Numbers
+pub mod Worked
