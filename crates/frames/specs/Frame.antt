@@ -59,7 +59,8 @@ beyond low high bottom top far = lt far (low ⊖ top) || lt (high ⊖ bottom) (n
 unfoldable pub apart : Frame → Frame → Float → Bool
 apart edges points tol =
     let far = marginOf tol in
-    beyond (edges .left) (edges .right) (points .left) (points .right) far || beyond (edges .low) (edges .high) (points .low) (points .high) far
+    beyond (edges .left) (edges .right) (points .left) (points .right) far
+    || beyond (edges .low) (edges .high) (points .low) (points .high) far
 
 -- along one axis both ends of an edge from a to b lie more than so far above p, or below it
 unfoldable pub past : Float → Float → Float → Float → Bool

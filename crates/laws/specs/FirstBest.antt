@@ -20,7 +20,8 @@ nest ahead g n from (suc o) = over ahead (g o) (nest ahead g n from o) n
 abbrev pub flat : {C : Type 0} → (ℕ → ℕ → C) → ℕ → ℕ → C
 flat g n k = g (k / n) (k % n)
 
--- r is the answer for f 0 .. f (n - 1): what was found before, where no candidate is ahead of it, and else the first of those that no other is ahead of
+-- r is the answer for f 0 .. f (n - 1): what was found before, where no candidate is ahead of it, and else the first of
+-- those that no other is ahead of
 pub data First {C : Type 0} (ahead : C → C → Bool) (f : ℕ → C) (from : C) (n : ℕ) (r : C) : Type 0 where
   none : r ≡ from → ((k : ℕ) → k < n → ahead (f k) from ≡ false) → First ahead f from n r
   some : (k : ℕ) → k < n → r ≡ f k → ahead (f k) from ≡ true

@@ -4,3 +4,4 @@ pub mod Numbers
 pub mod Along
 pub mod FarOne
 pub mod Lengths
+pub mod Worked
