@@ -38,7 +38,7 @@ pub fn point_on_segment(point: Point, p1: Point, p2: Point, tol: f64) -> Truth
 {
     let no = row::near(point, p1, p2, tol);
     if no.passed() {
-        Truth::Is(near::point_on_segment(point, p1, p2, tol))
+        Truth::Is(segment::point_to_segment_distance(point, p1, p2) < tol)
     } else {
         Truth::Refused(no)
     }
