@@ -7,11 +7,14 @@ use mathlib.Core.Path.{_≡_, refl, sym, _∙_}
 use mathlib.Core.Bool.{Bool, true, false, cond, true≢false}
 use mathlib.Core.List.{List, _++_}
 use lib.ListN.{length, length-append}
-use lib.Dec.{ltb}
+use lib.Dec.{ltb, leb}
 use lib.Ieee.{Float}
 use borrow.Author.Tests.{le-ltb}
-use Rattle.refusals.specs.Refusals.{passed}
-use Rattle.refusals.specs.Rows.{ofTrace}
+use Rattle.refusals.specs.Refusals.{passed, unless, first}
+use Rattle.refusals.specs.Bounds.{coordinates as bounded-by, polygonLength, settingsOk, workOk}
+use Rattle.refusals.specs.Screens.{wrongPolygon, wrongNumber, wrongSettings, wrongWork}
+use Rattle.refusals.specs.Rows.{ofTwoPolygons, ofTrace}
+use Rattle.refusals.specs.declared.Refusal.{Refusal}
 use Rattle.refusals.specs.declared.Settings.{Settings}
 use Rattle.ring.specs.Ring.{count}
 use Rattle.start_position.specs.Start.{startOf}
@@ -24,7 +27,7 @@ use Rattle.pass.specs.declared.Step.the-variants.{Stop, Stay, Store}
 use Rattle.pass.proofs.Reasons.{pass-reason}
 use Rattle.simplify.specs.Simplify.{simplified}
 use Rattle.nfp_sliding.specs.Path.{Trace, ended, coordinates, follow, traceOf, atStart, marginsOf, traceFrom, tracedOf}
-use Rattle.nfp_sliding.specs.Calls.{Answer, traces, denied, overfull, tooShort, brief, cameTo, traceCall}
+use Rattle.nfp_sliding.specs.Calls.{Answer, traces, denied, overfull, tooShort, refusalOf, brief, cameTo, traceCall}
 use Rattle.nfp_sliding.proofs.Traced.{lent-ready}
 
 -- what a trace t of at most k more passes keeps, so many having been begun with so many numbers stored
@@ -77,6 +80,19 @@ module _ (s : Scene) (room : ℕ) where
           record { reasoned = λ f. (r .0, omega (arith, r .1)); most = omega arith; points = omega arith; holds = λ h. refl }
       by ih (Stay pose') e = one-more k passes (length path) (length path) _ (omega arith) (ih (passes + 1) pose' path)
       by ih (Store pose') e = full ih pose' (ltb (room - length path) 2) refl
+
+-- ---- tests in a row
+
+either-most : (a b : Refusal) → a .number ≤ 4 → b .number ≤ 4 → first a b .number ≤ 4
+either-most a b h k = by (passed a)
+  where
+    by : (t : Bool) → cond t b a .number ≤ 4
+    by true = k
+    by false = h
+
+test-most : (ok : Bool) (num : ℕ) → num ≤ 4 → unless ok num 0 .number ≤ 4
+test-most true num h = omega arith
+test-most false num h = h
 
 -- ---- the trace of two polygons
 
@@ -131,24 +147,36 @@ module _ (st orb : List Float) (s : Settings) (work : ℕ) where
       by true = came-to-ends (s .«contact_tolerance»)
       by false = tt
 
-  -- with room for 10,001 points the call never answers that the path does not fit, which is refusal 5
-  pub never-overfull : (result passes : ℕ) → 20002 ≤ work → traceCall st orb s work result ≡ overfull passes → ⊥
-  unfolding traceCall cameTo
-  never-overfull result passes w = by (passed (ofTrace st orb s work result)) refl
+  -- the tests of what is lent give no refusal above 4
+  lent-number : (result : ℕ) → ofTrace st orb s work result .number ≤ 4
+  unfolding ofTrace ofTwoPolygons
+  lent-number result =
+      either-most (ofTwoPolygons st orb) _
+      (either-most (wrongPolygon st) _ (test-most (polygonLength st) 1 (omega arith))
+      (either-most (wrongPolygon orb) _ (test-most (polygonLength orb) 1 (omega arith))
+      (either-most (wrongNumber st) _ (test-most (bounded-by st) 2 (omega arith)) (test-most (bounded-by orb) 2 (omega arith)))))
+      (either-most (wrongSettings s) _ (test-most (settingsOk s) 3 (omega arith))
+      (either-most (wrongWork work) _ (test-most (workOk work) 4 (omega arith)) (test-most (leb work result) 4 (omega arith))))
+
+  -- with room for 10,001 points the call never answers refusal 5, that the path does not fit
+  pub never-five : (result : ℕ) → 20002 ≤ work → refusalOf (traceCall st orb s work result) .number ≡ 5 → ⊥
+  unfolding traceCall cameTo refusalOf
+  never-five result w = by (passed (ofTrace st orb s work result)) refl
     where
       t : Trace
       t = tracedOf st orb s work
 
       fits : (full short : Bool) (tol : Float) → t .full ≡ full → t .full ≡ false
-          → cond full (overfull (t .passes)) (cond short (tooShort (t .passes) (t .reason))
-          (traces (count (simplified (t .path) tol)) (count (t .path)) (t .passes) (t .reason))) ≡ overfull passes → ⊥
+          → refusalOf
+          (cond full (overfull (t .passes)) (cond short (tooShort (t .passes) (t .reason))
+          (traces (count (simplified (t .path) tol)) (count (t .path)) (t .passes) (t .reason)))) .number ≡ 5 → ⊥
       fits true short tol e f h = true≢false (sym e ∙ f)
-      fits false true tol e f h = absurd (let z : _≡_ {A = ℕ} 0 1 = cc in omega arith)
-      fits false false tol e f h = absurd (let z : _≡_ {A = ℕ} 0 1 = cc in omega arith)
+      fits false true tol e f h = omega (arith, h)
+      fits false false tol e f h = omega (arith, h)
 
       by : (b : Bool) → passed (ofTrace st orb s work result) ≡ b
-          → cond b (cameTo t (s .«contact_tolerance»)) (denied (ofTrace st orb s work result)) ≡ overfull passes → ⊥
+          → refusalOf (cond b (cameTo t (s .«contact_tolerance»)) (denied (ofTrace st orb s work result))) .number ≡ 5 → ⊥
       by true e h =
           fits (t .full) (brief t) (s .«contact_tolerance») refl
           (never-full (lent-ready st orb s work result refl refl e .0 .limit) w) h
-      by false e h = absurd (let z : _≡_ {A = ℕ} 0 1 = cc in omega arith)
+      by false e h = omega (arith, h, lent-number result)
