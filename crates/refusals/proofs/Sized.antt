@@ -10,7 +10,7 @@ use lib.Ieee.{Float}
 use borrow.Author.Tests.{eqb-true, leb-true}
 use Rattle.laws.proofs.Both.{both}
 use Rattle.refusals.specs.Refusals.{passed, unless, first}
-use Rattle.refusals.specs.Bounds.{ringLength, polygonLength, listLength}
+use Rattle.refusals.specs.Bounds.{coordinates, ringLength, polygonLength, listLength}
 use Rattle.plane.specs.declared.Point.{Point}
 use Rattle.refusals.specs.Screens.{wrongLength, wrongPolygon, wrongList, wrongNumber, wrongInfinite, wrongPosition, wrongTolerance, wrongFit}
 use Rattle.refusals.specs.Rows.{ofRing, ofTwoPolygons, ofList, ofTouching, ofMoving, fitLengths, fitNumbers, ofFit, ofRooms}
@@ -73,6 +73,14 @@ two-polygons a b h =
     let p = row-parts (wrongPolygon a) (first (wrongPolygon b) numbers) h in
     let q = row-parts (wrongPolygon b) numbers (p .1) in
     (is-polygon a (p .0), is-polygon b (q .0))
+
+pub two-bounded : (a b : List Float) → passed (ofTwoPolygons a b) ≡ true → (coordinates a ≡ true) × (coordinates b ≡ true)
+unfolding ofTwoPolygons
+two-bounded a b h =
+    let numbers = first (wrongNumber a) (wrongNumber b) in
+    let p = row-parts (wrongPolygon a) (first (wrongPolygon b) numbers) h in
+    let q = row-parts (wrongNumber a) (wrongNumber b) (row-parts (wrongPolygon b) numbers (p .1) .1) in
+    (holds (coordinates a) 2 0 refl (q .0), holds (coordinates b) 2 0 refl (q .1))
 
 -- where a row passes that begins with two polygons, they are polygons
 module _ (a b : List Float) (tol : Float) {n : Refusal} {p : Bool} where

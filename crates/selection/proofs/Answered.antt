@@ -12,11 +12,12 @@ use lib.Ieee.{Float}
 use borrow.Author.Tests.{eqb-true}
 use Rattle.plane.specs.declared.Point.{Point}
 use Rattle.refusals.specs.Refusals.{passed}
+use Rattle.refusals.specs.Screens.{wrongVectors}
 use Rattle.refusals.specs.Answers.{Outcome, answers, refuses}
 use Rattle.selection.specs.Score.{preferredOf}
-use Rattle.selection.specs.Select.{count, scoreAt, selectOf}
+use Rattle.selection.specs.Select.{vectorCount, scoreAt, selectOf}
 use Rattle.selection.specs.Chosen.{Chosen}
-use Rattle.selection.specs.Calls.{selected, wrongVectors, choice, selectCall}
+use Rattle.selection.specs.Calls.{selected, choice, selectCall}
 use Rattle.selection.specs.declared.Previous.{Previous}
 use Rattle.selection.specs.declared.answer.Selected.the-variants.{Nothing, Index}
 use Rattle.selection.proofs.Greatest.{select-chosen}
@@ -25,12 +26,12 @@ module _ (vs : List Float) (previous : Previous) (centroid position : Point) whe
   abbrev ccw : Point
   ccw = preferredOf centroid position
 
-  pub answer-chosen : (i : ℕ) → selected (Index i) ≡ selectCall vs previous centroid position → Chosen (scoreAt vs previous ccw) (count vs) i
+  pub answer-chosen : (i : ℕ) → selected (Index i) ≡ selectCall vs previous centroid position → Chosen (scoreAt vs previous ccw) (vectorCount vs) i
   unfolding choice
   answer-chosen i h = go (passed (wrongVectors vs)) (eqb (length vs) 0) h
     where
       go : (a b : Bool) → answers (some i) ≡ cond a (answers (cond b none (some (selectOf vs previous ccw)))) (refuses (wrongVectors vs))
-          → Chosen (scoreAt vs previous ccw) (count vs) i
+          → Chosen (scoreAt vs previous ccw) (vectorCount vs) i
       go true true e = absurd (let z : _≡_ {A = ℕ} 0 1 = cc in omega arith)
       go true false e = let q : i ≡ selectOf vs previous ccw = cc in rw q (select-chosen vs previous ccw)
       go false b e = absurd (let z : _≡_ {A = ℕ} 0 1 = cc in omega arith)

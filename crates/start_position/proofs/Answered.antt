@@ -10,10 +10,9 @@ use Rattle.plane.specs.Vector.{minusOf}
 use Rattle.plane.specs.declared.Point.{Point}
 use Rattle.ring.specs.Ring.{count}
 use Rattle.refusals.specs.Refusals.{passed}
-use Rattle.refusals.specs.Bounds.{coordinates}
-use Rattle.refusals.specs.Screens.{ofTwoPolygons}
+use Rattle.refusals.specs.Rows.{ofTwoPolygons}
 use Rattle.refusals.specs.Answers.{answers, refuses}
-use Rattle.refusals.proofs.Sized.{held, held-last, two-polygons}
+use Rattle.refusals.proofs.Sized.{two-polygons, two-bounded}
 use Rattle.start_position.specs.Start.{vertexOf, startOf}
 use Rattle.start_position.specs.Extreme.{Lowest, Highest}
 use Rattle.start_position.specs.Calls.{started, startCall}
@@ -26,15 +25,14 @@ module _ (st orb : List Float) where
   Between p = (low : Point) × (high : Point) × Lowest st (count st) low × Highest orb (count orb) high × (p ≡ minusOf low high)
 
   extremes : passed (ofTwoPolygons st orb) ≡ true → Between (startOf st orb)
-  unfolding ofTwoPolygons startOf
+  unfolding startOf
   extremes h =
-      let z = two-polygons st orb _ h in
-      let a = held (coordinates st) 2 _ refl (z .2) in
-      let b = held-last (coordinates orb) 2 refl (a .1) in (
+      let z = two-polygons st orb h in
+      let b = two-bounded st orb h in (
         vertexOf false st,
         vertexOf true orb,
-        vertex-lowest st (omega (arith, z .0 .least)) (a .0),
-        vertex-highest orb (omega (arith, z .1 .least)) b,
+        vertex-lowest st (omega (arith, z .0 .least)) (b .0),
+        vertex-highest orb (omega (arith, z .1 .least)) (b .1),
         refl,
       )
 
