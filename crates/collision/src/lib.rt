@@ -213,8 +213,9 @@ fn back(sweep: Sweep) -> Sweep
 fn both(stationary: &[f64], orbiting: &[f64], sweep: Sweep) -> Collision
     ensures { λ r. ⌜ r ≡ bothOf (now (stationary .entry)) (now (orbiting .entry)) sweep ⌝ }
 {
+    let against = back(sweep);
     let best = scan(orbiting, stationary, sweep, 0, Collision::Nothing);
-    scan(stationary, orbiting, back(sweep), 1, best)
+    scan(stationary, orbiting, against, 1, best)
 }
 
 // What orbiting, moved by translation, runs into first.

@@ -70,12 +70,12 @@ passes s path pose =
     (regains _ pose)
     (chooses _ s _ path pose)
 
-told : (x : Step) → Reasoned x → (reason : ℕ) → x ≡ Stop reason → (1 ≤ reason) × (reason ≤ 4)
-told _ (stops r l m) reason h = let q : r ≡ reason = cc in (rw (← q) l, rw (← q) m)
-told _ (stays p) reason h = absurd (let z : _≡_ {A = ℕ} 0 1 = cc in omega arith)
-told _ (stores p) reason h = absurd (let z : _≡_ {A = ℕ} 0 1 = cc in omega arith)
+reason-of : (x : Step) → Reasoned x → (reason : ℕ) → x ≡ Stop reason → (1 ≤ reason) × (reason ≤ 4)
+reason-of _ (stops r l m) reason h = let q : r ≡ reason = cc in (rw (← q) l, rw (← q) m)
+reason-of _ (stays p) reason h = absurd (let z : _≡_ {A = ℕ} 0 1 = cc in omega arith)
+reason-of _ (stores p) reason h = absurd (let z : _≡_ {A = ℕ} 0 1 = cc in omega arith)
 
 -- the theorem
 pub pass-reason : (s : Scene) (path : List Float) (pose : Pose) (reason : ℕ) → passOf s path pose ≡ Stop reason
     → (1 ≤ reason) × (reason ≤ 4)
-pass-reason s path pose reason h = told (passOf s path pose) (passes s path pose) reason h
+pass-reason s path pose reason h = reason-of (passOf s path pose) (passes s path pose) reason h

@@ -10,7 +10,6 @@ use plane::vector::distance;
 use plane::vector::minus;
 use plane::vector::normalize;
 use refusals::answer::Found;
-use refusals::answer::Found;
 use ring::next;
 use ring::point_at;
 ghost use mathlib.Core.Path.{_≡_};
