@@ -6,7 +6,7 @@ use lib.Ieee.{Float, add, sub, mul, div, lt, le, eq, neg, ofBits}
 use Rattle.scalar.specs.Float.{float, f0, f1}
 use Rattle.scalar.specs.Scalar.{absOf, minusZero, ahead, orNumber, smallerOf, largerOf, clampOf}
 use Rattle.square_root.specs.Root.{sqrtOf}
-use Rattle.plane.specs.Vector.{point, minusOf, plusOf, dotOf, crossOf, lengthOf, distanceOf, normalizeOf, parallelOf}
+use Rattle.plane.specs.Vector.{point, minusOf, plusOf, dotOf, crossOf, lengthOf, distanceOf, normalizeOf, parallelOf, aheadOf}
 use Rattle.plane.specs.Segment.{clampedFoot, projectOf, alongOf, toSegmentOf, nearSegmentOf}
 use Rattle.ring.specs.Ring.{pointAt}
 use Rattle.ring.specs.Each.{each}
@@ -41,5 +41,5 @@ margins = record { tolerance = float 0x3eb0_c6f7_a0b5_ed8d; smallest = float 0x3
 
 first-pass : passOf (scene S Q margins (point f2 f2) (point f0 m2)) (f0 ∷ m2 ∷ []) (record { position = point f0 m2; previous = None; stuck = 0 })
     ≡ Store (record { position = point f2 m2; previous = Direction (point f1 f0); stuck = 0 })
-unfolding passOf passAt movedOf points picks touching touchesBy edgesOf edgeEnd edgesTouch pairs.pairOf pointAt nearSegmentOf toSegmentOf alongOf projectOf clampedFoot clampOf parallelOf absOf crossOf minusOf plusOf dotOf lengthOf distanceOf normalizeOf sqrtOf chosen choiceOf vectorNo selectOf over better startOf scoredAt scoreAt vectorAt scoreOf continuedOf preferredOf numbersOf kept keeps visitedOf apart each potentialOf smallerOf largerOf orNumber ahead minusZero vectorsFrom vectorOf vectorBy vertexEdge edgeVertex edgeEdge directionOf oppositeOf slideOf landOf closesOf blockedOf madeOf timesOf collisionOf sweepOf bothOf backOf scanOf hitOf nest nearer countedOf edgeRay rayOf rayWithin add sub mul div lt le eq neg ofBits
+unfolding passOf passAt movedOf points picks touching touchesBy edgesOf edgeEnd edgesTouch pairs.pairOf pointAt nearSegmentOf toSegmentOf alongOf projectOf clampedFoot clampOf parallelOf absOf crossOf minusOf plusOf dotOf lengthOf distanceOf normalizeOf sqrtOf chosen choiceOf vectorNo selectOf over better startOf scoredAt scoreAt vectorAt scoreOf continuedOf preferredOf numbersOf kept keeps visitedOf apart each potentialOf aheadOf smallerOf largerOf orNumber ahead minusZero vectorsFrom vectorOf vectorBy vertexEdge edgeVertex edgeEdge directionOf oppositeOf slideOf landOf closesOf blockedOf madeOf timesOf collisionOf sweepOf bothOf backOf scanOf hitOf nest nearer countedOf edgeRay rayOf rayWithin add sub mul div lt le eq neg ofBits
 first-pass = refl
