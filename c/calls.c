@@ -1,6 +1,6 @@
 /*
  * Calls every exported function from C and holds what it answers, refuses and
- * leaves alone to known values, most of them document 01's. Prints a line per
+ * leaves alone to known values, most of them docs/SCOPE.md's. Prints a line per
  * function with the checks it passed; the first wrong one ends the program with
  * status 1.
  */
@@ -14,6 +14,7 @@
 static const double S[8] = {0, 0, 4, 0, 4, 4, 0, 4};
 static const double Q[8] = {0, 0, 2, 0, 2, 2, 0, 2};
 static const double TRIANGLE[6] = {0, 0, 4, 0, 0, 3};
+static const double CLOSED[8] = {0, 0, 4, 0, 0, 3, 0, 0};
 static const double Q_AT_START[8] = {0, -2, 2, -2, 2, 0, 0, 0};
 static const double Q_BESIDE[8] = {-5, 1, -3, 1, -3, 3, -5, 3};
 static const double TOLERANCE = 1e-6;
@@ -85,6 +86,13 @@ static double past_million(void) {
     return nextafter(1e6, 2e6);
 }
 
+/* ---- The interface ---- */
+
+static void interface(void) {
+    begin("byr_abi_version");
+    CHECK(byr_abi_version() == BYR_ABI_VERSION);
+}
+
 /* ---- Scalars ---- */
 
 static void scalars(void) {
@@ -136,6 +144,10 @@ static void predicates(void) {
     CHECK(answer == HELD_WORD);
     CHECK(byr_segments_intersect(0, 0, 4, 4, 0, 4, 4, 0, &answer) == 0 && answer == 1);
     CHECK(byr_segments_intersect(0, 0, 1, 1, 0, 4, 4, 0, &answer) == 0 && answer == 0);
+    CHECK(byr_segments_intersect(0, 0, 1, 0, 1.0000000005, 0, 2, 0, &answer) == 0 && answer == 1);
+    CHECK(byr_segments_intersect(0, 0, 1, 0, 1.000000002, 0, 2, 0, &answer) == 0 && answer == 0);
+    CHECK(byr_segments_intersect(-1e-5, 0, 1e-5, 0, 0, -1e-5, 0, 1e-5, &answer) == 0 && answer == 0);
+    CHECK(byr_segments_intersect(-1e-4, 0, 1e-4, 0, 0, -1e-4, 0, 1e-4, &answer) == 0 && answer == 1);
     begin("byr_point_on_segment");
     answer = HELD_WORD;
     CHECK(byr_point_on_segment(2, NAN, 0, 0, 4, 0, 0, &answer) == BYR_REFUSED_NUMBER);
@@ -212,6 +224,7 @@ static void rings(void) {
     CHECK(byr_is_simple_polygon(wrong, 6, &simple) == BYR_REFUSED_NUMBER && simple == HELD_WORD);
     CHECK(byr_is_simple_polygon(bow, 8, &simple) == 0 && simple == 0);
     CHECK(byr_is_simple_polygon(S, 8, &simple) == 0 && simple == 1);
+    CHECK(byr_is_simple_polygon(CLOSED, 8, &simple) == 0 && simple == 0);
     CHECK(byr_is_simple_polygon(NULL, 0, &simple) == 0 && simple == 0);
     begin("byr_ring_distance");
     CHECK(byr_ring_distance(S, 8, apart, 5, &answer) == BYR_REFUSED_LENGTH);
@@ -393,7 +406,10 @@ static void overlaps(void) {
 static void simplification(void) {
     static const double line[6] = {0, 0, 1, 0, 2, 0};
     static const double bent[10] = {0, 0, 1, 0, 2, 0, 2, 2, 0, 2};
-    double room[11];
+    static const double nearly[10] = {0, 0, 1, 1e-12, 2, 0, 2, 2, 0, 2};
+    static const double twice[10] = {0, 0, 2, 0, 2, 0, 2, 2, 0, 2};
+    static const double spike[12] = {0, 0, 2, 0, 9, 0, 2, 0, 2, 2, 0, 2};
+    double room[12];
     uint64_t points = HELD_COUNT;
 
     begin("byr_simplify_polygon");
@@ -405,6 +421,11 @@ static void simplification(void) {
     CHECK(same_list(room, line, 6) && held(room, 6, 11));
     CHECK(byr_simplify_polygon(bent, 10, TOLERANCE, room, 11, &points) == 0 && points == 4);
     CHECK(same_list(room + 2, bent + 4, 6) && held(room, 8, 11));
+    CHECK(byr_simplify_polygon(nearly, 10, TOLERANCE, room, 12, &points) == 0 && points == 5);
+    CHECK(byr_simplify_polygon(twice, 10, TOLERANCE, room, 12, &points) == 0 && points == 3);
+    CHECK(same_list(room, twice, 2) && same_list(room + 2, twice + 6, 4));
+    CHECK(byr_simplify_polygon(spike, 12, TOLERANCE, room, 12, &points) == 0 && points == 5);
+    CHECK(same_list(room, spike, 2) && same_list(room + 2, spike + 4, 8));
     CHECK(byr_simplify_polygon(NULL, 0, TOLERANCE, NULL, 0, &points) == 0 && points == 0);
 }
 
@@ -470,6 +491,9 @@ static void traces(void) {
     CHECK(same_list(t.result, result, 8) && held(t.result, 8, 33));
     CHECK(traced(&t, Q, 8, S, 8, TOLERANCE, 1e-8, 10000, 20, 20) == 0);
     CHECK(t.stored == 10 && t.passes == 11 && t.stop == BYR_STOP_CLOSED);
+    /* A part round itself: one list lent twice. */
+    CHECK(traced(&t, S, 8, S, 8, TOLERANCE, 1e-8, 10000, 16, 16) == 0);
+    CHECK(t.points == 4 && t.stored == 8 && t.passes == 8 && t.stop == BYR_STOP_CLOSED);
 }
 
 /* ---- The outline book ---- */
@@ -505,6 +529,23 @@ static void writing(void) {
     CHECK(byr_write_book(TRIANGLE, 6, three, 1, room, 64, &length) == 0 && memcmp(room, BOOK, 64) == 0);
 }
 
+/* A closed drawing and the same begun elsewhere: two books, and one once opened. */
+static void closed_drawings(void) {
+    static const double elsewhere[8] = {4, 0, 0, 3, 0, 0, 4, 0};
+    static const uint32_t three[1] = {3};
+    static const uint32_t four[1] = {4};
+    double opened[8];
+    uint8_t room[80];
+    uint8_t other[80];
+    uint64_t length = HELD_COUNT;
+    uint64_t vertices = HELD_COUNT;
+
+    CHECK(byr_write_book(CLOSED, 8, four, 1, room, 80, &length) == 0 && length == 80);
+    CHECK(byr_write_book(elsewhere, 8, four, 1, other, 80, &length) == 0 && memcmp(room, other, 80) != 0);
+    CHECK(byr_open_ring(elsewhere, 8, opened, 8, &vertices) == 0 && vertices == 3);
+    CHECK(byr_write_book(opened, 6, three, 1, other, 80, &length) == 0 && memcmp(other, BOOK, 64) == 0);
+}
+
 static void reading(void) {
     static const double stored[6] = {0, 0, 0, 3, 4, 0};
     uint8_t odd[65];
@@ -534,6 +575,7 @@ static void reading(void) {
 }
 
 int main(void) {
+    interface();
     scalars();
     predicates();
     distances();
@@ -549,6 +591,7 @@ int main(void) {
     trace_refusals();
     traces();
     writing();
+    closed_drawings();
     reading();
     told();
     printf("%d functions called from C, each as it should be\n", functions);

@@ -8,15 +8,21 @@
  *
  * Lent lists. A polygon, ring or list of points is x, y alternating. Its length
  * is counted in elements of the pointed type, so a polygon of 4 vertices has
- * length 8. A list of length 0 may be NULL. Lent memory must be as long as is
- * said, aligned for its type, and no two lent pieces may overlap; a book's bytes
- * may stand at any address.
+ * length 8. A list of length 0 may be NULL; a longer one may not, and nor may the
+ * cell of an answer. Lent memory must be as long as is said and aligned for its
+ * type; a book's bytes may stand at any address. What is written, a room or a
+ * cell, must not overlap anything else that is lent. Lists that are only read may
+ * overlap, or be one: to trace a part round itself, lend it twice.
  *
- * Answers. All functions but the scalars return 0, or the number of a refusal,
- * BYR_REFUSED_. Answers are written through the last pointers, and to rooms, on
- * success only; the exceptions are told where they arise. What is not written is
- * as it was. A room may be longer than its answer, and part of an entry may be
- * left over at its end.
+ * Rings are lent open: the last vertex is joined to the first. A closed drawing,
+ * whose last vertex repeats the first, goes through byr_open_ring before any other
+ * call. Lent as it is, the repeat counts as a vertex with an edge of no length.
+ *
+ * Answers. All functions but byr_abi_version and the scalars return 0, or the
+ * number of a refusal, BYR_REFUSED_. Answers are written through the last pointers,
+ * and to rooms, on success only; the exceptions are told where they arise. What is
+ * not written is as it was. A room may be longer than its answer, and part of an
+ * entry may be left over at its end.
  *
  * Bounds. A polygon has 3 to 256 vertices, a ring 0 to 256. A coordinate, of a
  * single point or segment end too, is finite and at most 1000000 in size. Moves,
@@ -35,6 +41,18 @@
 #ifdef __cplusplus
 extern "C" {
 #endif
+
+/* The interface that this header declares: each change of a function's parameters
+ * or of what it returns raises the number. A program compares it with that of the
+ * archive it was linked with, once and before any other call:
+ *
+ *     if (byr_abi_version() != BYR_ABI_VERSION) { .. header and archive are not of one tree .. }
+ *
+ * An archive from before there was a number does not link with such a program. */
+#define BYR_ABI_VERSION 1
+
+/* The interface of the archive. This function itself stays as it is. */
+uint32_t byr_abi_version(void);
 
 /* Why a call was refused. */
 enum {
@@ -92,7 +110,13 @@ uint32_t byr_orientation(double ax, double ay, double bx, double by, double cx, 
  * a p in line with a and b. */
 uint32_t byr_on_segment(double ax, double ay, double bx, double by, double px, double py, uint32_t *on);
 
-/* meet: 1 if the closed segments (x1,y1)-(x2,y2) and (x3,y3)-(x4,y4) meet, else 0. */
+/* meet: whether the closed segments (x1,y1)-(x2,y2) and (x3,y3)-(x4,y4) meet, as
+ * byr_orientation and byr_on_segment tell it, with their margins: 1 if the ends of
+ * each turn opposite ways from the other, or if an end of one has turn 0 from the
+ * other and lies in its widened box; else 0. So a gap below the margins counts as
+ * meeting. Segments so short that every determinant is within 1e-9 of 0, as two of
+ * 2e-5 that cross at a right angle, may cross and give 0. The determinants are
+ * rounded, so a close case may change with the ends of a segment exchanged. */
 uint32_t byr_segments_intersect(double x1, double y1, double x2, double y2, double x3, double y3, double x4,
                                 double y4, uint32_t *meet);
 
@@ -123,7 +147,8 @@ uint32_t byr_mirror_polygon(const double *ring, size_t n, double *room, size_t r
 uint32_t byr_open_ring(const double *ring, size_t n, double *room, size_t room_n, uint64_t *vertices);
 
 /* simple: 1 if there are three vertices or more, and no two edges meet but
- * neighbours; else 0. */
+ * neighbours, by byr_segments_intersect; else 0. A ring with a closing repeat is
+ * not simple. */
 uint32_t byr_is_simple_polygon(const double *ring, size_t n, uint32_t *simple);
 
 /* distance: the least from a vertex of one ring to an edge of the other; +infinity
@@ -205,16 +230,21 @@ uint32_t byr_polygons_overlap_with_tolerance(const double *a, size_t an, const d
 uint32_t byr_find_start_position(const double *stationary, size_t sn, const double *orbiting, size_t on, double *x,
                                  double *y);
 
-/* Writes a list of 0 to 10001 points without those in line with their neighbours;
- * all of them if fewer than three would be left. points: how many are written.
- * Refusals: 1, 2, 3, 5. */
+/* Writes those of a list of 0 to 10001 points that stay; all of them if fewer than
+ * three would. The last point's neighbour is the first. A point stays if the turn
+ * at it, a determinant rounded as it is worked out, is not exactly 0; or if it is
+ * farther than the tolerance from the segment between its neighbours, as the tip
+ * of a spike is. So the tolerance is for spikes: a point nearly in line stays. The
+ * neighbours are those of the list as lent: of two equal points side by side
+ * neither stays. points: how many are written. Refusals: 1, 2, 3, 5. */
 uint32_t byr_simplify_polygon(const double *list, size_t n, double tolerance, double *room, size_t room_n,
                               uint64_t *points);
 
-/* Traces the orbiting polygon round the stationary one. min_translation is finite
- * and not negative, max_iterations at most 10000; the Rust's defaults are 1e-6,
- * 1e-8 and 10000. The work room has an even length of 2 or more, the result room
- * is at least as long; 20002 always suffices for both.
+/* Traces the orbiting polygon round the stationary one. Closed drawings go through
+ * byr_open_ring first. min_translation is finite and not negative, max_iterations
+ * at most 10000; the Rust's defaults are 1e-6, 1e-8 and 10000. The work room has an
+ * even length of 2 or more, the result room is at least as long; 20002 always
+ * suffices for both.
  *
  * Success: the work room holds the path, stored points, and the result room the
  * path simplified, points points; passes are those begun, stop is a BYR_STOP_.
@@ -231,9 +261,12 @@ uint32_t byr_compute_nfp_sliding(const double *stationary, size_t sn, const doub
 /* ---- The outline book ---- */
 
 /* Writes the book of 1 to 8 rings of 3 to 256 vertices: coordinates has them one
- * after the other, counts the vertices of each. However a ring was begun and
- * whichever way it went, its book is the same. length: the book's bytes, 16 a
- * vertex, 8 a ring and 8; 32840 at most. Refusals: 1, 2, 4. */
+ * after the other, counts the vertices of each. Two rings give the same bytes
+ * exactly if they are the same vertices, bit for bit, begun at any of them and
+ * taken either way round. A closing repeat is a vertex like any other: the closed
+ * (0,0),(4,0),(0,3),(0,0) and (4,0),(0,3),(0,0),(4,0) have two books, and opened
+ * one. length: the book's bytes, 16 a vertex, 8 a ring and 8; 32840 at most.
+ * Refusals: 1, 2, 4. */
 uint32_t byr_write_book(const double *coordinates, size_t n, const uint32_t *counts, size_t rings, uint8_t *room,
                         size_t room_n, uint64_t *length);
 

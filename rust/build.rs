@@ -26,4 +26,5 @@ fn main() {
     println!("cargo:rerun-if-changed={}", folder.join(LIBRARY).display());
     println!("cargo:rustc-link-search=native={}", folder.display());
     println!("cargo:rustc-link-lib=static=byrlygent");
+    println!("cargo:rustc-env=BYRLYGENT_ARCHIVE={}", folder.join(LIBRARY).display());
 }

@@ -8,7 +8,7 @@ pub type Point = (f64, f64);
 pub type Result<T> = std::result::Result<T, Error>;
 
 /// How a trace went: the path before simplification, the passes begun and why
-/// it stopped (1 to 5, as document 01 numbers the reasons).
+/// it stopped (1 to 5, as docs/SCOPE.md numbers the reasons).
 #[derive(Debug, Clone, PartialEq)]
 pub struct Trace {
     pub path: Vec<Point>,

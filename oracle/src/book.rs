@@ -1,4 +1,4 @@
-//! The outline book, written from document 01 alone: a plain writer, reader and
+//! The outline book, written from docs/SCOPE.md alone: a plain writer, reader and
 //! printer for the proved ones to be compared with. Nothing is clever here; the
 //! least reading is found by laying all readings side by side.
 
@@ -78,6 +78,11 @@ pub fn layout(rings: &[Vec<Point>]) -> Vec<u8> {
     book
 }
 
+/// A file that keeps these rings as they are, least readings or not.
+pub fn file_of(rings: &[Vec<f64>]) -> Vec<u8> {
+    layout(&rings.iter().map(|ring| points_of(ring)).collect::<Vec<_>>())
+}
+
 /// 1 unless the counts are those of a book and the list is as long as their sum.
 fn lengths(coordinates: &[f64], counts: &[u32]) -> Answer<()> {
     unless((1..=MOST_RINGS).contains(&counts.len()), 1)?;
@@ -109,6 +114,21 @@ pub fn write_book(coordinates: &[f64], counts: &[u32], room: &mut [u8]) -> Answe
     unless(book.len() <= room.len(), 4)?;
     room[..book.len()].copy_from_slice(&book);
     Ok(book.len())
+}
+
+/// The book of these rings.
+pub fn book_of(rings: &[Vec<f64>]) -> Vec<u8> {
+    let counts: Vec<u32> = rings.iter().map(|ring| ring.len() as u32 / 2).collect();
+    let mut room = vec![0; MOST_BYTES];
+    let length = write_book(&rings.concat(), &counts, &mut room).expect("these rings make a book");
+    room[..length].to_vec()
+}
+
+/// The file with these bytes put in this place.
+pub fn patched(file: &[u8], place: usize, bytes: &[u8]) -> Vec<u8> {
+    let mut changed = file.to_vec();
+    changed[place..place + bytes.len()].copy_from_slice(bytes);
+    changed
 }
 
 // ---------------------------------------------------------------------------

@@ -1,4 +1,4 @@
-//! The answer that document 01 gives to each exported function but the book's
+//! The answer that docs/SCOPE.md gives to each exported function but the book's
 //! two: the refusals in their order, then the text over the fixed helpers.
 //! Lists are x, y alternating; a room is written on success only, at its front.
 
@@ -61,22 +61,6 @@ pub fn clamp(x: f64, lo: f64, hi: f64) -> f64 {
 /// The square root, rounded once.
 pub fn sqrt(x: f64) -> f64 {
     x.sqrt()
-}
-
-/// The least s, not negative, whose root is not below the tolerance; for a
-/// tolerance above 0 and at most 1.
-pub fn limit(tolerance: f64) -> f64 {
-    let mut below = 0.0_f64.to_bits();
-    let mut reached = 1.0_f64.to_bits();
-    while reached - below > 1 {
-        let middle = below + (reached - below) / 2;
-        if f64::from_bits(middle).sqrt() < tolerance {
-            below = middle;
-        } else {
-            reached = middle;
-        }
-    }
-    f64::from_bits(reached)
 }
 
 // ---------------------------------------------------------------------------
@@ -175,7 +159,7 @@ pub fn signed_area_robust(ring: &[f64]) -> Answer<f64> {
 // Contacts and vectors
 // ---------------------------------------------------------------------------
 
-/// Document 01's number of a contact's kind.
+/// docs/SCOPE.md's number of a contact's kind.
 fn kind_number(kind: ContactType) -> u64 {
     match kind {
         ContactType::VertexEdge => 0,

@@ -2,10 +2,10 @@
 //! proved code. docs/DIFFERENCES.md lists every change to the text.
 //!
 //! The files under `text/` are compiled three times. `fixed` gives them the
-//! helpers that document 01 fixes, `repository` those of the repository's own
+//! helpers that docs/SCOPE.md fixes, `repository` those of the repository's own
 //! text and of Rust's library, `swapped` the fixed ones with the two zeros in the
-//! other order. `calls` gives document 01's answers over `fixed`; `book` is no
-//! text of theirs, but the outline book written down from document 01.
+//! other order. `calls` gives docs/SCOPE.md's answers over `fixed`; `book` is no
+//! text of theirs, but the outline book written down from docs/SCOPE.md.
 
 #![allow(clippy::duplicate_mod)] // The text is compiled three times on purpose.
 
@@ -13,10 +13,12 @@ pub mod answers;
 pub mod book;
 pub mod calls;
 pub mod fixed;
+pub mod printer;
 pub mod refusals;
 pub mod replay;
 pub mod repository;
 pub mod seeded;
 pub mod shapes;
 pub mod slide;
+pub mod stored;
 pub mod swapped;

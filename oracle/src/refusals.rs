@@ -1,5 +1,5 @@
-//! Document 01's tests of lent lists, numbers, settings and rooms. Each answers
-//! the refusal number if its test fails; a call runs them in document 01's order.
+//! docs/SCOPE.md's tests of lent lists, numbers, settings and rooms. Each answers
+//! the refusal number if its test fails; a call runs them in docs/SCOPE.md's order.
 
 /// An answer, or the number of the refusal.
 pub type Answer<T> = Result<T, u32>;

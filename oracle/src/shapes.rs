@@ -2,7 +2,7 @@
 
 use crate::seeded::Seeded;
 
-/// The square of document 01's measured pieces with this side, at the origin.
+/// The square of docs/SCOPE.md's measured pieces with this side, at the origin.
 pub fn square(side: f64) -> Vec<f64> {
     vec![0.0, 0.0, side, 0.0, side, side, 0.0, side]
 }

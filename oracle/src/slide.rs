@@ -1,11 +1,15 @@
 //! The program that traces one ring of a book round another: what it prints for
 //! an input, and the inputs that the repository stores with their outputs.
 
-use crate::book::{layout, read_book, write_book, Unread, MOST_BYTES};
-use crate::calls::{compute_nfp_sliding, points_of, Traced};
+use crate::book::{book_of, file_of, read_book, Unread, MOST_BYTES};
+use crate::calls::{compute_nfp_sliding, Traced};
 use crate::refusals::{Settings, LARGEST, MOST_POINTS};
 use crate::replay::{answer_bits, bytes};
 use crate::shapes::{comb, disc, placed, square};
+use crate::stored::{Cases, Program};
+
+/// The program, with its stored cases.
+pub const PROGRAM: Program = Program { example, cases, printed };
 
 /// Bytes of the settings before the book.
 const SETTINGS: usize = 24;
@@ -70,14 +74,6 @@ fn settings_bytes(settings: &Settings) -> Vec<u8> {
     bytes(&[contact_tolerance.to_bits(), min_translation.to_bits(), *max_iterations])
 }
 
-/// The book of these rings.
-fn book_of(rings: &[Vec<f64>]) -> Vec<u8> {
-    let counts: Vec<u32> = rings.iter().map(|ring| ring.len() as u32 / 2).collect();
-    let mut room = vec![0; MOST_BYTES];
-    let length = write_book(&rings.concat(), &counts, &mut room).expect("these rings make a book");
-    room[..length].to_vec()
-}
-
 /// These settings before the book of these rings.
 fn input_of(settings: &Settings, rings: &[Vec<f64>]) -> Vec<u8> {
     [settings_bytes(settings), book_of(rings)].concat()
@@ -85,8 +81,7 @@ fn input_of(settings: &Settings, rings: &[Vec<f64>]) -> Vec<u8> {
 
 /// These settings before a file that keeps the rings as they are.
 fn unchecked(settings: &Settings, rings: &[Vec<f64>]) -> Vec<u8> {
-    let rings: Vec<_> = rings.iter().map(|ring| points_of(ring)).collect();
-    [settings_bytes(settings), layout(&rings)].concat()
+    [settings_bytes(settings), file_of(rings)].concat()
 }
 
 /// The settings with this pass limit.
@@ -101,7 +96,7 @@ pub fn example() -> Vec<u8> {
 }
 
 /// Inputs that are traced, by their names.
-fn paths() -> Vec<(&'static str, Vec<u8>)> {
+fn paths() -> Cases {
     let [s, q] = [square(4.0), square(2.0)];
     let ell = vec![0.0, 0.0, 4.0, 0.0, 4.0, 2.0, 2.0, 2.0, 2.0, 4.0, 0.0, 4.0];
     let wedge = vec![0.0, 0.0, 1.0, -3.0, 2.0, 0.0];
@@ -118,7 +113,7 @@ fn paths() -> Vec<(&'static str, Vec<u8>)> {
 }
 
 /// Crossing rings whose traces stop for the first three reasons.
-fn stopped() -> Vec<(&'static str, Vec<u8>)> {
+fn stopped() -> Cases {
     let input = |contact_tolerance, min_translation, rings: [&[f64]; 2]| {
         let settings = Settings { contact_tolerance, min_translation, max_iterations: 60 };
         input_of(&settings, &rings.map(<[f64]>::to_vec))
@@ -161,7 +156,7 @@ fn stopped() -> Vec<(&'static str, Vec<u8>)> {
 }
 
 /// Inputs whose settings or rings are refused, by their names.
-fn refused() -> Vec<(&'static str, Vec<u8>)> {
+fn refused() -> Cases {
     let pair = || [square(4.0), square(2.0)];
     let with = |settings: Settings| input_of(&settings, &pair());
     let widest = vec![disc(256, 1000.0); 8];
@@ -183,7 +178,7 @@ fn refused() -> Vec<(&'static str, Vec<u8>)> {
 }
 
 /// Inputs whose book is wrong, by their names.
-fn wrong() -> Vec<(&'static str, Vec<u8>)> {
+fn wrong() -> Cases {
     let least = vec![0.0, 0.0, 0.0, 4.0, 4.0, 4.0, 4.0, 0.0];
     let right = input_of(&DEFAULT, &[least.clone(), square(2.0)]);
     let bad = Settings { contact_tolerance: 2.0, ..DEFAULT };
@@ -208,6 +203,6 @@ fn turned(ring: &[f64]) -> Vec<f64> {
 }
 
 /// All stored cases, by their names.
-pub fn cases() -> Vec<(&'static str, Vec<u8>)> {
+pub fn cases() -> Cases {
     [paths(), stopped(), refused(), wrong()].concat()
 }

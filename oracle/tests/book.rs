@@ -1,11 +1,11 @@
-//! The outline book: document 01's example, the least reading, each refusal.
+//! The outline book: docs/SCOPE.md's example, the least reading, each refusal.
 
 use oracle::answers::Point;
 use oracle::book::{layout, least_reading, printed, read_book, readings, write_book, Unread};
 use oracle::calls::points_of;
 use oracle::seeded::Seeded;
 
-/// Document 01's ring, as lent.
+/// docs/SCOPE.md's ring, as lent.
 const RING: [f64; 6] = [4.0, 0.0, 0.0, 3.0, 0.0, 0.0];
 
 /// Its book: the rings, the entry (0, 3), one ring, the entries from byte 48.

@@ -105,7 +105,7 @@ fn trace_records_keep_their_bounds() {
     }
 }
 
-/// The checks of a book's reader, in the order of document 01.
+/// The checks of a book's reader, in the order of docs/SCOPE.md.
 #[derive(Debug, PartialEq, Eq, PartialOrd, Ord)]
 enum Check {
     Length,

@@ -1,4 +1,4 @@
-//! Document 01's measured pieces, starred or not, against the calls.
+//! docs/SCOPE.md's measured pieces, starred or not, against the calls.
 
 use oracle::calls::{self, Hit, Traced};
 use oracle::refusals::Settings;

@@ -1,7 +1,7 @@
-//! The machine's square root, and the limit of a tolerance, against whole
-//! numbers: over every such record of the replay list.
+//! The machine's square root against whole numbers: over every such record of
+//! the replay list.
 
-use oracle::replay::scalars::{records, LIMIT, SQRT};
+use oracle::replay::scalars::{records, SQRT};
 
 /// The whole part of the square root.
 fn whole_root(n: u128) -> u128 {
@@ -46,13 +46,4 @@ fn the_root_is_the_nearest_float() {
         tried += 1;
     }
     assert!(tried >= 2_400);
-}
-
-#[test]
-fn the_limit_is_the_least_that_reaches_the_tolerance() {
-    for record in records().into_iter().filter(|record| record[0] == LIMIT) {
-        let (tolerance, limit) = (f64::from_bits(record[1]), record[4]);
-        assert!(f64::from_bits(root_bits(limit)) >= tolerance);
-        assert!(limit == 1 || f64::from_bits(root_bits(limit - 1)) < tolerance);
-    }
 }

@@ -1,40 +1,7 @@
-//! The stored inputs of `slide_trace` are the oracle's, and so is what it must
-//! print for each; they end in every way there is.
+//! What `slide_trace` must print: its stored cases end in every way there is.
 
-use oracle::slide::{cases, example, printed};
+use oracle::slide::{cases, printed};
 use std::collections::BTreeSet;
-use std::path::PathBuf;
-
-/// A file of the program's crate.
-fn stored(name: &str) -> Vec<u8> {
-    let place = directory().join(name);
-    std::fs::read(&place).unwrap_or_else(|fault| panic!("{}: {fault}", place.display()))
-}
-
-/// The program's crate.
-fn directory() -> PathBuf {
-    PathBuf::from(env!("CARGO_MANIFEST_DIR")).join("../crates/slide_trace")
-}
-
-#[test]
-fn the_gate_has_the_oracles_answer() {
-    assert!(stored("stdin") == example());
-    assert!(stored("stdout") == printed(&example()).into_bytes());
-}
-
-#[test]
-fn each_case_has_the_oracles_answer() {
-    let mut names = BTreeSet::new();
-    for (name, input) in cases() {
-        assert!(stored(&format!("cases/{name}.in")) == input, "{name}");
-        assert!(stored(&format!("cases/{name}.out")) == printed(&input).into_bytes(), "{name}");
-        names.extend(["in", "out"].map(|end| format!("{name}.{end}")));
-    }
-    let files = std::fs::read_dir(directory().join("cases")).expect("the cases are there");
-    let files: BTreeSet<_> =
-        files.map(|file| file.expect("a file").file_name().into_string().expect("text")).collect();
-    assert_eq!(files, names);
-}
 
 #[test]
 fn the_cases_end_in_every_way() {

@@ -1,13 +1,54 @@
 //! The exported functions of the static library, as `include/byrlygent.h` has
-//! them.
+//! them. Each holds the archive's interface to the one that is declared here
+//! before it calls: an archive of another interface is a panic, and one from
+//! before there were numbers, without `byr_abi_version`, does not link.
 
-extern "C" {
-    pub fn byr_abs(x: f64) -> f64;
-    pub fn byr_smaller(a: f64, b: f64) -> f64;
-    pub fn byr_larger(a: f64, b: f64) -> f64;
-    pub fn byr_clamp(x: f64, lo: f64, hi: f64) -> f64;
-    pub fn byr_sqrt(x: f64) -> f64;
-    pub fn byr_orientation(
+#![allow(clippy::too_many_arguments)]
+
+/// The interface that is declared here: `BYR_ABI_VERSION` of the header.
+pub const ABI_VERSION: u32 = 1;
+
+/// Panics unless the archive has the interface that is declared here.
+pub fn hold_interface() {
+    // SAFETY: the function takes nothing, and is the same in every interface.
+    let number = unsafe { archive::byr_abi_version() };
+    assert!(
+        number == ABI_VERSION,
+        "libbyrlygent.a has interface {number}, and this crate is written for {ABI_VERSION}: \
+         take both from one tree"
+    );
+}
+
+/// Declares the functions of the archive in `archive`, and beside each the one
+/// to call.
+macro_rules! functions {
+    ($(fn $name:ident($($given:ident: $kind:ty),* $(,)?) -> $answer:ty;)*) => {
+        /// The functions as they stand in the archive, whichever it is.
+        pub mod archive {
+            extern "C" {
+                /// The number of the archive's interface.
+                pub fn byr_abi_version() -> u32;
+                $(pub fn $name($($given: $kind),*) -> $answer;)*
+            }
+        }
+
+        $(
+            /// The function of this name, of an archive with this interface.
+            pub unsafe fn $name($($given: $kind),*) -> $answer {
+                hold_interface();
+                archive::$name($($given),*)
+            }
+        )*
+    };
+}
+
+functions! {
+    fn byr_abs(x: f64) -> f64;
+    fn byr_smaller(a: f64, b: f64) -> f64;
+    fn byr_larger(a: f64, b: f64) -> f64;
+    fn byr_clamp(x: f64, lo: f64, hi: f64) -> f64;
+    fn byr_sqrt(x: f64) -> f64;
+    fn byr_orientation(
         ax: f64,
         ay: f64,
         bx: f64,
@@ -16,7 +57,7 @@ extern "C" {
         cy: f64,
         turn: *mut i32,
     ) -> u32;
-    pub fn byr_on_segment(
+    fn byr_on_segment(
         ax: f64,
         ay: f64,
         bx: f64,
@@ -25,7 +66,7 @@ extern "C" {
         py: f64,
         on: *mut u32,
     ) -> u32;
-    pub fn byr_segments_intersect(
+    fn byr_segments_intersect(
         x1: f64,
         y1: f64,
         x2: f64,
@@ -36,7 +77,7 @@ extern "C" {
         y4: f64,
         meet: *mut u32,
     ) -> u32;
-    pub fn byr_point_segment_distance(
+    fn byr_point_segment_distance(
         px: f64,
         py: f64,
         ax: f64,
@@ -45,7 +86,7 @@ extern "C" {
         by: f64,
         distance: *mut f64,
     ) -> u32;
-    pub fn byr_project_point_to_segment(
+    fn byr_project_point_to_segment(
         px: f64,
         py: f64,
         ax: f64,
@@ -54,7 +95,7 @@ extern "C" {
         by: f64,
         parameter: *mut f64,
     ) -> u32;
-    pub fn byr_point_to_segment_distance(
+    fn byr_point_to_segment_distance(
         px: f64,
         py: f64,
         ax: f64,
@@ -63,7 +104,7 @@ extern "C" {
         by: f64,
         distance: *mut f64,
     ) -> u32;
-    pub fn byr_point_on_segment(
+    fn byr_point_on_segment(
         px: f64,
         py: f64,
         ax: f64,
@@ -73,31 +114,31 @@ extern "C" {
         tolerance: f64,
         on: *mut u32,
     ) -> u32;
-    pub fn byr_mirror_polygon(
+    fn byr_mirror_polygon(
         ring: *const f64,
         n: usize,
         room: *mut f64,
         room_n: usize,
         vertices: *mut u64,
     ) -> u32;
-    pub fn byr_open_ring(
+    fn byr_open_ring(
         ring: *const f64,
         n: usize,
         room: *mut f64,
         room_n: usize,
         vertices: *mut u64,
     ) -> u32;
-    pub fn byr_is_simple_polygon(ring: *const f64, n: usize, simple: *mut u32) -> u32;
-    pub fn byr_ring_distance(
+    fn byr_is_simple_polygon(ring: *const f64, n: usize, simple: *mut u32) -> u32;
+    fn byr_ring_distance(
         a: *const f64,
         an: usize,
         b: *const f64,
         bn: usize,
         distance: *mut f64,
     ) -> u32;
-    pub fn byr_signed_area2(ring: *const f64, n: usize, area2: *mut f64) -> u32;
-    pub fn byr_signed_area_robust(ring: *const f64, n: usize, area: *mut f64) -> u32;
-    pub fn byr_find_contacts(
+    fn byr_signed_area2(ring: *const f64, n: usize, area2: *mut f64) -> u32;
+    fn byr_signed_area_robust(ring: *const f64, n: usize, area: *mut f64) -> u32;
+    fn byr_find_contacts(
         stationary: *const f64,
         sn: usize,
         orbiting: *const f64,
@@ -109,7 +150,7 @@ extern "C" {
         points_n: usize,
         count: *mut u64,
     ) -> u32;
-    pub fn byr_compute_translation_vectors(
+    fn byr_compute_translation_vectors(
         stationary: *const f64,
         sn: usize,
         orbiting: *const f64,
@@ -121,7 +162,7 @@ extern "C" {
         sources_n: usize,
         count: *mut u64,
     ) -> u32;
-    pub fn byr_handle_perfect_fit(
+    fn byr_handle_perfect_fit(
         stationary: *const f64,
         sn: usize,
         orbiting: *const f64,
@@ -137,7 +178,7 @@ extern "C" {
         sources_n: usize,
         count: *mut u64,
     ) -> u32;
-    pub fn byr_select_translation_vector(
+    fn byr_select_translation_vector(
         vectors: *const f64,
         n: usize,
         has_previous: u32,
@@ -150,7 +191,7 @@ extern "C" {
         found: *mut u32,
         index: *mut u64,
     ) -> u32;
-    pub fn byr_check_translation_collision(
+    fn byr_check_translation_collision(
         stationary: *const f64,
         sn: usize,
         orbiting: *const f64,
@@ -164,7 +205,7 @@ extern "C" {
         stationary_i: *mut u64,
         orbiting_i: *mut u64,
     ) -> u32;
-    pub fn byr_detect_interlocking_opportunity(
+    fn byr_detect_interlocking_opportunity(
         stationary: *const f64,
         sn: usize,
         orbiting: *const f64,
@@ -176,7 +217,7 @@ extern "C" {
         to_x: *mut f64,
         to_y: *mut f64,
     ) -> u32;
-    pub fn byr_recover_contact(
+    fn byr_recover_contact(
         stationary: *const f64,
         sn: usize,
         orbiting: *const f64,
@@ -188,14 +229,14 @@ extern "C" {
         to_x: *mut f64,
         to_y: *mut f64,
     ) -> u32;
-    pub fn byr_polygons_overlap(
+    fn byr_polygons_overlap(
         a: *const f64,
         an: usize,
         b: *const f64,
         bn: usize,
         overlap: *mut u32,
     ) -> u32;
-    pub fn byr_polygons_overlap_with_tolerance(
+    fn byr_polygons_overlap_with_tolerance(
         a: *const f64,
         an: usize,
         b: *const f64,
@@ -203,7 +244,7 @@ extern "C" {
         tolerance: f64,
         overlap: *mut u32,
     ) -> u32;
-    pub fn byr_find_start_position(
+    fn byr_find_start_position(
         stationary: *const f64,
         sn: usize,
         orbiting: *const f64,
@@ -211,7 +252,7 @@ extern "C" {
         x: *mut f64,
         y: *mut f64,
     ) -> u32;
-    pub fn byr_simplify_polygon(
+    fn byr_simplify_polygon(
         list: *const f64,
         n: usize,
         tolerance: f64,
@@ -219,7 +260,7 @@ extern "C" {
         room_n: usize,
         points: *mut u64,
     ) -> u32;
-    pub fn byr_compute_nfp_sliding(
+    fn byr_compute_nfp_sliding(
         stationary: *const f64,
         sn: usize,
         orbiting: *const f64,
@@ -236,7 +277,7 @@ extern "C" {
         passes: *mut u64,
         stop: *mut u32,
     ) -> u32;
-    pub fn byr_write_book(
+    fn byr_write_book(
         coordinates: *const f64,
         n: usize,
         counts: *const u32,
@@ -245,7 +286,7 @@ extern "C" {
         room_n: usize,
         length: *mut u64,
     ) -> u32;
-    pub fn byr_read_book(
+    fn byr_read_book(
         book: *const u8,
         n: usize,
         coordinates: *mut f64,
@@ -255,4 +296,16 @@ extern "C" {
         rings: *mut u64,
         place: *mut u64,
     ) -> u32;
+}
+
+#[cfg(test)]
+mod tests {
+    use super::{hold_interface, ABI_VERSION};
+
+    #[test]
+    fn archive_and_header_have_this_interface() {
+        hold_interface();
+        let declared = format!("#define BYR_ABI_VERSION {ABI_VERSION}\n");
+        assert!(include_str!("../../include/byrlygent.h").contains(&declared));
+    }
 }

@@ -4,8 +4,12 @@ use crate::refusal::plain;
 use crate::{Point, Result};
 
 /// The points as a list of numbers.
-pub fn flat(points: &[Point]) -> Vec<f64> {
-    points.iter().flat_map(|&(x, y)| [x, y]).collect()
+pub fn flat(points: &[impl Into<Point> + Copy]) -> Vec<f64> {
+    let numbers = |&point| {
+        let (x, y): Point = Into::into(point);
+        [x, y]
+    };
+    points.iter().flat_map(numbers).collect()
 }
 
 /// So many points from the front of a list of numbers.
@@ -14,7 +18,7 @@ pub fn points(list: &[f64], count: u64) -> Vec<Point> {
 }
 
 /// A function of the library that measures a point against a segment.
-pub type Measuring = unsafe extern "C" fn(f64, f64, f64, f64, f64, f64, *mut f64) -> u32;
+pub type Measuring = unsafe fn(f64, f64, f64, f64, f64, f64, *mut f64) -> u32;
 
 /// What such a function measures of p against the segment a-b.
 pub fn measured(measuring: Measuring, p: Point, a: Point, b: Point) -> Result<f64> {

@@ -16,6 +16,14 @@
 //! assert_eq!((nfp.passes, nfp.stop), (8, StopReason::Closed));
 //! # Ok::<(), byrlygent::Refusal>(())
 //! ```
+//!
+//! Rings are lent open: the last vertex is joined to the first. A closed drawing,
+//! whose last vertex repeats the first, goes through [`polygon_ops::open_ring`]
+//! before any other call. Lent as it is, the repeat counts as a vertex with an
+//! edge of no length.
+//!
+//! Each call first compares the number of the archive's interface with the one
+//! that this crate is written for, and panics where they differ.
 
 mod ffi;
 mod lent;
@@ -28,5 +36,12 @@ pub mod scalar;
 
 pub use refusal::{Refusal, Result};
 
-/// A point, or a vector.
+/// A point, or a vector. A list of points may hold anything that converts to it,
+/// such as `[f64; 2]`; a bare `&[]` tells no type, and is written `&[] as &[Point]`.
+///
+/// ```
+/// let corners = [[0.0, 0.0], [4.0, 0.0], [0.0, 3.0]];
+/// assert_eq!(byrlygent::polygon_ops::signed_area2(&corners)?, 12.0);
+/// # Ok::<(), byrlygent::Refusal>(())
+/// ```
 pub type Point = (f64, f64);

@@ -1,5 +1,5 @@
-//! The outline book: rings in a form that does not depend on where a drawing
-//! began or which way round it went.
+//! The outline book: rings in a form that does not depend on where an open ring
+//! was begun or which way round it went.
 
 use crate::lent::{flat, points};
 use crate::refusal::plain;
@@ -9,8 +9,10 @@ use crate::{ffi, Point, Refusal, Result};
 const MOST_COORDINATES: usize = 4096;
 const MOST_RINGS: usize = 8;
 
-/// The book of 1 to 8 rings of 3 to 256 vertices. A closing repeat is kept as a
-/// vertex: open the ring first.
+/// The book of 1 to 8 rings of 3 to 256 vertices. Two rings give the same bytes
+/// exactly if they are the same vertices, bit for bit, begun at any of them and
+/// taken either way round. A closing repeat is a vertex like any other, so the book
+/// of a closed drawing depends on where it was begun: open it first.
 ///
 /// ```
 /// use byrlygent::outline_book::{read_book, write_book};
@@ -19,9 +21,14 @@ const MOST_RINGS: usize = 8;
 /// let thursday = write_book(&[[(0.0, 0.0), (0.0, 3.0), (4.0, 0.0)]])?;
 /// assert_eq!(monday, thursday);
 /// assert_eq!(read_book(&monday)?, [[(0.0, 0.0), (0.0, 3.0), (4.0, 0.0)]]);
+///
+/// let closed = [(0.0, 0.0), (4.0, 0.0), (0.0, 3.0), (0.0, 0.0)];
+/// let elsewhere = [(4.0, 0.0), (0.0, 3.0), (0.0, 0.0), (4.0, 0.0)];
+/// assert_ne!(write_book(&[closed])?, write_book(&[elsewhere])?);
+/// assert_eq!(write_book(&[byrlygent::polygon_ops::open_ring(&elsewhere)?])?, monday);
 /// # Ok::<(), byrlygent::Refusal>(())
 /// ```
-pub fn write_book<R: AsRef<[Point]>>(rings: &[R]) -> Result<Vec<u8>> {
+pub fn write_book<R: AsRef<[P]>, P: Into<Point> + Copy>(rings: &[R]) -> Result<Vec<u8>> {
     let coordinates: Vec<f64> = rings.iter().flat_map(|ring| flat(ring.as_ref())).collect();
     // A ring that u32 cannot count is too long in any case.
     let count = |ring: &R| u32::try_from(ring.as_ref().len()).unwrap_or(u32::MAX);

@@ -23,13 +23,21 @@ pub fn on_segment(a: Point, b: Point, p: Point) -> Result<bool> {
     Ok(on != 0)
 }
 
-/// Whether the closed segments p1-p2 and p3-p4 meet.
+/// Whether the closed segments p1-p2 and p3-p4 meet, as [`orientation`] and
+/// [`on_segment`] tell it, with their margins: the ends of each turn opposite ways
+/// from the other, or an end of one has turn 0 from the other and lies in its
+/// widened box. So a gap below the margins counts as meeting. Segments so short
+/// that every determinant is within 1e-9 of 0 may cross and not meet; and the
+/// determinants are rounded, so a close case may change with the ends of a segment
+/// exchanged.
 ///
 /// ```
 /// use byrlygent::polygon_ops::segments_intersect;
 ///
 /// assert!(segments_intersect((0.0, 0.0), (4.0, 4.0), (0.0, 4.0), (4.0, 0.0))?);
 /// assert!(!segments_intersect((0.0, 0.0), (1.0, 1.0), (0.0, 4.0), (4.0, 0.0))?);
+/// assert!(segments_intersect((0.0, 0.0), (1.0, 0.0), (1.0 + 5e-10, 0.0), (2.0, 0.0))?);
+/// assert!(!segments_intersect((-1e-5, 0.0), (1e-5, 0.0), (0.0, -1e-5), (0.0, 1e-5))?);
 /// # Ok::<(), byrlygent::Refusal>(())
 /// ```
 pub fn segments_intersect(p1: Point, p2: Point, p3: Point, p4: Point) -> Result<bool> {
@@ -53,27 +61,28 @@ pub fn point_segment_distance(p: Point, a: Point, b: Point) -> Result<f64> {
 /// assert_eq!(mirrored, [(-0.0, 3.0), (-4.0, 0.0), (-0.0, 0.0)]);
 /// # Ok::<(), byrlygent::Refusal>(())
 /// ```
-pub fn mirror_polygon(vertices: &[Point]) -> Result<Vec<Point>> {
+pub fn mirror_polygon(vertices: &[impl Into<Point> + Copy]) -> Result<Vec<Point>> {
     copied(vertices, ffi::byr_mirror_polygon)
 }
 
 /// The ring without its last vertex if there are more than three and the last
-/// equals the first, else the ring.
+/// equals the first, else the ring. A closed drawing is to go through this before
+/// any other call.
 ///
 /// ```
 /// let ring = [(0.0, 0.0), (4.0, 0.0), (0.0, 3.0), (0.0, 0.0)];
 /// assert_eq!(byrlygent::polygon_ops::open_ring(&ring)?, ring[..3]);
 /// # Ok::<(), byrlygent::Refusal>(())
 /// ```
-pub fn open_ring(vertices: &[Point]) -> Result<Vec<Point>> {
+pub fn open_ring(vertices: &[impl Into<Point> + Copy]) -> Result<Vec<Point>> {
     copied(vertices, ffi::byr_open_ring)
 }
 
 /// A function of the library that writes some of a ring's vertices to a room.
-type Copying = unsafe extern "C" fn(*const f64, usize, *mut f64, usize, *mut u64) -> u32;
+type Copying = unsafe fn(*const f64, usize, *mut f64, usize, *mut u64) -> u32;
 
 /// What a function that copies a ring writes.
-fn copied(vertices: &[Point], copying: Copying) -> Result<Vec<Point>> {
+fn copied(vertices: &[impl Into<Point> + Copy], copying: Copying) -> Result<Vec<Point>> {
     let ring = flat(vertices);
     let (mut room, mut count) = (vec![0.0; ring.len()], 0);
     // SAFETY: both lists are as long as is said, and the answer has a place.
@@ -84,14 +93,15 @@ fn copied(vertices: &[Point], copying: Copying) -> Result<Vec<Point>> {
 }
 
 /// Whether the ring has three vertices or more, and no two edges meet but
-/// neighbours.
+/// neighbours, by [`segments_intersect`]. A ring with a closing repeat is not
+/// simple.
 ///
 /// ```
 /// let bow = [(0.0, 0.0), (2.0, 2.0), (2.0, 0.0), (0.0, 2.0)];
 /// assert!(!byrlygent::polygon_ops::is_simple_polygon(&bow)?);
 /// # Ok::<(), byrlygent::Refusal>(())
 /// ```
-pub fn is_simple_polygon(vertices: &[Point]) -> Result<bool> {
+pub fn is_simple_polygon(vertices: &[impl Into<Point> + Copy]) -> Result<bool> {
     let (ring, mut simple) = (flat(vertices), 0);
     // SAFETY: the list is as long as is said, and the answer has a place.
     plain(unsafe { ffi::byr_is_simple_polygon(ring.as_ptr(), ring.len(), &mut simple) })?;
@@ -100,7 +110,7 @@ pub fn is_simple_polygon(vertices: &[Point]) -> Result<bool> {
 
 /// The least distance from a vertex of one ring to an edge of the other, +infinity
 /// if a ring has no vertex; the rings' distance if they do not cross.
-pub fn ring_distance(a: &[Point], b: &[Point]) -> Result<f64> {
+pub fn ring_distance(a: &[impl Into<Point> + Copy], b: &[impl Into<Point> + Copy]) -> Result<f64> {
     let (a, b, mut distance) = (flat(a), flat(b), 0.0);
     // SAFETY: both lists are as long as is said, and the answer has a place.
     plain(unsafe {
@@ -110,7 +120,7 @@ pub fn ring_distance(a: &[Point], b: &[Point]) -> Result<f64> {
 }
 
 /// Twice the signed area, above 0 for counter-clockwise order.
-pub fn signed_area2(vertices: &[Point]) -> Result<f64> {
+pub fn signed_area2(vertices: &[impl Into<Point> + Copy]) -> Result<f64> {
     let (ring, mut area2) = (flat(vertices), 0.0);
     // SAFETY: the list is as long as is said, and the answer has a place.
     plain(unsafe { ffi::byr_signed_area2(ring.as_ptr(), ring.len(), &mut area2) })?;

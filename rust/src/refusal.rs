@@ -7,8 +7,10 @@ use std::fmt;
 pub type Result<T> = std::result::Result<T, Refusal>;
 
 /// Why a call gave no answer. The library's refusals 4 and 5 are not among these:
-/// they speak of lent rooms, and the rooms lent here are long enough.
+/// they speak of lent rooms, and the rooms lent here are long enough. Later
+/// versions may have more.
 #[derive(Debug, Clone, Copy, PartialEq, Eq)]
+#[non_exhaustive]
 pub enum Refusal {
     /// Refusal 1: a list has a wrong length.
     Length,

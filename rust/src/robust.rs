@@ -12,7 +12,7 @@ use crate::{ffi, Point, Result};
 /// assert_eq!(area, 6.0);
 /// # Ok::<(), byrlygent::Refusal>(())
 /// ```
-pub fn signed_area_robust(polygon: &[Point]) -> Result<f64> {
+pub fn signed_area_robust(polygon: &[impl Into<Point> + Copy]) -> Result<f64> {
     let (polygon, mut area) = (flat(polygon), 0.0);
     // SAFETY: the list is as long as is said, and the answer has a place.
     plain(unsafe { ffi::byr_signed_area_robust(polygon.as_ptr(), polygon.len(), &mut area) })?;

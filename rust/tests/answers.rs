@@ -1,4 +1,4 @@
-//! Known answers through the safe calls: document 01's pieces, empty lists, and
+//! Known answers through the safe calls: docs/SCOPE.md's pieces, empty lists, and
 //! answers longer than the room that is tried first.
 
 use byrlygent::nfp_sliding::{self, Contact, ContactType, SlidingNfpConfig, StopReason};
@@ -29,15 +29,43 @@ fn scalars_take_every_float() {
 
 #[test]
 fn rings_of_no_vertex_are_taken() {
-    assert_eq!(polygon_ops::mirror_polygon(&[]), Ok(vec![]));
-    assert_eq!(polygon_ops::open_ring(&[]), Ok(vec![]));
-    assert_eq!(polygon_ops::is_simple_polygon(&[]), Ok(false));
-    assert_eq!(polygon_ops::ring_distance(&[], &S), Ok(f64::INFINITY));
-    assert_eq!(polygon_ops::signed_area2(&[]).map(f64::to_bits), Ok(0));
-    assert_eq!(robust::signed_area_robust(&[]), Ok(0.0));
-    assert_eq!(nfp_sliding::simplify_polygon(&[], TOLERANCE), Ok(vec![]));
+    let none: [Point; 0] = [];
+    assert_eq!(polygon_ops::mirror_polygon(&none), Ok(vec![]));
+    assert_eq!(polygon_ops::open_ring(&none), Ok(vec![]));
+    assert_eq!(polygon_ops::is_simple_polygon(&none), Ok(false));
+    assert_eq!(polygon_ops::ring_distance(&none, &S), Ok(f64::INFINITY));
+    assert_eq!(polygon_ops::signed_area2(&none).map(f64::to_bits), Ok(0));
+    assert_eq!(robust::signed_area_robust(&none), Ok(0.0));
+    assert_eq!(nfp_sliding::simplify_polygon(&none, TOLERANCE), Ok(vec![]));
     let selected = nfp_sliding::select_translation_vector(&[], None, (0.0, 0.0), (1.0, 0.0));
     assert_eq!(selected, None);
+}
+
+/// A program's own point.
+#[derive(Clone, Copy)]
+struct Corner {
+    x: f64,
+    y: f64,
+}
+
+impl From<Corner> for Point {
+    fn from(corner: Corner) -> Self {
+        (corner.x, corner.y)
+    }
+}
+
+#[test]
+fn lists_hold_whatever_converts_to_a_point() {
+    let arrays = S.map(|(x, y)| [x, y]);
+    let corners = S.map(|(x, y)| Corner { x, y });
+    assert_eq!(polygon_ops::signed_area2(&arrays), Ok(32.0));
+    assert_eq!(polygon_ops::mirror_polygon(&corners), polygon_ops::mirror_polygon(&S));
+    let default = SlidingNfpConfig::default();
+    let traced = nfp_sliding::compute_nfp_sliding(&arrays, &corners, &default);
+    assert_eq!(traced, nfp_sliding::compute_nfp_sliding(&S, &S, &default));
+    assert_eq!(traced.map(|nfp| (nfp.passes, nfp.stop)), Ok((8, StopReason::Closed)));
+    assert_eq!(write_book(&[arrays]), write_book(&[&S[..]]));
+    assert_eq!(write_book(&[corners.to_vec()]), write_book(&[S]));
 }
 
 #[test]

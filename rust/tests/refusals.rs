@@ -11,6 +11,11 @@ fn trace(config: SlidingNfpConfig) -> Result<u64, Refusal> {
     compute_nfp_sliding(&SQUARE, &SQUARE, &config).map(|nfp| nfp.passes)
 }
 
+/// The next float after a positive one.
+fn after(x: f64) -> f64 {
+    f64::from_bits(x.to_bits() + 1)
+}
+
 /// The square with this number in place of a coordinate.
 fn with(number: f64) -> [Point; 4] {
     let mut square = SQUARE;
@@ -66,7 +71,7 @@ fn polygons_have_3_to_256_vertices_and_rings_up_to_256() {
 #[test]
 fn coordinates_are_finite_and_at_most_a_million() {
     assert!(polygon_ops::is_simple_polygon(&with(1e6)).is_ok());
-    for number in [1e6_f64.next_up(), f64::NAN, f64::INFINITY, f64::NEG_INFINITY] {
+    for number in [after(1e6), f64::NAN, f64::INFINITY, f64::NEG_INFINITY] {
         let ring = with(number);
         assert_eq!(polygon_ops::is_simple_polygon(&ring), Err(Refusal::Number));
         assert_eq!(robust::signed_area_robust(&ring), Err(Refusal::Number));
@@ -81,7 +86,7 @@ fn coordinates_are_finite_and_at_most_a_million() {
 fn settings_keep_their_bounds() {
     let default = SlidingNfpConfig::default();
     assert_eq!(trace(default), Ok(8));
-    for contact_tolerance in [0.0, -0.0, 1.0_f64.next_up(), f64::NAN] {
+    for contact_tolerance in [0.0, -0.0, after(1.0), f64::NAN] {
         assert_eq!(trace(SlidingNfpConfig { contact_tolerance, ..default }), Err(Refusal::Setting));
         let found = nfp_sliding::find_contacts(&SQUARE, &SQUARE, contact_tolerance);
         assert_eq!(found, Err(Refusal::Setting));
@@ -121,7 +126,7 @@ fn a_wrong_book_tells_the_place() {
 
 #[test]
 fn books_of_no_ring_or_of_nine_are_refused() {
-    assert_eq!(write_book::<Vec<Point>>(&[]), Err(Refusal::Length));
+    assert_eq!(write_book::<Vec<Point>, Point>(&[]), Err(Refusal::Length));
     assert_eq!(write_book(&[SQUARE; 9]), Err(Refusal::Length));
     assert_eq!(write_book(&[&SQUARE[..2]]), Err(Refusal::Length));
     assert_eq!(write_book(&[SQUARE; 8]).map(|book| book.len()), Ok(8 * 72 + 8));

@@ -1,14 +1,16 @@
--- Numbers in bytes, and what a layout is read back as. Assumes nothing.
-use Prim.Native.Nat.{ℕ, zero, suc, _+_, _*_, _/_, _^_, _≤_, _<_}
+-- What a layout is read back as, part by part. Assumes nothing.
+use Prim.Native.Nat.{ℕ, _+_, _*_, _^_, _≤_, _<_}
 use native.Mathlib.Omega.{arith}
-use native.Mathlib.Nat.{pow-succ'}
 use mathlib.Core.Path.{_≡_, refl, sym, ap, _∙_}
 use mathlib.Core.List.{List, [], _∷_, _++_, map, append-assoc}
 use lib.ListN.{length, take, drop, length-append}
 use Rattle.ring.specs.Room.{laid}
-use lib.Seq.{sets, sets-eq, take-at, drop-at, drop-drop}
+use lib.Seq.{sets, sets-eq, drop-at, drop-drop}
 use Rattle.reading.specs.Reading.{Vertex, flat, vertices}
-use Rattle.book_layout.specs.Layout.{bytesOf, numberOf, coordBytes, body, entries, Each, Corner, Outline, coordsIn, countsIn, ringsIn}
+use Rattle.number_bytes.specs.Bytes.{bytesOf, numberOf, Each}
+use Rattle.number_bytes.proofs.Bytes.{length-bytesOf, take-number, drop-number}
+use Rattle.refusals.specs.Rings.{verticesMost}
+use Rattle.book_layout.specs.Layout.{fieldBytes, coordinateBytes, vertexBytes, entryBytes, coordBytes, body, entries, Corner, Outline, coordsIn, countsIn, ringsIn}
 use Rattle.reading.proofs.Leasts.{vertices-flat, length-flat}
 
 -- ---- a list stored at the front of a room that it fits
@@ -16,50 +18,27 @@ use Rattle.reading.proofs.Leasts.{vertices-flat, length-flat}
 pub laid-is : {A : Type 0} (l room : List A) → length l ≤ length room → sets room 0 l ≡ laid l room
 laid-is l room h = let e : 0 + length l ≡ length l = omega arith in sets-eq l room 0 (omega arith) ∙ ap (λ (j : ℕ). l ++ drop j room) e
 
--- ---- a number
-
-pub length-bytesOf : (k n : ℕ) → length (bytesOf k n) ≡ k
-unfolding bytesOf
-length-bytesOf zero n = refl
-length-bytesOf (suc k) n = ap suc (length-bytesOf k (n / 256))
-
-quotient : (n m : ℕ) → n < 256 * m → n / 256 < m
-quotient n m h = omega arith
-
-number-bytes : (k n : ℕ) → n < 256 ^ k → numberOf (bytesOf k n) ≡ n
-unfolding bytesOf numberOf
-number-bytes zero n h = omega arith
-number-bytes (suc k) n h =
-    let e : numberOf (bytesOf k (n / 256)) ≡ n / 256 = number-bytes k (n / 256) (quotient n (256 ^ k) (rw pow-succ' at h)) in
-    omega arith
-
-pub take-number : (k n : ℕ) (q : List ℕ) → n < 256 ^ k → numberOf (take k (bytesOf k n ++ q)) ≡ n
-take-number k n q h = ap numberOf (take-at (bytesOf k n) q k (length-bytesOf k n)) ∙ number-bytes k n h
-
-pub drop-number : (k n : ℕ) (q : List ℕ) → drop k (bytesOf k n ++ q) ≡ q
-drop-number k n q = drop-at (bytesOf k n) q k (length-bytesOf k n)
-
 -- ---- the coordinates
 
-length-coordBytes : (l : List ℕ) → length (coordBytes l) ≡ 8 * length l
+length-coordBytes : (l : List ℕ) → length (coordBytes l) ≡ coordinateBytes * length l
 unfolding coordBytes
 length-coordBytes [] = refl
 length-coordBytes (c ∷ l) =
-    length-append (bytesOf 8 c) (coordBytes l)
-    ∙ (let e = length-coordBytes l in let e' = length-bytesOf 8 c in omega arith)
+    length-append (bytesOf coordinateBytes c) (coordBytes l)
+    ∙ (let e = length-coordBytes l in let e' = length-bytesOf coordinateBytes c in omega arith)
 
-pub length-ring : (r : List Vertex) → length (coordBytes (flat r)) ≡ 16 * length r
+pub length-ring : (r : List Vertex) → length (coordBytes (flat r)) ≡ vertexBytes * length r
 length-ring r = omega (arith, length-coordBytes (flat r), length-flat r)
 
--- every coordinate is 8 bytes long
+-- every coordinate is one that its bytes hold
 abbrev Fits : ℕ → Type 0
-Fits c = c < 2 ^ 64
+Fits c = c < 256 ^ coordinateBytes
 
 coords-back : (l q : List ℕ) → Each Fits l → coordsIn (length l) (coordBytes l ++ q) ≡ l
 unfolding coordsIn coordBytes
 coords-back [] q h = refl
 coords-back (c ∷ l) q h =
-    rw (append-assoc (bytesOf 8 c) (coordBytes l) q, take-number 8 c (coordBytes l ++ q) (h .0), drop-number 8 c (coordBytes l ++ q))
+    rw (append-assoc (bytesOf coordinateBytes c) (coordBytes l) q, take-number coordinateBytes c (coordBytes l ++ q) (h .0), drop-number coordinateBytes c (coordBytes l ++ q))
     (ap (λ (t : List ℕ). c ∷ t) (coords-back l q (h .1)))
 
 fits-flat : (r : List Vertex) → Each Corner r → Each Fits (flat r)
@@ -78,46 +57,46 @@ pub rings-back : (rs : List (List Vertex)) (q : List ℕ) → Each Outline rs �
 unfolding ringsIn body
 rings-back [] q h = refl
 rings-back (r ∷ rs) q h =
-    rw (append-assoc (coordBytes (flat r)) (body rs) q, ring-back r (body rs ++ q) (h .0 .corners), drop-at (coordBytes (flat r)) (body rs ++ q) (16 * length r) (length-ring r))
+    rw (append-assoc (coordBytes (flat r)) (body rs) q, ring-back r (body rs ++ q) (h .0 .corners), drop-at (coordBytes (flat r)) (body rs ++ q) (vertexBytes * length r) (length-ring r))
     (ap (λ (t : List (List Vertex)). r ∷ t) (rings-back rs q (h .1)))
 
 -- ---- the entries
 
-pub length-entries : (at : ℕ) (ns : List ℕ) → length (entries at ns) ≡ 8 * length ns
+pub length-entries : (at : ℕ) (ns : List ℕ) → length (entries at ns) ≡ entryBytes * length ns
 unfolding entries
 length-entries at [] = refl
 length-entries at (n ∷ ns) =
-    length-append (bytesOf 4 at) (bytesOf 4 n ++ entries (at + 16 * n) ns)
-    ∙ (let e = length-append (bytesOf 4 n) (entries (at + 16 * n) ns) in
-    let e' = length-entries (at + 16 * n) ns in
-    let d = length-bytesOf 4 at in
-    let d' = length-bytesOf 4 n in
+    length-append (bytesOf fieldBytes at) (bytesOf fieldBytes n ++ entries (at + vertexBytes * n) ns)
+    ∙ (let e = length-append (bytesOf fieldBytes n) (entries (at + vertexBytes * n) ns) in
+    let e' = length-entries (at + vertexBytes * n) ns in
+    let d = length-bytesOf fieldBytes at in
+    let d' = length-bytesOf fieldBytes n in
     omega arith)
 
 -- the first entry, and what follows it
 module _ (at n : ℕ) (ns q : List ℕ) where
   abbrev after : List ℕ
-  after = entries (at + 16 * n) ns ++ q
+  after = entries (at + vertexBytes * n) ns ++ q
 
-  entry-is : entries at (n ∷ ns) ++ q ≡ bytesOf 4 at ++ (bytesOf 4 n ++ after)
+  entry-is : entries at (n ∷ ns) ++ q ≡ bytesOf fieldBytes at ++ (bytesOf fieldBytes n ++ after)
   unfolding entries
   entry-is = simp append-assoc
 
-  entry-second : drop 4 (entries at (n ∷ ns) ++ q) ≡ bytesOf 4 n ++ after
-  entry-second = ap (drop 4) entry-is ∙ drop-number 4 at (bytesOf 4 n ++ after)
+  entry-second : drop fieldBytes (entries at (n ∷ ns) ++ q) ≡ bytesOf fieldBytes n ++ after
+  entry-second = ap (drop fieldBytes) entry-is ∙ drop-number fieldBytes at (bytesOf fieldBytes n ++ after)
 
-  pub entry-offset : at < 256 ^ 4 → numberOf (take 4 (entries at (n ∷ ns) ++ q)) ≡ at
-  entry-offset h = ap (λ (l : List ℕ). numberOf (take 4 l)) entry-is ∙ take-number 4 at (bytesOf 4 n ++ after) h
+  pub entry-offset : at < 256 ^ fieldBytes → numberOf (take fieldBytes (entries at (n ∷ ns) ++ q)) ≡ at
+  entry-offset h = ap (λ (l : List ℕ). numberOf (take fieldBytes l)) entry-is ∙ take-number fieldBytes at (bytesOf fieldBytes n ++ after) h
 
-  pub entry-count : n < 256 ^ 4 → numberOf (take 4 (drop 4 (entries at (n ∷ ns) ++ q))) ≡ n
-  entry-count h = ap (λ (l : List ℕ). numberOf (take 4 l)) entry-second ∙ take-number 4 n after h
+  pub entry-count : n < 256 ^ fieldBytes → numberOf (take fieldBytes (drop fieldBytes (entries at (n ∷ ns) ++ q))) ≡ n
+  entry-count h = ap (λ (l : List ℕ). numberOf (take fieldBytes l)) entry-second ∙ take-number fieldBytes n after h
 
-  pub entry-rest : drop 8 (entries at (n ∷ ns) ++ q) ≡ after
-  entry-rest = sym (drop-drop 4 4 (entries at (n ∷ ns) ++ q)) ∙ ap (drop 4) entry-second ∙ drop-number 4 n after
+  pub entry-rest : drop entryBytes (entries at (n ∷ ns) ++ q) ≡ after
+  entry-rest = sym (drop-drop fieldBytes fieldBytes (entries at (n ∷ ns) ++ q)) ∙ ap (drop fieldBytes) entry-second ∙ drop-number fieldBytes n after
 
-pub counts-back : (at : ℕ) (ns q : List ℕ) → Each (λ (n : ℕ). n ≤ 256) ns → countsIn (length ns) (entries at ns ++ q) ≡ ns
+pub counts-back : (at : ℕ) (ns q : List ℕ) → Each (λ (n : ℕ). n ≤ verticesMost) ns → countsIn (length ns) (entries at ns ++ q) ≡ ns
 unfolding countsIn
 counts-back at [] q h = refl
 counts-back at (n ∷ ns) q h =
     rw (entry-count at n ns q (omega (arith, h .0)), entry-rest at n ns q)
-    (ap (λ (l : List ℕ). n ∷ l) (counts-back (at + 16 * n) ns q (h .1)))
+    (ap (λ (l : List ℕ). n ∷ l) (counts-back (at + vertexBytes * n) ns q (h .1)))

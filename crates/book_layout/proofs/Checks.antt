@@ -11,28 +11,32 @@ use borrow.Author.Tests.{eq-eqb}
 use Rattle.refusals.specs.Refusals.{passed, first}
 use Rattle.refusals.proofs.First.{first-assoc}
 use Rattle.reading.specs.Reading.{Vertex, flat, leastReading}
-use Rattle.book_layout.specs.Layout.{within, total, bytesOf, numberOf, coordBytes, body, entries, layout, Each, coordinateBits, Coordinate, Corner, Outline, Accepted, ringCount, entryOffset, countsOf}
+use Rattle.number_bytes.specs.Bytes.{bytesOf, numberOf, Each}
+use Rattle.number_bytes.proofs.Bytes.{take-number, drop-number}
+use Rattle.refusals.specs.Rings.{verticesLeast, verticesMost, ringsMost, within, total}
+use Rattle.book_layout.specs.Layout.{fieldBytes, coordinateBytes, vertexBytes, entryBytes, tailBytes, bookLeast, bookMost, coordBytes, body, entries, layout, coordinateBits, Coordinate, Corner, Outline, Accepted, ringCount, entryOffset, countsOf}
 use Rattle.book_layout.specs.Faults.{fault, entriesCheck, coordsCheck, leastCheck, bookCheck, _passes}
-use Rattle.book_layout.proofs.Bytes.{take-number, drop-number, length-ring, entry-offset, entry-count, entry-rest, ring-back}
-use Rattle.book_layout.proofs.Passing.{pass, within-true}
+use Rattle.book_layout.proofs.Bytes.{length-ring, entry-offset, entry-count, entry-rest, ring-back}
+use Rattle.refusals.proofs.Counts.{within-true}
+use Rattle.book_layout.proofs.Passing.{pass}
 use Rattle.book_layout.proofs.Laid.{tail, layout-is, length-layout, body-most, body-least, count-back, offset-back, counts-of}
 use Rattle.reading.proofs.Leasts.{length-flat}
 use Rattle.reading.proofs.Own.{is-own}
 
 -- ---- the entries
 
-entries-pass : (ns q : List ℕ) (at before : ℕ) → Each (λ (n : ℕ). (3 ≤ n) × (n ≤ 256)) ns → before + 16 * total ns < 256 ^ 4
+entries-pass : (ns q : List ℕ) (at before : ℕ) → Each (λ (n : ℕ). (verticesLeast ≤ n) × (n ≤ verticesMost)) ns → before + vertexBytes * total ns < 256 ^ fieldBytes
     → entriesCheck (length ns) at before (entries before ns ++ q) passes
 unfolding entriesCheck total
 entries-pass [] q at before h s = refl
 entries-pass (n ∷ ns) q at before h s =
     let f = entries before (n ∷ ns) ++ q in
-    let a : numberOf (take 4 f) ≡ before = entry-offset before n ns q (omega arith) in
-    let b : numberOf (take 4 (drop 4 f)) ≡ n = entry-count before n ns q (omega (arith, h .0 .1)) in
-    let d : drop 8 f ≡ entries (before + 16 * n) ns ++ q = entry-rest before n ns q in
+    let a : numberOf (take fieldBytes f) ≡ before = entry-offset before n ns q (omega arith) in
+    let b : numberOf (take fieldBytes (drop fieldBytes f)) ≡ n = entry-count before n ns q (omega (arith, h .0 .1)) in
+    let d : drop entryBytes f ≡ entries (before + vertexBytes * n) ns ++ q = entry-rest before n ns q in
     let t : eqb before before ≡ true = eq-eqb before before refl in
-    let u : within 3 256 n ≡ true = within-true 3 256 n (h .0 .0) (h .0 .1) in
-    rw (a, b, d, t, u) (entries-pass ns q (at + 8) (before + 16 * n) (h .1) (omega arith))
+    let u : within verticesLeast verticesMost n ≡ true = within-true verticesLeast verticesMost n (h .0 .0) (h .0 .1) in
+    rw (a, b, d, t, u) (entries-pass ns q (at + entryBytes) (before + vertexBytes * n) (h .1) (omega arith))
 
 -- ---- the coordinates
 
@@ -40,23 +44,23 @@ coords-pass : (l q : List ℕ) (at : ℕ) → Each Coordinate l → coordsCheck 
 unfolding coordsCheck coordBytes
 coords-pass [] q at h = refl
 coords-pass (c ∷ l) q at h =
-    rw (append-assoc (bytesOf 8 c) (coordBytes l) q, take-number 8 c (coordBytes l ++ q) (h .0 .pattern), drop-number 8 c (coordBytes l ++ q), h .0 .bounded)
-    (coords-pass l q (at + 8) (h .1))
+    rw (append-assoc (bytesOf coordinateBytes c) (coordBytes l) q, take-number coordinateBytes c (coordBytes l ++ q) (h .0 .pattern), drop-number coordinateBytes c (coordBytes l ++ q), h .0 .bounded)
+    (coords-pass l q (at + coordinateBytes) (h .1))
 
-pub coords-split : (a b at : ℕ) (f : List ℕ) → coordsCheck (a + b) at f ≡ first (coordsCheck a at f) (coordsCheck b (at + 8 * a) (drop (8 * a) f))
+pub coords-split : (a b at : ℕ) (f : List ℕ) → coordsCheck (a + b) at f ≡ first (coordsCheck a at f) (coordsCheck b (at + coordinateBytes * a) (drop (coordinateBytes * a) f))
 unfolding coordsCheck
 coords-split zero b at f =
     let e : 0 + b ≡ b = omega arith in
-    let d : at ≡ at + 8 * 0 = omega arith in
+    let d : at ≡ at + coordinateBytes * 0 = omega arith in
     ap₂ (λ (m n : ℕ). coordsCheck m n f) e d
 coords-split (suc a) b at f =
     let e : suc a + b ≡ suc (a + b) = omega arith in
-    let z : 8 + 8 * a ≡ 8 * suc a = omega arith in
-    let d : drop (8 * a) (drop 8 f) ≡ drop (8 * suc a) f = drop-drop (8 * a) 8 f ∙ ap (λ (m : ℕ). drop m f) z in
-    let d' : at + 8 + 8 * a ≡ at + 8 * suc a = omega arith in
+    let z : coordinateBytes + coordinateBytes * a ≡ coordinateBytes * suc a = omega arith in
+    let d : drop (coordinateBytes * a) (drop coordinateBytes f) ≡ drop (coordinateBytes * suc a) f = drop-drop (coordinateBytes * a) coordinateBytes f ∙ ap (λ (m : ℕ). drop m f) z in
+    let d' : at + coordinateBytes + coordinateBytes * a ≡ at + coordinateBytes * suc a = omega arith in
     ap (λ (m : ℕ). coordsCheck m at f) e
-    ∙ ap (first (fault (coordinateBits (numberOf (take 8 f))) at)) (coords-split a b (at + 8) (drop 8 f) ∙ ap₂ (λ (m : ℕ) (g : List ℕ). first (coordsCheck a (at + 8) (drop 8 f)) (coordsCheck b m g)) d' d)
-    ∙ sym (first-assoc (fault (coordinateBits (numberOf (take 8 f))) at) (coordsCheck a (at + 8) (drop 8 f)) (coordsCheck b (at + 8 * suc a) (drop (8 * suc a) f)))
+    ∙ ap (first (fault (coordinateBits (numberOf (take coordinateBytes f))) at)) (coords-split a b (at + coordinateBytes) (drop coordinateBytes f) ∙ ap₂ (λ (m : ℕ) (g : List ℕ). first (coordsCheck a (at + coordinateBytes) (drop coordinateBytes f)) (coordsCheck b m g)) d' d)
+    ∙ sym (first-assoc (fault (coordinateBits (numberOf (take coordinateBytes f))) at) (coordsCheck a (at + coordinateBytes) (drop coordinateBytes f)) (coordsCheck b (at + coordinateBytes * suc a) (drop (coordinateBytes * suc a) f)))
 
 flat-each : (r : List Vertex) → Each Corner r → Each Coordinate (flat r)
 flat-each [] h = tt
@@ -70,12 +74,12 @@ body-pass (r ∷ rs) q at h =
     let f = coordBytes (flat r) ++ body rs ++ q in
     let e : 2 * (length r + total (map length rs)) ≡ length (flat r) + k = omega (arith, length-flat r) in
     let g : f ≡ coordBytes (flat r) ++ (body rs ++ q) = append-assoc (coordBytes (flat r)) (body rs) q in
-    let n : length (coordBytes (flat r)) ≡ 8 * length (flat r) = omega (arith, length-ring r, length-flat r) in
-    let d : drop (8 * length (flat r)) f ≡ body rs ++ q = ap (drop (8 * length (flat r))) g ∙ drop-at (coordBytes (flat r)) (body rs ++ q) (8 * length (flat r)) n in
+    let n : length (coordBytes (flat r)) ≡ coordinateBytes * length (flat r) = omega (arith, length-ring r, length-flat r) in
+    let d : drop (coordinateBytes * length (flat r)) f ≡ body rs ++ q = ap (drop (coordinateBytes * length (flat r))) g ∙ drop-at (coordBytes (flat r)) (body rs ++ q) (coordinateBytes * length (flat r)) n in
     let one : coordsCheck (length (flat r)) at f passes = rw g (coords-pass (flat r) (body rs ++ q) at (flat-each r (h .0 .corners))) in
-    let all : coordsCheck k (at + 8 * length (flat r)) (drop (8 * length (flat r)) f) passes = rw d (body-pass rs q (at + 8 * length (flat r)) (h .1)) in
+    let all : coordsCheck k (at + coordinateBytes * length (flat r)) (drop (coordinateBytes * length (flat r)) f) passes = rw d (body-pass rs q (at + coordinateBytes * length (flat r)) (h .1)) in
     ap passed (ap (λ (m : ℕ). coordsCheck m at f) e ∙ coords-split (length (flat r)) k at f)
-    ∙ pass (coordsCheck (length (flat r)) at f) (coordsCheck k (at + 8 * length (flat r)) (drop (8 * length (flat r)) f)) one all
+    ∙ pass (coordsCheck (length (flat r)) at f) (coordsCheck k (at + coordinateBytes * length (flat r)) (drop (coordinateBytes * length (flat r)) f)) one all
 
 -- ---- the least readings
 
@@ -84,17 +88,17 @@ least-pass : (rs : List (List Vertex)) (q : List ℕ) (at : ℕ) → Each Outlin
 unfolding leastCheck body
 least-pass [] q at h k = refl
 least-pass (r ∷ rs) q at h k =
-    rw (append-assoc (coordBytes (flat r)) (body rs) q, ring-back r (body rs ++ q) (h .0 .corners), drop-at (coordBytes (flat r)) (body rs ++ q) (16 * length r) (length-ring r), is-own r (omega (arith, h .0 .least)) (k .0))
-    (least-pass rs q (at + 16 * length r) (h .1) (k .1))
+    rw (append-assoc (coordBytes (flat r)) (body rs) q, ring-back r (body rs ++ q) (h .0 .corners), drop-at (coordBytes (flat r)) (body rs ++ q) (vertexBytes * length r) (length-ring r), is-own r (omega (arith, h .0 .least)) (k .0))
+    (least-pass rs q (at + vertexBytes * length r) (h .1) (k .1))
 
 -- ---- the whole
 
-pub body-total : (rs : List (List Vertex)) → length (body rs) ≡ 16 * total (map length rs)
+pub body-total : (rs : List (List Vertex)) → length (body rs) ≡ vertexBytes * total (map length rs)
 unfolding body total
 body-total [] = refl
 body-total (r ∷ rs) = omega (arith, length-append (coordBytes (flat r)) (body rs), length-ring r, body-total rs)
 
-sizes : (rs : List (List Vertex)) → Each Outline rs → Each (λ (n : ℕ). (3 ≤ n) × (n ≤ 256)) (map length rs)
+sizes : (rs : List (List Vertex)) → Each Outline rs → Each (λ (n : ℕ). (verticesLeast ≤ n) × (n ≤ verticesMost)) (map length rs)
 sizes [] h = tt
 sizes (r ∷ rs) h = ((h .0 .least, h .0 .most), sizes rs (h .1))
 
@@ -103,23 +107,23 @@ pub layout-pass : (rs : List (List Vertex)) → Accepted rs → Each (λ (r : Li
 unfolding bookCheck
 layout-pass rs ok kept =
     let b = length (body rs) in
-    let most : b ≤ 4096 * length rs = body-most rs (ok .rings) in
-    let least : 48 * length rs ≤ b = body-least rs (ok .rings) in
+    let most : b ≤ verticesMost * vertexBytes * length rs = body-most rs (ok .rings) in
+    let least : verticesLeast * vertexBytes * length rs ≤ b = body-least rs (ok .rings) in
     let k : ringCount (layout rs) ≡ length rs = count-back rs (ok .most) in
     let e : entryOffset (layout rs) ≡ b = offset-back rs (omega (arith, ok .most)) in
-    let n : length (layout rs) ≡ b + 8 * length rs + 8 = length-layout rs in
-    let s : b ≡ 16 * total (map length rs) = body-total rs in
+    let n : length (layout rs) ≡ b + entryBytes * length rs + tailBytes = length-layout rs in
+    let s : b ≡ vertexBytes * total (map length rs) = body-total rs in
     let c : countsOf (layout rs) ≡ map length rs = counts-of rs ok in
     let f = layout rs in
-    let t1 : within 64 32840 (length f) ≡ true = within-true 64 32840 (length f) (omega (arith, ok .least)) (omega (arith, ok .most)) in
-    let t2 : within 1 8 (ringCount f) ≡ true = within-true 1 8 (ringCount f) (omega (arith, ok .least)) (omega (arith, ok .most)) in
-    let t3 : eqb (entryOffset f + 8 * ringCount f + 8) (length f) ≡ true = eq-eqb (entryOffset f + 8 * ringCount f + 8) (length f) (omega arith) in
+    let t1 : within bookLeast bookMost (length f) ≡ true = within-true bookLeast bookMost (length f) (omega (arith, ok .least)) (omega (arith, ok .most)) in
+    let t2 : within 1 ringsMost (ringCount f) ≡ true = within-true 1 ringsMost (ringCount f) (omega (arith, ok .least)) (omega (arith, ok .most)) in
+    let t3 : eqb (entryOffset f + entryBytes * ringCount f + tailBytes) (length f) ≡ true = eq-eqb (entryOffset f + entryBytes * ringCount f + tailBytes) (length f) (omega arith) in
     let rest = entries 0 (map length rs) ++ tail rs in
     let d : drop (entryOffset f) f ≡ rest = ap (λ (m : ℕ). drop m f) e ∙ ap (drop b) (layout-is rs) ∙ drop-at (body rs) rest b refl in
     let t4 : entriesCheck (ringCount f) (entryOffset f) 0 (drop (entryOffset f) f) passes =
     rw (k, d) (ap (λ (m : ℕ). passed (entriesCheck m (entryOffset f) 0 rest)) (sym (length-map rs (length {A = Vertex}))) ∙ entries-pass (map length rs) (tail rs) (entryOffset f) 0 (sizes rs (ok .rings)) (omega (arith, ok .most))) in
-    let t5 : eqb (16 * total (countsOf f)) (entryOffset f) ≡ true = eq-eqb (16 * total (countsOf f)) (entryOffset f) (ap (λ (l : List ℕ). 16 * total l) c ∙ sym s ∙ sym e) in
-    let m : entryOffset f / 8 ≡ 2 * total (map length rs) = omega arith in
-    let t6 : coordsCheck (entryOffset f / 8) 0 f passes = ap₂ (λ (j : ℕ) (g : List ℕ). passed (coordsCheck j 0 g)) m (layout-is rs) ∙ body-pass rs rest 0 (ok .rings) in
+    let t5 : eqb (vertexBytes * total (countsOf f)) (entryOffset f) ≡ true = eq-eqb (vertexBytes * total (countsOf f)) (entryOffset f) (ap (λ (l : List ℕ). vertexBytes * total l) c ∙ sym s ∙ sym e) in
+    let m : entryOffset f / coordinateBytes ≡ 2 * total (map length rs) = omega arith in
+    let t6 : coordsCheck (entryOffset f / coordinateBytes) 0 f passes = ap₂ (λ (j : ℕ) (g : List ℕ). passed (coordsCheck j 0 g)) m (layout-is rs) ∙ body-pass rs rest 0 (ok .rings) in
     let t7 : leastCheck (countsOf f) 0 f passes = ap₂ (λ (j g : List ℕ). passed (leastCheck j 0 g)) c (layout-is rs) ∙ least-pass rs rest 0 (ok .rings) kept in
-    rw (t1, t2, t3) (pass (entriesCheck (ringCount f) (entryOffset f) 0 (drop (entryOffset f) f)) _ t4 (rw t5 (pass (coordsCheck (entryOffset f / 8) 0 f) (leastCheck (countsOf f) 0 f) t6 t7)))
+    rw (t1, t2, t3) (pass (entriesCheck (ringCount f) (entryOffset f) 0 (drop (entryOffset f) f)) _ t4 (rw t5 (pass (coordsCheck (entryOffset f / coordinateBytes) 0 f) (leastCheck (countsOf f) 0 f) t6 t7)))

@@ -1,80 +1,51 @@
 -- A file that passes the checks is the book of the rings in it. Assumes nothing.
-use Prim.Native.Nat.{ℕ, zero, suc, _+_, _*_, _/_, _%_, _^_, _≤_, _<_}
+use Prim.Native.Nat.{ℕ, zero, suc, _+_, _*_, _^_, _≤_, _<_}
 use native.Mathlib.Omega.{arith}
-use native.Mathlib.Nat.{pow-succ'}
 use mathlib.Core.Path.{_≡_, refl, sym, ap, ap₂, subst, _∙_}
 use mathlib.Core.List.{List, [], _∷_, _++_, map}
-use lib.ListN.{length, getD, take, drop, length-drop}
+use lib.ListN.{length, take, drop, length-drop}
 use lib.Seq.{drop-drop, take-add, length-take-le}
 use lib.Dec.{eqb}
 use borrow.Author.Tests.{eqb-true}
 use Rattle.refusals.specs.Refusals.{first}
 use Rattle.reading.specs.Reading.{Vertex, flat, vertices, bestOf, leastReading}
-use Rattle.book_layout.specs.Layout.{within, total, bytesOf, numberOf, coordBytes, body, entries, Each, coordinateBits, Coordinate, Corner, coordsIn, countsIn, ringsIn}
+use Rattle.number_bytes.specs.Bytes.{bytesOf, numberOf, Byte, Each}
+use Rattle.number_bytes.proofs.Bytes.{bytes-take, number-lt}
+use Rattle.number_bytes.proofs.Each.{each-take, each-drop}
+use Rattle.refusals.specs.Rings.{verticesLeast, verticesMost, within, total}
+use Rattle.book_layout.specs.Layout.{fieldBytes, coordinateBytes, vertexBytes, entryBytes, coordBytes, body, entries, coordinateBits, Coordinate, Corner, coordsIn, countsIn, ringsIn}
 use Rattle.book_layout.specs.Faults.{fault, entriesCheck, coordsCheck, leastCheck, _passes}
-use Rattle.book_layout.proofs.Passing.{both, held, is-within}
-use Rattle.book_layout.proofs.Each.{each-take, each-drop}
+use Rattle.refusals.proofs.Counts.{is-within}
+use Rattle.refusals.proofs.Sized.{row-parts}
+use Rattle.book_layout.proofs.Passing.{held}
 use Rattle.reading.proofs.Leasts.{length-flat}
 use Rattle.reading.proofs.Places.{flat-vertices}
 use Rattle.reading.proofs.Own.{own}
-
--- ---- a number's bytes are those that it was read from
-
-abbrev pub Byte : ℕ → Type 0
-Byte b = b < 256
-
-pub each-byte : (f : List ℕ) → ((i : ℕ) → getD f i 0 < 256) → Each Byte f
-each-byte [] g = tt
-each-byte (b ∷ f) g = (g 0, each-byte f (λ i. g (suc i)))
-
-low-byte : (b m : ℕ) → b < 256 → (b + 256 * m) % 256 ≡ b
-low-byte b m h = omega arith
-
-high-bytes : (b m : ℕ) → b < 256 → (b + 256 * m) / 256 ≡ m
-high-bytes b m h = omega arith
-
-bytes-number : (l : List ℕ) → Each Byte l → bytesOf (length l) (numberOf l) ≡ l
-unfolding bytesOf numberOf
-bytes-number [] h = refl
-bytes-number (b ∷ l) h = rw (low-byte b (numberOf l) (h .0), high-bytes b (numberOf l) (h .0)) (ap (λ (t : List ℕ). b ∷ t) (bytes-number l (h .1)))
-
-pub bytes-take : (k : ℕ) (f : List ℕ) → Each Byte f → k ≤ length f → bytesOf k (numberOf (take k f)) ≡ take k f
-bytes-take k f h n =
-    ap (λ (j : ℕ). bytesOf j (numberOf (take k f))) (sym (length-take-le k f n)) ∙ bytes-number (take k f) (each-take Byte k f h)
-
--- the number of k bytes is below 256 ^ k
-more-bytes : (b n p : ℕ) → b < 256 → n < p → b + 256 * n < 256 * p
-more-bytes b n p h k = omega arith
-
-number-lt : (l : List ℕ) → Each Byte l → numberOf l < 256 ^ length l
-unfolding numberOf
-number-lt [] h = omega arith
-number-lt (b ∷ l) h = rw pow-succ' (more-bytes b (numberOf l) (256 ^ length l) (h .0) (number-lt l (h .1)))
 
 -- ---- the coordinates
 
 pub length-coordsIn : (k : ℕ) (f : List ℕ) → length (coordsIn k f) ≡ k
 unfolding coordsIn
 length-coordsIn zero f = refl
-length-coordsIn (suc k) f = ap suc (length-coordsIn k (drop 8 f))
+length-coordsIn (suc k) f = ap suc (length-coordsIn k (drop coordinateBytes f))
 
-coords-are : (k : ℕ) (f : List ℕ) → Each Byte f → 8 * k ≤ length f → coordBytes (coordsIn k f) ≡ take (8 * k) f
+coords-are : (k : ℕ) (f : List ℕ) → Each Byte f → coordinateBytes * k ≤ length f → coordBytes (coordsIn k f) ≡ take (coordinateBytes * k) f
 unfolding coordsIn coordBytes
 coords-are zero f h n = refl
 coords-are (suc k) f h n =
-    let e : 8 * suc k ≡ 8 + 8 * k = omega arith in
-    ap₂ (λ (a b : List ℕ). a ++ b) (bytes-take 8 f h (omega arith)) (coords-are k (drop 8 f) (each-drop Byte 8 f h) (omega (arith, length-drop 8 f)))
-    ∙ sym (ap (λ (j : ℕ). take j f) e ∙ take-add 8 (8 * k) f)
+    let e : coordinateBytes * suc k ≡ coordinateBytes + coordinateBytes * k = omega arith in
+    ap₂ (λ (a b : List ℕ). a ++ b) (bytes-take coordinateBytes f h (omega arith)) (coords-are k (drop coordinateBytes f) (each-drop Byte coordinateBytes f h) (omega (arith, length-drop coordinateBytes f)))
+    ∙ sym (ap (λ (j : ℕ). take j f) e ∙ take-add coordinateBytes (coordinateBytes * k) f)
 
-pub coords-hold : (k at : ℕ) (f : List ℕ) → Each Byte f → 8 * k ≤ length f → coordsCheck k at f passes → Each Coordinate (coordsIn k f)
+pub coords-hold : (k at : ℕ) (f : List ℕ) → Each Byte f → coordinateBytes * k ≤ length f → coordsCheck k at f passes → Each Coordinate (coordsIn k f)
 unfolding coordsCheck coordsIn
 coords-hold zero at f h n c = tt
 coords-hold (suc k) at f h n c =
-    let p = both (fault (coordinateBits (numberOf (take 8 f))) at) (coordsCheck k (at + 8) (drop 8 f)) c in
-    let z : length (take 8 f) ≡ 8 = length-take-le 8 f (omega arith) in
-    let q : numberOf (take 8 f) < 256 ^ 8 = subst (λ (j : ℕ). numberOf (take 8 f) < 256 ^ j) z (number-lt (take 8 f) (each-take Byte 8 f h)) in (
-      record { pattern = q; bounded = held (coordinateBits (numberOf (take 8 f))) at (p .0) },
-      coords-hold k (at + 8) (drop 8 f) (each-drop Byte 8 f h) (omega (arith, length-drop 8 f)) (p .1),
+    let p = row-parts (fault (coordinateBits (numberOf (take coordinateBytes f))) at) (coordsCheck k (at + coordinateBytes) (drop coordinateBytes f)) c in
+    let z : length (take coordinateBytes f) ≡ coordinateBytes = length-take-le coordinateBytes f (omega arith) in
+    let q : numberOf (take coordinateBytes f) < 256 ^ coordinateBytes = subst (λ (j : ℕ). numberOf (take coordinateBytes f) < 256 ^ j) z (number-lt (take coordinateBytes f) (each-take Byte coordinateBytes f h)) in (
+      record { pattern = q; bounded = held (coordinateBits (numberOf (take coordinateBytes f))) at (p .0) },
+      coords-hold k (at + coordinateBytes) (drop coordinateBytes f) (each-drop Byte coordinateBytes f h) (omega (arith, length-drop coordinateBytes f)) (p .1),
     )
 
 -- ---- a ring
@@ -96,51 +67,51 @@ corners (a ∷ b ∷ l) h = (record { x = h .0; y = h .1 .0 }, corners l (h .1 .
 pub rings-counts : (ns f : List ℕ) → map length (ringsIn ns f) ≡ ns
 unfolding ringsIn
 rings-counts [] f = refl
-rings-counts (n ∷ ns) f = ap₂ (λ (a : ℕ) (b : List ℕ). a ∷ b) (ring-length n f) (rings-counts ns (drop (16 * n) f))
+rings-counts (n ∷ ns) f = ap₂ (λ (a : ℕ) (b : List ℕ). a ∷ b) (ring-length n f) (rings-counts ns (drop (vertexBytes * n) f))
 
-pub rings-body : (ns f : List ℕ) → Each Byte f → 16 * total ns ≤ length f → body (ringsIn ns f) ≡ take (16 * total ns) f
+pub rings-body : (ns f : List ℕ) → Each Byte f → vertexBytes * total ns ≤ length f → body (ringsIn ns f) ≡ take (vertexBytes * total ns) f
 unfolding ringsIn total body
 rings-body [] f h s = refl
 rings-body (n ∷ ns) f h s =
-    let e : 16 * (n + total ns) ≡ 16 * n + 16 * total ns = omega arith in
-    let d : 8 * (2 * n) ≡ 16 * n = omega arith in
-    let a : coordBytes (flat (vertices (coordsIn (2 * n) f))) ≡ take (16 * n) f =
+    let e : vertexBytes * (n + total ns) ≡ vertexBytes * n + vertexBytes * total ns = omega arith in
+    let d : coordinateBytes * (2 * n) ≡ vertexBytes * n = omega arith in
+    let a : coordBytes (flat (vertices (coordsIn (2 * n) f))) ≡ take (vertexBytes * n) f =
     ap coordBytes (ring-flat n f) ∙ coords-are (2 * n) f h (omega arith) ∙ ap (λ (j : ℕ). take j f) d in
-    ap₂ (λ (x y : List ℕ). x ++ y) a (rings-body ns (drop (16 * n) f) (each-drop Byte (16 * n) f h) (omega (arith, length-drop (16 * n) f)))
-    ∙ sym (ap (λ (j : ℕ). take j f) e ∙ take-add (16 * n) (16 * total ns) f)
+    ap₂ (λ (x y : List ℕ). x ++ y) a (rings-body ns (drop (vertexBytes * n) f) (each-drop Byte (vertexBytes * n) f h) (omega (arith, length-drop (vertexBytes * n) f)))
+    ∙ sym (ap (λ (j : ℕ). take j f) e ∙ take-add (vertexBytes * n) (vertexBytes * total ns) f)
 
-pub rings-kept : (ns f : List ℕ) (at : ℕ) → Each (λ (n : ℕ). (3 ≤ n) × (n ≤ 256)) ns → leastCheck ns at f passes → map leastReading (ringsIn ns f) ≡ ringsIn ns f
+pub rings-kept : (ns f : List ℕ) (at : ℕ) → Each (λ (n : ℕ). (verticesLeast ≤ n) × (n ≤ verticesMost)) ns → leastCheck ns at f passes → map leastReading (ringsIn ns f) ≡ ringsIn ns f
 unfolding ringsIn leastCheck
 rings-kept [] f at z c = refl
 rings-kept (n ∷ ns) f at z c =
     let r = vertices (coordsIn (2 * n) f) in
-    let p = both (fault (eqb (bestOf r) 0) at) (leastCheck ns (at + 16 * n) (drop (16 * n) f)) c in
-    ap₂ (λ (a : List Vertex) (b : List (List Vertex)). a ∷ b) (own r (omega (arith, ring-length n f, z .0 .0)) (eqb-true (bestOf r) 0 (held (eqb (bestOf r) 0) at (p .0)))) (rings-kept ns (drop (16 * n) f) (at + 16 * n) (z .1) (p .1))
+    let p = row-parts (fault (eqb (bestOf r) 0) at) (leastCheck ns (at + vertexBytes * n) (drop (vertexBytes * n) f)) c in
+    ap₂ (λ (a : List Vertex) (b : List (List Vertex)). a ∷ b) (own r (omega (arith, ring-length n f, z .0 .0)) (eqb-true (bestOf r) 0 (held (eqb (bestOf r) 0) at (p .0)))) (rings-kept ns (drop (vertexBytes * n) f) (at + vertexBytes * n) (z .1) (p .1))
 
 -- ---- the entries
 
 pub length-countsIn : (k : ℕ) (f : List ℕ) → length (countsIn k f) ≡ k
 unfolding countsIn
 length-countsIn zero f = refl
-length-countsIn (suc k) f = ap suc (length-countsIn k (drop 8 f))
+length-countsIn (suc k) f = ap suc (length-countsIn k (drop entryBytes f))
 
-pub entries-are : (k at before : ℕ) (f : List ℕ) → Each Byte f → 8 * k ≤ length f → entriesCheck k at before f passes
-    → (take (8 * k) f ≡ entries before (countsIn k f)) × Each (λ (n : ℕ). (3 ≤ n) × (n ≤ 256)) (countsIn k f)
+pub entries-are : (k at before : ℕ) (f : List ℕ) → Each Byte f → entryBytes * k ≤ length f → entriesCheck k at before f passes
+    → (take (entryBytes * k) f ≡ entries before (countsIn k f)) × Each (λ (n : ℕ). (verticesLeast ≤ n) × (n ≤ verticesMost)) (countsIn k f)
 unfolding entriesCheck countsIn entries
 entries-are zero at before f h s c = (refl, tt)
 entries-are (suc k) at before f h s c =
-    let o = numberOf (take 4 f) in
-    let n = numberOf (take 4 (drop 4 f)) in
-    let v = entriesCheck k (at + 8) (before + 16 * n) (drop 8 f) in
-    let p = both (fault (eqb o before) at) (first (fault (within 3 256 n) (at + 4)) v) c in
-    let q = both (fault (within 3 256 n) (at + 4)) v (p .1) in
-    let ih = entries-are k (at + 8) (before + 16 * n) (drop 8 f) (each-drop Byte 8 f h) (omega (arith, length-drop 8 f)) (q .1) in
-    let e : 8 * suc k ≡ 4 + (4 + 8 * k) = omega arith in
-    let a : take 4 f ≡ bytesOf 4 before = sym (bytes-take 4 f h (omega arith)) ∙ ap (bytesOf 4) (eqb-true o before (held (eqb o before) at (p .0))) in
-    let b : take 4 (drop 4 f) ≡ bytesOf 4 n = sym (bytes-take 4 (drop 4 f) (each-drop Byte 4 f h) (omega (arith, length-drop 4 f))) in
-    let d : take (8 * k) (drop 4 (drop 4 f)) ≡ entries (before + 16 * n) (countsIn k (drop 8 f)) = ap (take (8 * k)) (drop-drop 4 4 f) ∙ ih .0 in (
+    let o = numberOf (take fieldBytes f) in
+    let n = numberOf (take fieldBytes (drop fieldBytes f)) in
+    let v = entriesCheck k (at + entryBytes) (before + vertexBytes * n) (drop entryBytes f) in
+    let p = row-parts (fault (eqb o before) at) (first (fault (within verticesLeast verticesMost n) (at + fieldBytes)) v) c in
+    let q = row-parts (fault (within verticesLeast verticesMost n) (at + fieldBytes)) v (p .1) in
+    let ih = entries-are k (at + entryBytes) (before + vertexBytes * n) (drop entryBytes f) (each-drop Byte entryBytes f h) (omega (arith, length-drop entryBytes f)) (q .1) in
+    let e : entryBytes * suc k ≡ 4 + (4 + entryBytes * k) = omega arith in
+    let a : take fieldBytes f ≡ bytesOf fieldBytes before = sym (bytes-take fieldBytes f h (omega arith)) ∙ ap (bytesOf fieldBytes) (eqb-true o before (held (eqb o before) at (p .0))) in
+    let b : take fieldBytes (drop fieldBytes f) ≡ bytesOf fieldBytes n = sym (bytes-take fieldBytes (drop fieldBytes f) (each-drop Byte fieldBytes f h) (omega (arith, length-drop fieldBytes f))) in
+    let d : take (entryBytes * k) (drop fieldBytes (drop fieldBytes f)) ≡ entries (before + vertexBytes * n) (countsIn k (drop entryBytes f)) = ap (take (entryBytes * k)) (drop-drop fieldBytes fieldBytes f) ∙ ih .0 in (
       ap (λ (j : ℕ). take j f) e
-          ∙ take-add 4 (4 + 8 * k) f
-          ∙ ap₂ (λ (x y : List ℕ). x ++ y) a (take-add 4 (8 * k) (drop 4 f) ∙ ap₂ (λ (x y : List ℕ). x ++ y) b d),
-      (is-within 3 256 n (held (within 3 256 n) (at + 4) (q .0)), ih .1),
+          ∙ take-add fieldBytes (4 + entryBytes * k) f
+          ∙ ap₂ (λ (x y : List ℕ). x ++ y) a (take-add fieldBytes (entryBytes * k) (drop fieldBytes f) ∙ ap₂ (λ (x y : List ℕ). x ++ y) b d),
+      (is-within verticesLeast verticesMost n (held (within verticesLeast verticesMost n) (at + fieldBytes) (q .0)), ih .1),
     )

@@ -1,17 +1,20 @@
 -- A layout is read back as the rings that it was made of, so two layouts that are equal are of the same rings. Assumes nothing.
-use Prim.Native.Nat.{ℕ, _+_, _-_, _*_, _≤_}
+use Prim.Native.Nat.{ℕ, _+_, _-_, _*_, _^_, _≤_, _<_}
 use native.Mathlib.Omega.{arith}
 use mathlib.Core.Path.{_≡_, refl, sym, ap, _∙_}
 use mathlib.Core.List.{List, [], _∷_, _++_, map, append-assoc, append-nil}
 use lib.ListN.{length, take, drop, length-append, length-map}
 use lib.Seq.{drop-at}
 use Rattle.reading.specs.Reading.{Vertex, flat}
-use Rattle.book_layout.specs.Layout.{bytesOf, numberOf, coordBytes, body, entries, layout, Each, Outline, Accepted, countsIn, ringsIn, ringCount, entryOffset, countsOf, ringsOf}
-use Rattle.book_layout.proofs.Bytes.{length-bytesOf, take-number, length-ring, length-entries, counts-back, rings-back}
+use Rattle.number_bytes.specs.Bytes.{bytesOf, numberOf, Each}
+use Rattle.number_bytes.proofs.Bytes.{length-bytesOf, take-number}
+use Rattle.refusals.specs.Rings.{verticesLeast, verticesMost, ringsMost}
+use Rattle.book_layout.specs.Layout.{fieldBytes, vertexBytes, entryBytes, tailBytes, coordBytes, body, entries, layout, Outline, Accepted, countsIn, ringsIn, ringCount, entryOffset, countsOf, ringsOf}
+use Rattle.book_layout.proofs.Bytes.{length-ring, length-entries, counts-back, rings-back}
 
 -- ---- lengths
 
-pub body-most : (rs : List (List Vertex)) → Each Outline rs → length (body rs) ≤ 4096 * length rs
+pub body-most : (rs : List (List Vertex)) → Each Outline rs → length (body rs) ≤ verticesMost * vertexBytes * length rs
 unfolding body
 body-most [] h = omega arith
 body-most (r ∷ rs) h =
@@ -20,7 +23,7 @@ body-most (r ∷ rs) h =
     let k = body-most rs (h .1) in
     omega (arith, h .0 .most)
 
-pub body-least : (rs : List (List Vertex)) → Each Outline rs → 48 * length rs ≤ length (body rs)
+pub body-least : (rs : List (List Vertex)) → Each Outline rs → verticesLeast * vertexBytes * length rs ≤ length (body rs)
 unfolding body
 body-least [] h = omega arith
 body-least (r ∷ rs) h =
@@ -30,18 +33,18 @@ body-least (r ∷ rs) h =
     omega (arith, h .0 .least)
 
 pub tail : List (List Vertex) → List ℕ
-tail rs = bytesOf 4 (length rs) ++ bytesOf 4 (length (body rs))
+tail rs = bytesOf fieldBytes (length rs) ++ bytesOf fieldBytes (length (body rs))
 
-length-tail : (rs : List (List Vertex)) → length (tail rs) ≡ 8
+length-tail : (rs : List (List Vertex)) → length (tail rs) ≡ tailBytes
 unfolding tail
 length-tail rs =
-    omega (arith, length-append (bytesOf 4 (length rs)) (bytesOf 4 (length (body rs))), length-bytesOf 4 (length rs), length-bytesOf 4 (length (body rs)))
+    omega (arith, length-append (bytesOf fieldBytes (length rs)) (bytesOf fieldBytes (length (body rs))), length-bytesOf fieldBytes (length rs), length-bytesOf fieldBytes (length (body rs)))
 
 pub layout-is : (rs : List (List Vertex)) → layout rs ≡ body rs ++ (entries 0 (map length rs) ++ tail rs)
 unfolding layout tail
 layout-is rs = refl
 
-pub length-layout : (rs : List (List Vertex)) → length (layout rs) ≡ length (body rs) + 8 * length rs + 8
+pub length-layout : (rs : List (List Vertex)) → length (layout rs) ≡ length (body rs) + entryBytes * length rs + tailBytes
 length-layout rs =
     ap length (layout-is rs)
     ∙ omega (arith, length-append (body rs) (entries 0 (map length rs) ++ tail rs), length-append (entries 0 (map length rs)) (tail rs), length-entries 0 (map length rs), length-map rs (length {A = Vertex}), length-tail rs)
@@ -51,34 +54,34 @@ length-layout rs =
 drop-last : (p q : List ℕ) (n : ℕ) → length p + n ≡ length (p ++ q) → drop (length (p ++ q) - n) (p ++ q) ≡ q
 drop-last p q n h = drop-at p q (length (p ++ q) - n) (omega arith)
 
-pub count-back : (rs : List (List Vertex)) → length rs ≤ 8 → ringCount (layout rs) ≡ length rs
+pub count-back : (rs : List (List Vertex)) → length rs ≤ ringsMost → ringCount (layout rs) ≡ length rs
 unfolding ringCount tail
 count-back rs h =
     let p = body rs ++ entries 0 (map length rs) in
     let e : layout rs ≡ p ++ tail rs = layout-is rs ∙ sym (append-assoc (body rs) (entries 0 (map length rs)) (tail rs)) in
-    ap (λ (f : List ℕ). numberOf (take 4 (drop (length f - 8) f))) e
-    ∙ ap (λ (f : List ℕ). numberOf (take 4 f)) (drop-last p (tail rs) 8 (omega (arith, length-append p (tail rs), length-tail rs)))
-    ∙ take-number 4 (length rs) (bytesOf 4 (length (body rs))) (omega arith)
+    ap (λ (f : List ℕ). numberOf (take fieldBytes (drop (length f - tailBytes) f))) e
+    ∙ ap (λ (f : List ℕ). numberOf (take fieldBytes f)) (drop-last p (tail rs) tailBytes (omega (arith, length-append p (tail rs), length-tail rs)))
+    ∙ take-number fieldBytes (length rs) (bytesOf fieldBytes (length (body rs))) (omega arith)
 
-pub offset-back : (rs : List (List Vertex)) → length (body rs) ≤ 32768 → entryOffset (layout rs) ≡ length (body rs)
+pub offset-back : (rs : List (List Vertex)) → length (body rs) < 256 ^ fieldBytes → entryOffset (layout rs) ≡ length (body rs)
 unfolding entryOffset tail
 offset-back rs h =
-    let p = body rs ++ (entries 0 (map length rs) ++ bytesOf 4 (length rs)) in
-    let q = bytesOf 4 (length (body rs)) in
+    let p = body rs ++ (entries 0 (map length rs) ++ bytesOf fieldBytes (length rs)) in
+    let q = bytesOf fieldBytes (length (body rs)) in
     let e : layout rs ≡ p ++ q = layout-is rs ∙ (simp append-assoc) in
-    ap (λ (f : List ℕ). numberOf (take 4 (drop (length f - 4) f))) e
-    ∙ ap (λ (f : List ℕ). numberOf (take 4 f)) (drop-last p q 4 (omega (arith, length-append p q, length-bytesOf 4 (length (body rs)))))
-    ∙ ap (λ (f : List ℕ). numberOf (take 4 f)) (sym (append-nil q))
-    ∙ take-number 4 (length (body rs)) [] (omega arith)
+    ap (λ (f : List ℕ). numberOf (take fieldBytes (drop (length f - fieldBytes) f))) e
+    ∙ ap (λ (f : List ℕ). numberOf (take fieldBytes f)) (drop-last p q fieldBytes (omega (arith, length-append p q, length-bytesOf fieldBytes (length (body rs)))))
+    ∙ ap (λ (f : List ℕ). numberOf (take fieldBytes f)) (sym (append-nil q))
+    ∙ take-number fieldBytes (length (body rs)) [] (omega arith)
 
 -- ---- the whole
 
-counts-most : (rs : List (List Vertex)) → Each Outline rs → Each (λ (n : ℕ). n ≤ 256) (map length rs)
+counts-most : (rs : List (List Vertex)) → Each Outline rs → Each (λ (n : ℕ). n ≤ verticesMost) (map length rs)
 counts-most [] h = tt
 counts-most (r ∷ rs) h = (h .0 .most, counts-most rs (h .1))
 
 module _ (rs : List (List Vertex)) (ok : Accepted rs) where
-  small : length (body rs) ≤ 32768
+  small : length (body rs) < 256 ^ fieldBytes
   small = omega (arith, body-most rs (ok .rings), ok .most)
 
   pub counts-of : countsOf (layout rs) ≡ map length rs

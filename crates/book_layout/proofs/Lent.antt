@@ -10,51 +10,54 @@ use lib.Dec.{T, leb, eqb}
 use lib.Ieee.{Float, nan, inf, fin, binary64, fits, isNan, ofBits}
 use lib.Ieee.Bits.{ofBits-fits}
 use borrow.Author.Tests.{le-leb, leb-true, eq-eqb, eqb-true}
-use Rattle.refusals.specs.Refusals.{unless, first}
+use Rattle.refusals.specs.Refusals.{first}
+use Rattle.refusals.specs.Screens.{wrongRings, wrongCounts, wrongSum, wrongNumber, wrongBook}
+use Rattle.refusals.specs.Rows.{ofRings}
 use Rattle.refusals.specs.Bounds.{coordinate, every, coordinates}
 use Rattle.reading.specs.Reading.{Vertex, vertices}
 use Rattle.reading.specs.Lent.{kept, ringOf}
 use Rattle.reading.proofs.KeptBits.{kept-lt, of-kept, kept-of}
 use Rattle.reading.proofs.Order.{no-bool}
 use Rattle.reading.proofs.Places.{length-ringOf}
-use Rattle.book_layout.specs.Layout.{within, numberOf, Each, coordinateBits, Coordinate, Outline, Accepted, total, coordsIn, ringsIn, ringCount, entryOffset, coordsOf, countsOf, ringsOf}
+use Rattle.number_bytes.specs.Bytes.{numberOf, Each, Byte}
+use Rattle.number_bytes.proofs.Each.{each-take, each-drop}
+use Rattle.refusals.specs.Rings.{verticesLeast, verticesMost, ringsMost, within, total, ringsOk, sizedAll, sumOk}
+use Rattle.book_layout.specs.Layout.{coordinateBytes, vertexBytes, coordinateBits, Coordinate, Outline, Accepted, coordsIn, ringsIn, ringCount, entryOffset, coordsOf, countsOf, ringsOf}
 use Rattle.book_layout.specs.Faults.{_passes, bookCheck}
-use Rattle.book_layout.specs.Writer.{ringsFrom, sizedAll, lengthsOk, bookSize, writeRefusal, Held}
+use Rattle.book_layout.specs.Writer.{ringsFrom, bookSize, writeRefusal, Held, Formed}
 use Rattle.book_layout.specs.Reader.{numbersOf}
-use Rattle.book_layout.proofs.Each.{each-take, each-drop}
-use Rattle.book_layout.proofs.Passing.{both, and-both, within-true, is-within}
-use Rattle.refusals.proofs.Sized.{held-last}
-use Rattle.book_layout.proofs.Found.{Byte, corners, coords-hold, length-coordsIn, length-countsIn}
+use Rattle.laws.proofs.Both.{both}
+use Rattle.refusals.proofs.Counts.{within-true, is-within}
+use Rattle.refusals.proofs.Sized.{row-parts, holds}
+use Rattle.book_layout.proofs.Found.{corners, coords-hold, length-coordsIn, length-countsIn}
 use Rattle.book_layout.proofs.Exact.{checked, listing}
 
 -- ---- the writer's tests
 
-pub lengths-held : (xs : List Float) (ns : List ℕ) → lengthsOk xs ns ≡ true
-    → (1 ≤ length ns) × (length ns ≤ 8) × (sizedAll ns ≡ true) × (length xs ≡ 2 * total ns)
-unfolding lengthsOk
-lengths-held xs ns h =
-    let a = and-both (eqb (length xs % 2) 0) (within 1 8 (length ns) && (sizedAll ns && eqb (length xs) (2 * total ns))) h in
-    let b = and-both (within 1 8 (length ns)) (sizedAll ns && eqb (length xs) (2 * total ns)) (a .1) in
-    let d = and-both (sizedAll ns) (eqb (length xs) (2 * total ns)) (b .1) in
-    let w = is-within 1 8 (length ns) (b .0) in
-    (w .0, w .1, d .0, eqb-true (length xs) (2 * total ns) (d .1))
-
 module _ (xs : List Float) (ns : List ℕ) (size : ℕ) where
   pub takes : writeRefusal xs ns size passes → Held xs ns × (bookSize ns ≤ size)
-  unfolding writeRefusal
+  unfolding writeRefusal ofRings
   takes h =
-      let p = both (unless (lengthsOk xs ns) 1) (first (unless (coordinates xs) 2) (unless (leb (bookSize ns) size) 4)) h in
-      let q = both (unless (coordinates xs) 2) (unless (leb (bookSize ns) size) 4) (p .1) in
-      let l = lengths-held xs ns (held-last (lengthsOk xs ns) 1 refl (p .0)) in (
-        record { one = l .0; few = l .1; sized = l .2; whole = l .3; bounded = held-last (coordinates xs) 2 refl (q .0) },
-        leb-true (bookSize ns) size (held-last (leb (bookSize ns) size) 4 refl (q .1)),
+      let last = first (wrongSum xs ns) (wrongNumber xs) in
+      let p = row-parts (ofRings xs ns) (wrongBook (bookSize ns) size) h in
+      let r = row-parts (wrongRings ns) (first (wrongCounts ns) last) (p .0) in
+      let k = row-parts (wrongCounts ns) last (r .1) in
+      let s = row-parts (wrongSum xs ns) (wrongNumber xs) (k .1) in
+      let w = is-within 1 ringsMost (length ns) (holds (ringsOk ns) 1 0 refl (r .0)) in (
+        record {
+          one = w .0;
+          few = w .1;
+          sized = holds (sizedAll ns) 1 0 refl (k .0);
+          whole = eqb-true (length xs) (2 * total ns) (holds (sumOk xs ns) 1 0 refl (s .0));
+          bounded = holds (coordinates xs) 2 0 refl (s .1);
+        },
+        leb-true (bookSize ns) size (holds (leb (bookSize ns) size) 4 0 refl (p .1)),
       )
 
   pub taken : Held xs ns → bookSize ns ≤ size → writeRefusal xs ns size passes
-  unfolding writeRefusal lengthsOk
+  unfolding writeRefusal ofRings
   taken h l =
-      let even : length xs % 2 ≡ 0 = omega (arith, h .whole) in
-      rw (eq-eqb (length xs % 2) 0 even, within-true 1 8 (length ns) (h .one) (h .few), h .sized, eq-eqb (length xs) (2 * total ns) (h .whole), h .bounded, le-leb (bookSize ns) size l)
+      rw (within-true 1 ringsMost (length ns) (h .one) (h .few), h .sized, eq-eqb (length xs) (2 * total ns) (h .whole), h .bounded, le-leb (bookSize ns) size l)
 
 -- ---- coordinates
 
@@ -74,41 +77,28 @@ pub bits-number : (b : ℕ) → Coordinate b → T (not (isNan (ofBits binary64 
 unfolding coordinateBits
 bits-number b c = coordinate-number (ofBits binary64 b) (c .bounded)
 
--- every number of a list is one that the format holds
-abbrev pub Formed : List Float → Type 0
-Formed xs = Each (λ (x : Float). T (fits binary64 x)) xs
-
 coordinates-take : (n : ℕ) (xs : List Float) → coordinates xs ≡ true → coordinates (take n xs) ≡ true
 unfolding every
 coordinates-take zero xs t = refl
 coordinates-take (suc n) [] t = refl
 coordinates-take (suc n) (x ∷ xs) t =
-    let p = and-both (coordinate x) (coordinates xs) t in
+    let p = both (coordinate x) (coordinates xs) t in
     rw (p .0) (coordinates-take n xs (p .1))
 
 coordinates-drop : (n : ℕ) (xs : List Float) → coordinates xs ≡ true → coordinates (drop n xs) ≡ true
 unfolding every
 coordinates-drop zero xs t = t
 coordinates-drop (suc n) [] t = refl
-coordinates-drop (suc n) (x ∷ xs) t = coordinates-drop n xs (and-both (coordinate x) (coordinates xs) t .1)
+coordinates-drop (suc n) (x ∷ xs) t = coordinates-drop n xs (both (coordinate x) (coordinates xs) t .1)
 
 all-kept : (xs : List Float) → Formed xs → coordinates xs ≡ true → Each Coordinate (map kept xs)
 unfolding every
 all-kept [] f t = tt
 all-kept (x ∷ xs) f t =
-    let p = and-both (coordinate x) (coordinates xs) t in
+    let p = both (coordinate x) (coordinates xs) t in
     (coordinate-kept x (f .0) (p .0), all-kept xs (f .1) (p .1))
 
 -- ---- what the writer takes is what a book holds
-
-pub total-bounds : (ns : List ℕ) → sizedAll ns ≡ true → (3 * length ns ≤ total ns) × (total ns ≤ 256 * length ns)
-unfolding sizedAll total
-total-bounds [] h = ((omega arith), (omega arith))
-total-bounds (n ∷ ns) h =
-    let p = and-both (within 3 256 n) (sizedAll ns) h in
-    let w = is-within 3 256 n (p .0) in
-    let b = total-bounds ns (p .1) in
-    ((omega arith), (omega arith))
 
 length-rings : (ns : List ℕ) (xs : List Float) → length (ringsFrom ns xs) ≡ length ns
 unfolding ringsFrom
@@ -124,8 +114,8 @@ rings-outline : (ns : List ℕ) (xs : List Float) → Formed xs → sizedAll ns 
 unfolding ringsFrom sizedAll total
 rings-outline [] xs f s t h = tt
 rings-outline (n ∷ ns) xs f s t h =
-    let p = and-both (within 3 256 n) (sizedAll ns) s in
-    let w = is-within 3 256 n (p .0) in
+    let p = both (within verticesLeast verticesMost n) (sizedAll ns) s in
+    let w = is-within verticesLeast verticesMost n (p .0) in
     let c : length (ringOf (take (2 * n) xs)) ≡ n = ring-count n xs (omega arith) in (
       record {
         least = omega (arith, w .0);
@@ -149,15 +139,15 @@ back (b ∷ l) h = ap₂ (λ (a : ℕ) (t : List ℕ). a ∷ t) (kept-of b (h .0
 pub ring-loaded : (l : List ℕ) → Each Coordinate l → ringOf (map (ofBits binary64) l) ≡ vertices l
 ring-loaded l h = ap vertices (back l h)
 
-coordsIn-add : (a b : ℕ) (f : List ℕ) → coordsIn (a + b) f ≡ coordsIn a f ++ coordsIn b (drop (8 * a) f)
+coordsIn-add : (a b : ℕ) (f : List ℕ) → coordsIn (a + b) f ≡ coordsIn a f ++ coordsIn b (drop (coordinateBytes * a) f)
 unfolding coordsIn
 coordsIn-add zero b f = let e : 0 + b ≡ b = omega arith in ap (λ (n : ℕ). coordsIn n f) e
 coordsIn-add (suc a) b f =
     let e : suc a + b ≡ suc (a + b) = omega arith in
-    let d : 8 + 8 * a ≡ 8 * suc a = omega arith in
+    let d : coordinateBytes + coordinateBytes * a ≡ coordinateBytes * suc a = omega arith in
     ap (λ (n : ℕ). coordsIn n f) e
-    ∙ ap (λ (l : List ℕ). numberOf (take 8 f) ∷ l) (coordsIn-add a b (drop 8 f))
-    ∙ ap (λ (g : List ℕ). numberOf (take 8 f) ∷ (coordsIn a (drop 8 f) ++ coordsIn b g)) (drop-drop (8 * a) 8 f ∙ ap (λ (j : ℕ). drop j f) d)
+    ∙ ap (λ (l : List ℕ). numberOf (take coordinateBytes f) ∷ l) (coordsIn-add a b (drop coordinateBytes f))
+    ∙ ap (λ (g : List ℕ). numberOf (take coordinateBytes f) ∷ (coordsIn a (drop coordinateBytes f) ++ coordsIn b g)) (drop-drop (coordinateBytes * a) coordinateBytes f ∙ ap (λ (j : ℕ). drop j f) d)
 
 each-parts : {A : Type 0} (P : A → Type 0) (l m : List A) → Each P (l ++ m) → Each P l × Each P m
 each-parts P [] m h = (tt, h)
@@ -169,9 +159,9 @@ rings-read [] f h = refl
 rings-read (n ∷ ns) f h =
     let t = 2 * total ns in
     let e : 2 * (n + total ns) ≡ 2 * n + t = omega arith in
-    let d : 8 * (2 * n) ≡ 16 * n = omega arith in
+    let d : coordinateBytes * (2 * n) ≡ vertexBytes * n = omega arith in
     let a = coordsIn (2 * n) f in
-    let b = coordsIn t (drop (16 * n) f) in
+    let b = coordsIn t (drop (vertexBytes * n) f) in
     let s : coordsIn (2 * (n + total ns)) f ≡ a ++ b =
     ap (λ (m : ℕ). coordsIn m f) e ∙ coordsIn-add (2 * n) t f ∙ ap (λ (j : ℕ). a ++ coordsIn t (drop j f)) d in
     let p = each-parts Coordinate a b (subst (Each Coordinate) s h) in
@@ -180,14 +170,14 @@ rings-read (n ∷ ns) f h =
     rw q
     (ap₂ (λ (x : List Vertex) (y : List (List Vertex)). x ∷ y)
     (ap ringOf (take-at (map (ofBits binary64) a) (map (ofBits binary64) b) (2 * n) z) ∙ ring-loaded a (p .0))
-    (ap (ringsFrom ns) (drop-at (map (ofBits binary64) a) (map (ofBits binary64) b) (2 * n) z) ∙ rings-read ns (drop (16 * n) f) (p .1)))
+    (ap (ringsFrom ns) (drop-at (map (ofBits binary64) a) (map (ofBits binary64) b) (2 * n) z) ∙ rings-read ns (drop (vertexBytes * n) f) (p .1)))
 
 -- ---- and the writer takes it
 
-sized-all : (ns : List ℕ) → Each (λ (n : ℕ). (3 ≤ n) × (n ≤ 256)) ns → sizedAll ns ≡ true
+sized-all : (ns : List ℕ) → Each (λ (n : ℕ). (verticesLeast ≤ n) × (n ≤ verticesMost)) ns → sizedAll ns ≡ true
 unfolding sizedAll
 sized-all [] h = refl
-sized-all (n ∷ ns) h = rw (within-true 3 256 n (h .0 .0) (h .0 .1)) (sized-all ns (h .1))
+sized-all (n ∷ ns) h = rw (within-true verticesLeast verticesMost n (h .0 .0) (h .0 .1)) (sized-all ns (h .1))
 
 pub formed : (l : List ℕ) → Formed (map (ofBits binary64) l)
 formed [] = tt
@@ -202,19 +192,19 @@ pub length-counts : (f : List ℕ) → length (countsOf f) ≡ ringCount f
 unfolding countsOf
 length-counts f = length-countsIn (ringCount f) (drop (entryOffset f) f)
 
-pub length-numbers : (f : List ℕ) → length (numbersOf f) ≡ entryOffset f / 8
+pub length-numbers : (f : List ℕ) → length (numbersOf f) ≡ entryOffset f / coordinateBytes
 unfolding coordsOf
-length-numbers f = length-map (coordsIn (entryOffset f / 8) f) (ofBits binary64) ∙ length-coordsIn (entryOffset f / 8) f
+length-numbers f = length-map (coordsIn (entryOffset f / coordinateBytes) f) (ofBits binary64) ∙ length-coordsIn (entryOffset f / coordinateBytes) f
 
 module _ (f : List ℕ) (bytes : Each Byte f) (ok : bookCheck f passes) where
   pub all-hold : Each Coordinate (coordsOf f)
   unfolding coordsOf
-  all-hold = let all = checked f ok in coords-hold (entryOffset f / 8) 0 f bytes (omega (arith, all .offset)) (all .coords)
+  all-hold = let all = checked f ok in coords-hold (entryOffset f / coordinateBytes) 0 f bytes (omega (arith, all .offset)) (all .coords)
 
   pub handed : ringsFrom (countsOf f) (numbersOf f) ≡ ringsOf f
   unfolding coordsOf ringsOf
   handed =
-      let z : entryOffset f / 8 ≡ 2 * total (countsOf f) = omega (arith, checked f ok .ends) in
+      let z : entryOffset f / coordinateBytes ≡ 2 * total (countsOf f) = omega (arith, checked f ok .ends) in
       ap (λ (m : ℕ). ringsFrom (countsOf f) (map (ofBits binary64) (coordsIn m f))) z
       ∙ rings-read (countsOf f) f (subst (λ (m : ℕ). Each Coordinate (coordsIn m f)) z all-hold)
 

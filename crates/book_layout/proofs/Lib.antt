@@ -7,6 +7,5 @@ pub mod Books
 pub mod Checks
 pub mod Found
 pub mod Exact
-pub mod Counts
 pub mod Lent
 pub mod Theorems

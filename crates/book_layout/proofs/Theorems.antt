@@ -9,28 +9,24 @@ use lib.ListN.{length}
 use lib.Ieee.{Float}
 use borrow.Author.Tests.{le-leb}
 use Rattle.refusals.specs.Refusals.{passed, unless}
-use Rattle.reading.specs.Reading.{leastReading}
-use Rattle.book_layout.specs.Layout.{bookOf, Each, SameOutlines, coordsOf, countsOf, ringsOf}
+use Rattle.reading.specs.Reading.{BitForBit, leastReading}
+use Rattle.number_bytes.specs.Bytes.{Each, Byte}
+use Rattle.refusals.specs.Rings.{ringsMost}
+use Rattle.book_layout.specs.Layout.{numbersMost, bookOf, SameOutlines, coordsOf, countsOf, ringsOf}
 use Rattle.book_layout.specs.Faults.{_passes, bookCheck}
-use Rattle.book_layout.specs.Writer.{ringsFrom, writeRefusal}
+use Rattle.book_layout.specs.Writer.{ringsFrom, writeRefusal, Formed, Writes}
 use Rattle.book_layout.specs.Reader.{numbersOf, holdsAll, readRefusal}
-use Rattle.book_layout.proofs.Passing.{both}
+use Rattle.refusals.proofs.Sized.{row-parts}
 use Rattle.book_layout.proofs.Books.{same-book, least-accepted}
 use Rattle.book_layout.proofs.Laid.{rings-of}
-use Rattle.book_layout.proofs.Found.{Byte}
 use Rattle.book_layout.proofs.Exact.{written-again, book-passes}
-use Rattle.book_layout.proofs.Lent.{Formed, formed, takes, taken, held-accepted, handed, read-held, read-size, total-bounds}
-
--- The writer can write the file f: it takes some lists of numbers and counts, with room for just that file, and their book is f.
-pub record Writes (xs : List Float) (ns f : List ℕ) : Type 0 where
-  pub formed : Formed xs
-  pub taken : writeRefusal xs ns (length f) passes
-  pub book : bookOf (ringsFrom ns xs) ≡ f
+use Rattle.refusals.proofs.Counts.{total-bounds}
+use Rattle.book_layout.proofs.Lent.{formed, takes, taken, held-accepted, handed, read-held, read-size}
 
 -- For two lists of rings that the writer takes, the books are the same bytes exactly if the lists are equally long and each ring is, bit for bit, a
 -- reading of the one at its place.
 pub same-bytes : (xs ys : List Float) (ns ms : List ℕ) (s t : ℕ) → Formed xs → Formed ys → writeRefusal xs ns s passes → writeRefusal ys ms t passes
-    → (bookOf (ringsFrom ns xs) ≡ bookOf (ringsFrom ms ys)) ↔ SameOutlines (ringsFrom ns xs) (ringsFrom ms ys)
+    → (bookOf (ringsFrom ns xs) ≡ bookOf (ringsFrom ms ys)) ↔ SameOutlines BitForBit (ringsFrom ns xs) (ringsFrom ms ys)
 same-bytes xs ys ns ms s t f g h k =
     same-book (ringsFrom ns xs) (ringsFrom ms ys) (held-accepted xs ns f (takes xs ns s h .0)) (held-accepted ys ms g (takes ys ms t k .0))
 
@@ -38,7 +34,7 @@ same-bytes xs ys ns ms s t f g h k =
 pub again : (f : List ℕ) (room counts : ℕ) → Each Byte f → readRefusal f room counts passes → Writes (numbersOf f) (countsOf f) f
 unfolding readRefusal
 again f room counts bytes h =
-    let ok = both (bookCheck f) (unless (holdsAll f room counts) 4) h .0 in
+    let ok = row-parts (bookCheck f) (unless (holdsAll f room counts) 4 0) h .0 in
     record {
       formed = formed (coordsOf f);
       taken = taken (numbersOf f) (countsOf f) (length f) (read-held f bytes ok) (omega (arith, read-size f bytes ok));
@@ -60,7 +56,7 @@ accepts f room counts bytes enough = (
 )
 
 -- Room for 4,096 numbers and 8 counts is enough for every file that passes the checks.
-pub enough : (f : List ℕ) (room counts : ℕ) → Each Byte f → bookCheck f passes → 4096 ≤ room → 8 ≤ counts → holdsAll f room counts ≡ true
+pub enough : (f : List ℕ) (room counts : ℕ) → Each Byte f → bookCheck f passes → numbersMost ≤ room → ringsMost ≤ counts → holdsAll f room counts ≡ true
 enough f room counts bytes ok h k =
     let held = read-held f bytes ok in
     let n : length (numbersOf f) ≤ room = omega (arith, held .whole, held .few, total-bounds (countsOf f) (held .sized)) in

@@ -8,10 +8,13 @@ use lib.IntN.{pos}
 use lib.Ieee.{Float, fin, toBits, ofBits}
 use Rattle.refusals.specs.Refusals.{none, refuse}
 use Rattle.refusals.specs.Bounds.{coordinate, every}
+use Rattle.refusals.specs.Rows.{ofRings}
 use Rattle.reading.specs.Reading.{Vertex, ord, less, best, bestOf, leastReading}
 use Rattle.reading.specs.Lent.{kept, ringOf}
-use Rattle.book_layout.specs.Layout.{bytesOf, numberOf, coordBytes, body, entries, layout, bookOf, coordinateBits, total, coordsIn, countsIn, coordsOf, countsOf, ringCount, entryOffset}
-use Rattle.book_layout.specs.Writer.{sizedAll, lengthsOk, writeRefusal}
+use Rattle.number_bytes.specs.Bytes.{bytesOf, numberOf}
+use Rattle.refusals.specs.Rings.{total, sizedAll}
+use Rattle.book_layout.specs.Layout.{coordBytes, body, entries, layout, bookOf, coordinateBits, coordsIn, countsIn, coordsOf, countsOf, ringCount, entryOffset}
+use Rattle.book_layout.specs.Writer.{writeRefusal}
 use Rattle.book_layout.specs.Reader.{readRefusal}
 use Rattle.book_layout.specs.Faults.{faultAt, entriesCheck, coordsCheck, leastCheck, bookCheck}
 
@@ -44,8 +47,8 @@ pub triangle-fine : bookCheck book ≡ none
 unfolding bookCheck entriesCheck coordsCheck leastCheck coordinateBits coordinate ofBits numberOf coordsIn countsIn countsOf ringCount entryOffset total bestOf best less ord
 triangle-fine = refl
 
--- one fault each: the length, the ring count, the offset of the entries, the ring's offset, its vertices, where the rings end, the coordinate
--- (2 ^ 20 and more, a NaN), and a ring that is not its least reading
+-- one fault each: the length, the ring count, the offset of the entries, the ring's offset, its vertices, where the rings end, the
+-- coordinate (2 ^ 20 and more, a NaN), and a ring that is not its least reading
 pub cut-short : bookCheck (take 63 book) ≡ faultAt 0
 unfolding bookCheck entriesCheck coordsCheck leastCheck coordinateBits coordinate ofBits numberOf coordsIn countsIn countsOf ringCount entryOffset total bestOf best less ord
 cut-short = refl
@@ -100,31 +103,31 @@ abbrev huge : List Float
 huge = fin false 1 (pos 20) ∷ zero ∷ zero ∷ three ∷ zero ∷ zero ∷ []
 
 pub written : writeRefusal lent (3 ∷ []) 64 ≡ none
-unfolding writeRefusal lengthsOk sizedAll total every coordinate
+unfolding writeRefusal ofRings sizedAll total every coordinate
 written = refl
 
-pub small-room : writeRefusal lent (3 ∷ []) 63 ≡ refuse 4
-unfolding writeRefusal lengthsOk sizedAll total every coordinate
+pub small-room : writeRefusal lent (3 ∷ []) 63 ≡ refuse 4 0
+unfolding writeRefusal ofRings sizedAll total every coordinate
 small-room = refl
 
-pub number-before-room : writeRefusal huge (3 ∷ []) 63 ≡ refuse 2
-unfolding writeRefusal lengthsOk sizedAll total every coordinate
+pub number-before-room : writeRefusal huge (3 ∷ []) 63 ≡ refuse 2 0
+unfolding writeRefusal ofRings sizedAll total every coordinate
 number-before-room = refl
 
-pub length-before-number : writeRefusal huge (4 ∷ []) 63 ≡ refuse 1
-unfolding writeRefusal lengthsOk sizedAll total every coordinate
+pub length-before-number : writeRefusal huge (4 ∷ []) 63 ≡ refuse 1 0
+unfolding writeRefusal ofRings sizedAll total every coordinate
 length-before-number = refl
 
-pub odd-list : writeRefusal (zero ∷ lent) (3 ∷ []) 64 ≡ refuse 1
-unfolding writeRefusal lengthsOk sizedAll total every coordinate
+pub odd-list : writeRefusal (zero ∷ lent) (3 ∷ []) 64 ≡ refuse 1 0
+unfolding writeRefusal ofRings sizedAll total every coordinate
 odd-list = refl
 
-pub no-counts : writeRefusal [] [] 64 ≡ refuse 1
-unfolding writeRefusal lengthsOk sizedAll total every coordinate
+pub no-counts : writeRefusal [] [] 64 ≡ refuse 1 0
+unfolding writeRefusal ofRings sizedAll total every coordinate
 no-counts = refl
 
-pub pair : writeRefusal (take 4 lent) (2 ∷ []) 64 ≡ refuse 1
-unfolding writeRefusal lengthsOk sizedAll total every coordinate
+pub pair : writeRefusal (take 4 lent) (2 ∷ []) 64 ≡ refuse 1 0
+unfolding writeRefusal ofRings sizedAll total every coordinate
 pair = refl
 
 -- ---- the reader's, for rooms of so many numbers and counts
@@ -133,11 +136,11 @@ pub accepted : readRefusal book 6 1 ≡ none
 unfolding readRefusal coordsOf bookCheck entriesCheck coordsCheck leastCheck coordinateBits coordinate ofBits numberOf coordsIn countsIn countsOf ringCount entryOffset total bestOf best less ord
 accepted = refl
 
-pub small-numbers : readRefusal book 5 1 ≡ refuse 4
+pub small-numbers : readRefusal book 5 1 ≡ refuse 4 0
 unfolding readRefusal coordsOf bookCheck entriesCheck coordsCheck leastCheck coordinateBits coordinate ofBits numberOf coordsIn countsIn countsOf ringCount entryOffset total bestOf best less ord
 small-numbers = refl
 
-pub small-counts : readRefusal book 6 0 ≡ refuse 4
+pub small-counts : readRefusal book 6 0 ≡ refuse 4 0
 unfolding readRefusal coordsOf bookCheck entriesCheck coordsCheck leastCheck coordinateBits coordinate ofBits numberOf coordsIn countsIn countsOf ringCount entryOffset total bestOf best less ord
 small-counts = refl
 

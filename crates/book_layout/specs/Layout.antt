@@ -1,78 +1,72 @@
 -- The outline book: its bytes, which lists of rings it holds, and what a file holds if it is one. Definitions only.
-use Prim.Native.Nat.{ℕ, zero, suc, _+_, _-_, _*_, _/_, _%_, _^_, _≤_, _<_}
+use Prim.Native.Nat.{ℕ, zero, suc, _+_, _-_, _*_, _/_, _^_, _≤_, _<_}
 use mathlib.Core.Path.{_≡_}
 use mathlib.Core.Bool.{Bool, true, _&&_}
 use mathlib.Core.List.{List, [], _∷_, _++_, map}
 use lib.ListN.{length, getD, take, drop}
 use lib.Dec.{leb}
 use lib.Ieee.{binary64, ofBits}
+use Rattle.number_bytes.specs.Bytes.{bytesOf, numberOf, Each}
 use Rattle.refusals.specs.Bounds.{coordinate}
-use Rattle.reading.specs.Reading.{Reads, Vertex, flat, vertices, leastReading}
+use Rattle.refusals.specs.Rings.{verticesLeast, verticesMost, ringsMost}
+use Rattle.reading.specs.Reading.{ReadsUpTo, Vertex, flat, vertices, leastReading}
 
 -- ---- sizes, in bytes
 
+abbrev pub fieldBytes : ℕ
+fieldBytes = 4
+
+abbrev pub coordinateBytes : ℕ
+coordinateBytes = 8
+
 abbrev pub vertexBytes : ℕ
-vertexBytes = 16
+vertexBytes = 2 * coordinateBytes
 
 -- a ring's offset and its vertices
 abbrev pub entryBytes : ℕ
-entryBytes = 8
+entryBytes = 2 * fieldBytes
 
 -- the ring count and the offset of the first entry
 abbrev pub tailBytes : ℕ
-tailBytes = 8
+tailBytes = 2 * fieldBytes
 
--- the shortest book and the longest: 64 and 32,840
+-- the coordinates of all rings: 4,096
+abbrev pub numbersMost : ℕ
+numbersMost = 2 * ringsMost * verticesMost
+
+-- the shortest book and the longest: 64 and 32,840 bytes
 abbrev pub bookLeast : ℕ
-bookLeast = 3 * vertexBytes + entryBytes + tailBytes
+bookLeast = verticesLeast * vertexBytes + entryBytes + tailBytes
 
 abbrev pub bookMost : ℕ
-bookMost = 8 * (256 * vertexBytes + entryBytes) + tailBytes
-
--- between the two, both included
-abbrev pub within : ℕ → ℕ → ℕ → Bool
-within low high n = leb low n && leb n high
-
--- ---- numbers in bytes, little-endian
-
-unfoldable pub bytesOf : ℕ → ℕ → List ℕ
-bytesOf zero n = []
-bytesOf (suc k) n = n % 256 ∷ bytesOf k (n / 256)
-
-unfoldable pub numberOf : List ℕ → ℕ
-numberOf [] = 0
-numberOf (b ∷ l) = b + 256 * numberOf l
+bookMost = ringsMost * (verticesMost * vertexBytes + entryBytes) + tailBytes
 
 -- ---- the layout
 
--- coordinates, 8 bytes each
+-- coordinates, one after the other
 unfoldable pub coordBytes : List ℕ → List ℕ
 coordBytes [] = []
-coordBytes (c ∷ l) = bytesOf 8 c ++ coordBytes l
+coordBytes (c ∷ l) = bytesOf coordinateBytes c ++ coordBytes l
 
 -- the rings, with no gaps
 unfoldable pub body : List (List Vertex) → List ℕ
 body [] = []
 body (r ∷ rs) = coordBytes (flat r) ++ body rs
 
--- per ring the offset of its first byte and its vertices, where the rings have so many vertices and the first of them begins at the offset `at`
+-- per ring the offset of its first byte and its vertices: rings of so many vertices, the first of them at the offset `at`
 unfoldable pub entries : ℕ → List ℕ → List ℕ
 entries at [] = []
-entries at (n ∷ ns) = bytesOf 4 at ++ (bytesOf 4 n ++ entries (at + vertexBytes * n) ns)
+entries at (n ∷ ns) = bytesOf fieldBytes at ++ (bytesOf fieldBytes n ++ entries (at + vertexBytes * n) ns)
 
 -- last, the ring count and the offset of the first entry
 unfoldable pub layout : List (List Vertex) → List ℕ
-layout rs = body rs ++ (entries 0 (map length rs) ++ (bytesOf 4 (length rs) ++ bytesOf 4 (length (body rs))))
+layout rs = body rs ++ (entries 0 (map length rs) ++ (bytesOf fieldBytes (length rs) ++ bytesOf fieldBytes (length (body rs))))
 
 -- a book keeps of each ring its least reading
 unfoldable pub bookOf : List (List Vertex) → List ℕ
 bookOf rs = layout (map leastReading rs)
 
 -- ---- which lists a book holds
-
-abbrev pub Each : {A : Type 0} → (A → Type 0) → List A → Type 0
-Each P [] = Unit {0}
-Each P (a ∷ l) = P a × Each P l
 
 -- whether a bit pattern is a coordinate's: finite, of magnitude at most 1,000,000
 unfoldable pub coordinateBits : ℕ → Bool
@@ -87,36 +81,31 @@ pub record Corner (v : Vertex) : Type 0 where
   pub y : Coordinate (v .y)
 
 pub record Outline (r : List Vertex) : Type 0 where
-  pub least : 3 ≤ length r
-  pub most : length r ≤ 256
+  pub least : verticesLeast ≤ length r
+  pub most : length r ≤ verticesMost
   pub corners : Each Corner r
 
 pub record Accepted (rs : List (List Vertex)) : Type 0 where
   pub least : 1 ≤ length rs
-  pub most : length rs ≤ 8
+  pub most : length rs ≤ ringsMost
   pub rings : Each Outline rs
 
--- equally long, and each ring is a reading of the one at its place
-pub record SameOutlines (rs xs : List (List Vertex)) : Type 0 where
+-- equally long, and each ring is a reading of the one at its place, where coordinates are compared by a relation
+pub record SameOutlines (R : ℕ → ℕ → Type 0) (rs xs : List (List Vertex)) : Type 0 where
   pub long : length rs ≡ length xs
-  pub each : (i : ℕ) → i < length rs → Reads (getD rs i []) (getD xs i [])
+  pub each : (i : ℕ) → i < length rs → ReadsUpTo R (getD rs i []) (getD xs i [])
 
 -- ---- what a file holds, if it is a book
-
--- the sum of vertex counts
-unfoldable pub total : List ℕ → ℕ
-total [] = 0
-total (n ∷ ns) = n + total ns
 
 -- k coordinates
 unfoldable pub coordsIn : ℕ → List ℕ → List ℕ
 coordsIn zero f = []
-coordsIn (suc k) f = numberOf (take 8 f) ∷ coordsIn k (drop 8 f)
+coordsIn (suc k) f = numberOf (take coordinateBytes f) ∷ coordsIn k (drop coordinateBytes f)
 
 -- the vertex counts of k entries
 unfoldable pub countsIn : ℕ → List ℕ → List ℕ
 countsIn zero f = []
-countsIn (suc k) f = numberOf (take 4 (drop 4 f)) ∷ countsIn k (drop entryBytes f)
+countsIn (suc k) f = numberOf (take fieldBytes (drop fieldBytes f)) ∷ countsIn k (drop entryBytes f)
 
 -- rings of these counts, one after the other
 unfoldable pub ringsIn : List ℕ → List ℕ → List (List Vertex)
@@ -125,14 +114,14 @@ ringsIn (n ∷ ns) f = vertices (coordsIn (2 * n) f) ∷ ringsIn ns (drop (verte
 
 -- the two last fields
 unfoldable pub ringCount : List ℕ → ℕ
-ringCount f = numberOf (take 4 (drop (length f - 8) f))
+ringCount f = numberOf (take fieldBytes (drop (length f - tailBytes) f))
 
 unfoldable pub entryOffset : List ℕ → ℕ
-entryOffset f = numberOf (take 4 (drop (length f - 4) f))
+entryOffset f = numberOf (take fieldBytes (drop (length f - fieldBytes) f))
 
 -- the coordinates before the first entry
 unfoldable pub coordsOf : List ℕ → List ℕ
-coordsOf f = coordsIn (entryOffset f / 8) f
+coordsOf f = coordsIn (entryOffset f / coordinateBytes) f
 
 unfoldable pub countsOf : List ℕ → List ℕ
 countsOf f = countsIn (ringCount f) (drop (entryOffset f) f)

@@ -7,7 +7,8 @@ use lib.Dec.{leb}
 use lib.Ieee.{Float, binary64, ofBits}
 use Rattle.ring.specs.Room.{laid}
 use Rattle.refusals.specs.Answers.{Outcome, outcome, left}
-use Rattle.refusals.specs.Refusals.{unless, firstOf}
+use Rattle.refusals.specs.Refusals.{firstOf}
+use Rattle.refusals.specs.Screens.{wrongBookRooms}
 use Rattle.refusals.specs.declared.Refusal.{Refusal}
 use Rattle.book_layout.specs.Layout.{coordsOf, countsOf}
 use Rattle.book_layout.specs.Faults.{bookCheck}
@@ -22,7 +23,7 @@ holdsAll f room counts = leb (length (numbersOf f)) room && leb (length (countsO
 
 -- the first of the tests that fails: 7 before 4
 unfoldable pub readRefusal : List ℕ → ℕ → ℕ → Refusal
-readRefusal f room counts = firstOf (bookCheck f ∷ unless (holdsAll f room counts) 4 ∷ [])
+readRefusal f room counts = firstOf (bookCheck f ∷ wrongBookRooms (length (numbersOf f)) room (length (countsOf f)) counts ∷ [])
 
 -- what the call answers, and the two rooms as it leaves them
 abbrev pub readCall : List ℕ → ℕ → ℕ → Outcome ℕ

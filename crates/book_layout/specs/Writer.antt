@@ -4,38 +4,34 @@ use mathlib.Core.Path.{_≡_}
 use mathlib.Core.Bool.{Bool, true, _&&_}
 use mathlib.Core.List.{List, [], _∷_}
 use lib.ListN.{length, take, drop}
-use lib.Dec.{leb, eqb}
-use lib.Ieee.{Float}
+use lib.Dec.{T, leb, eqb}
+use lib.Ieee.{Float, binary64, fits}
 use Rattle.ring.specs.Room.{laid}
 use Rattle.refusals.specs.Answers.{Outcome, outcome, left}
-use Rattle.refusals.specs.Refusals.{unless, firstOf}
+use Rattle.refusals.specs.Refusals.{firstOf}
+use Rattle.refusals.specs.Screens.{wrongBook}
+use Rattle.refusals.specs.Rows.{ofRings}
 use Rattle.refusals.specs.Bounds.{coordinates}
 use Rattle.refusals.specs.declared.Refusal.{Refusal}
+use Rattle.number_bytes.specs.Bytes.{Each}
 use Rattle.reading.specs.Reading.{Vertex}
 use Rattle.reading.specs.Lent.{ringOf}
-use Rattle.book_layout.specs.Layout.{vertexBytes, entryBytes, tailBytes, within, total, bookOf}
+use Rattle.book_layout.specs.Faults.{_passes}
+use Rattle.refusals.specs.Rings.{ringsMost, total, sizedAll}
+use Rattle.book_layout.specs.Layout.{vertexBytes, entryBytes, tailBytes, bookOf}
 
 -- the rings of these vertex counts, one after the other
 unfoldable pub ringsFrom : List ℕ → List Float → List (List Vertex)
 ringsFrom [] xs = []
 ringsFrom (n ∷ ns) xs = ringOf (take (2 * n) xs) ∷ ringsFrom ns (drop (2 * n) xs)
 
--- each ring has 3 to 256 vertices
-unfoldable pub sizedAll : List ℕ → Bool
-sizedAll [] = true
-sizedAll (n ∷ ns) = within 3 256 n && sizedAll ns
-
 -- how many bytes the book has
 abbrev pub bookSize : List ℕ → ℕ
 bookSize ns = vertexBytes * total ns + entryBytes * length ns + tailBytes
 
--- the lengths of what is lent: an even list, 1 to 8 rings of 3 to 256 vertices, and the list is the sum of the counts
-unfoldable pub lengthsOk : List Float → List ℕ → Bool
-lengthsOk xs ns = eqb (length xs % 2) 0 && (within 1 8 (length ns) && (sizedAll ns && eqb (length xs) (2 * total ns)))
-
 -- the first of the tests that fails, for a room of so many bytes
 unfoldable pub writeRefusal : List Float → List ℕ → ℕ → Refusal
-writeRefusal xs ns size = firstOf (unless (lengthsOk xs ns) 1 ∷ unless (coordinates xs) 2 ∷ unless (leb (bookSize ns) size) 4 ∷ [])
+writeRefusal xs ns size = firstOf (ofRings xs ns ∷ wrongBook (bookSize ns) size ∷ [])
 
 -- what the call answers, and the room as it leaves it
 abbrev pub writeCall : List Float → List ℕ → ℕ → Outcome ℕ
@@ -47,7 +43,17 @@ writeRoom xs ns room = left (writeRefusal xs ns (length room)) (laid (bookOf (ri
 -- lists that pass the tests of the writer but for its room
 pub record Held (xs : List Float) (ns : List ℕ) : Type 0 where
   pub one : 1 ≤ length ns
-  pub few : length ns ≤ 8
+  pub few : length ns ≤ ringsMost
   pub sized : sizedAll ns ≡ true
   pub whole : length xs ≡ 2 * total ns
   pub bounded : coordinates xs ≡ true
+
+-- every number of a list is one that the format holds
+abbrev pub Formed : List Float → Type 0
+Formed xs = Each (λ (x : Float). T (fits binary64 x)) xs
+
+-- the writer can write the file f: it takes these numbers and counts, with room for just that file, and their book is f
+pub record Writes (xs : List Float) (ns f : List ℕ) : Type 0 where
+  pub formed : Formed xs
+  pub taken : writeRefusal xs ns (length f) passes
+  pub book : bookOf (ringsFrom ns xs) ≡ f

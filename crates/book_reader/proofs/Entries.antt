@@ -10,65 +10,69 @@ use lib.Dec.{eqb}
 use borrow.Author.Tests.{eq-eqb, ne-eqb, eqb-true}
 use Rattle.refusals.specs.Refusals.{none, passed, first}
 use Rattle.refusals.specs.declared.Refusal.{Refusal}
-use Rattle.book_layout.specs.Layout.{within, numberOf, total, countsIn}
+use Rattle.number_bytes.specs.Bytes.{numberOf}
+use Rattle.refusals.specs.Rings.{verticesLeast, verticesMost, within, total}
+use Rattle.book_layout.specs.Layout.{fieldBytes, vertexBytes, entryBytes, countsIn}
 use Rattle.book_layout.specs.Faults.{faultAt, fault, _passes, entriesCheck}
-use Rattle.book_layout.proofs.Passing.{both, held, is-within}
+use Rattle.refusals.proofs.Counts.{is-within}
+use Rattle.refusals.proofs.Sized.{row-parts}
+use Rattle.book_layout.proofs.Passing.{held}
 use Rattle.book_reader.specs.Parts.{listCheck}
 
 -- with i of k entries passed, from the place `from` on, and `before` bytes before the next ring
 module _ (f : List ℕ) (from k i before : ℕ) (h : i < k) where
   abbrev p : ℕ
-  p = from + 8 * i
+  p = from + entryBytes * i
 
   -- the offset and the vertices that the entry tells
   abbrev o : ℕ
-  o = numberOf (take 4 (drop (from + 8 * i) f))
+  o = numberOf (take fieldBytes (drop (from + entryBytes * i) f))
 
   abbrev n : ℕ
-  n = numberOf (take 4 (drop (from + 8 * i + 4) f))
+  n = numberOf (take fieldBytes (drop (from + entryBytes * i + fieldBytes) f))
 
   abbrev later : Refusal
-  later = entriesCheck (k - (i + 1)) (from + 8 * (i + 1)) (before + 16 * n) (drop (from + 8 * (i + 1)) f)
+  later = entriesCheck (k - (i + 1)) (from + entryBytes * (i + 1)) (before + vertexBytes * n) (drop (from + entryBytes * (i + 1)) f)
 
   abbrev rest : List ℕ
-  rest = countsIn (k - (i + 1)) (drop (from + 8 * (i + 1)) f)
+  rest = countsIn (k - (i + 1)) (drop (from + entryBytes * (i + 1)) f)
 
   more : k - i ≡ suc (k - (i + 1))
   more = omega arith
 
-  next : drop 8 (drop p f) ≡ drop (from + 8 * (i + 1)) f
-  next = let d : p + 8 ≡ from + 8 * (i + 1) = omega arith in drop-drop 8 p f ∙ ap (λ (j : ℕ). drop j f) d
+  next : drop entryBytes (drop p f) ≡ drop (from + entryBytes * (i + 1)) f
+  next = let d : p + entryBytes ≡ from + entryBytes * (i + 1) = omega arith in drop-drop entryBytes p f ∙ ap (λ (j : ℕ). drop j f) d
 
-  left : entriesCheck (k - i) p before (drop p f) ≡ first (fault (eqb o before) p) (first (fault (within 3 256 n) (p + 4)) later)
+  left : entriesCheck (k - i) p before (drop p f) ≡ first (fault (eqb o before) p) (first (fault (within verticesLeast verticesMost n) (p + fieldBytes)) later)
   unfolding entriesCheck
   left =
-      let d : p + 8 ≡ from + 8 * (i + 1) = omega arith in
+      let d : p + entryBytes ≡ from + entryBytes * (i + 1) = omega arith in
       ap (λ (j : ℕ). entriesCheck j p before (drop p f)) more
-      ∙ ap (λ (g : List ℕ). first (fault (eqb o before) p) (first (fault (within 3 256 (numberOf (take 4 g))) (p + 4)) (entriesCheck (k - (i + 1)) (p + 8) (before + 16 * numberOf (take 4 g)) (drop 8 (drop p f))))) (drop-drop 4 p f)
-      ∙ ap₂ (λ (j : ℕ) (g : List ℕ). first (fault (eqb o before) p) (first (fault (within 3 256 n) (p + 4)) (entriesCheck (k - (i + 1)) j (before + 16 * n) g))) d next
+      ∙ ap (λ (g : List ℕ). first (fault (eqb o before) p) (first (fault (within verticesLeast verticesMost (numberOf (take fieldBytes g))) (p + fieldBytes)) (entriesCheck (k - (i + 1)) (p + entryBytes) (before + vertexBytes * numberOf (take fieldBytes g)) (drop entryBytes (drop p f))))) (drop-drop fieldBytes p f)
+      ∙ ap₂ (λ (j : ℕ) (g : List ℕ). first (fault (eqb o before) p) (first (fault (within verticesLeast verticesMost n) (p + fieldBytes)) (entriesCheck (k - (i + 1)) j (before + vertexBytes * n) g))) d next
 
   pub offset-bad : eqb o before ≡ false → entriesCheck (k - i) p before (drop p f) ≡ faultAt p
   offset-bad w = left ∙ (rw w)
 
-  pub count-bad : eqb o before ≡ true → within 3 256 n ≡ false → entriesCheck (k - i) p before (drop p f) ≡ faultAt (p + 4)
+  pub count-bad : eqb o before ≡ true → within verticesLeast verticesMost n ≡ false → entriesCheck (k - i) p before (drop p f) ≡ faultAt (p + fieldBytes)
   count-bad w v = left ∙ (rw (w, v))
 
-  pub entry-good : eqb o before ≡ true → within 3 256 n ≡ true → entriesCheck (k - i) p before (drop p f) ≡ later
+  pub entry-good : eqb o before ≡ true → within verticesLeast verticesMost n ≡ true → entriesCheck (k - i) p before (drop p f) ≡ later
   entry-good w v = left ∙ (rw (w, v))
 
   -- where the check passes, it passes here and further on
-  pub entry-held : entriesCheck (k - i) p before (drop p f) passes → (3 ≤ n) × (n ≤ 256) × (later passes)
+  pub entry-held : entriesCheck (k - i) p before (drop p f) passes → (verticesLeast ≤ n) × (n ≤ verticesMost) × (later passes)
   entry-held e =
-      let a = both (fault (eqb o before) p) (first (fault (within 3 256 n) (p + 4)) later) (ap passed (sym left) ∙ e) in
-      let b = both (fault (within 3 256 n) (p + 4)) later (a .1) in
-      let w = is-within 3 256 n (held (within 3 256 n) (p + 4) (b .0)) in
+      let a = row-parts (fault (eqb o before) p) (first (fault (within verticesLeast verticesMost n) (p + fieldBytes)) later) (ap passed (sym left) ∙ e) in
+      let b = row-parts (fault (within verticesLeast verticesMost n) (p + fieldBytes)) later (a .1) in
+      let w = is-within verticesLeast verticesMost n (held (within verticesLeast verticesMost n) (p + fieldBytes) (b .0)) in
       (w .0, w .1, b .1)
 
   pub count-left : countsIn (k - i) (drop p f) ≡ n ∷ rest
   unfolding countsIn
   count-left =
       ap (λ (j : ℕ). countsIn j (drop p f)) more
-      ∙ ap₂ (λ (a g : List ℕ). numberOf (take 4 a) ∷ countsIn (k - (i + 1)) g) (drop-drop 4 p f) next
+      ∙ ap₂ (λ (a g : List ℕ). numberOf (take fieldBytes a) ∷ countsIn (k - (i + 1)) g) (drop-drop fieldBytes p f) next
 
   pub total-left : total (countsIn (k - i) (drop p f)) ≡ n + total rest
   unfolding total
@@ -80,29 +84,29 @@ module _ (f : List ℕ) (from k i before : ℕ) (h : i < k) where
       ap (sets counts i) count-left ∙ ap (λ (j : ℕ). sets (set counts i n) j rest) e
 
 -- at the start and at the end of the loops
-pub entries-start : (f : List ℕ) (from k : ℕ) → entriesCheck k from 0 (drop from f) ≡ entriesCheck (k - 0) (from + 8 * 0) 0 (drop (from + 8 * 0) f)
+pub entries-start : (f : List ℕ) (from k : ℕ) → entriesCheck k from 0 (drop from f) ≡ entriesCheck (k - 0) (from + entryBytes * 0) 0 (drop (from + entryBytes * 0) f)
 entries-start f from k =
     let e : k ≡ k - 0 = omega arith in
-    let d : from ≡ from + 8 * 0 = omega arith in
+    let d : from ≡ from + entryBytes * 0 = omega arith in
     ap₂ (λ (a b : ℕ). entriesCheck a b 0 (drop b f)) e d
 
-pub entries-end : (f : List ℕ) (from k i before : ℕ) → k ≤ i → entriesCheck (k - i) (from + 8 * i) before (drop (from + 8 * i) f) ≡ none
+pub entries-end : (f : List ℕ) (from k i before : ℕ) → k ≤ i → entriesCheck (k - i) (from + entryBytes * i) before (drop (from + entryBytes * i) f) ≡ none
 unfolding entriesCheck
 entries-end f from k i before h =
     let e : k - i ≡ 0 = omega arith in
-    ap (λ (j : ℕ). entriesCheck j (from + 8 * i) before (drop (from + 8 * i) f)) e
+    ap (λ (j : ℕ). entriesCheck j (from + entryBytes * i) before (drop (from + entryBytes * i) f)) e
 
-pub counts-start : (f : List ℕ) (from k : ℕ) → countsIn k (drop from f) ≡ countsIn (k - 0) (drop (from + 8 * 0) f)
+pub counts-start : (f : List ℕ) (from k : ℕ) → countsIn k (drop from f) ≡ countsIn (k - 0) (drop (from + entryBytes * 0) f)
 counts-start f from k =
     let e : k ≡ k - 0 = omega arith in
-    let d : from ≡ from + 8 * 0 = omega arith in
+    let d : from ≡ from + entryBytes * 0 = omega arith in
     ap₂ (λ (a b : ℕ). countsIn a (drop b f)) e d
 
-pub counts-end : (f : List ℕ) (from k i : ℕ) → k ≤ i → countsIn (k - i) (drop (from + 8 * i) f) ≡ []
+pub counts-end : (f : List ℕ) (from k i : ℕ) → k ≤ i → countsIn (k - i) (drop (from + entryBytes * i) f) ≡ []
 unfolding countsIn
-counts-end f from k i h = let e : k - i ≡ 0 = omega arith in ap (λ (a : ℕ). countsIn a (drop (from + 8 * i) f)) e
+counts-end f from k i h = let e : k - i ≡ 0 = omega arith in ap (λ (a : ℕ). countsIn a (drop (from + entryBytes * i) f)) e
 
-pub total-end : (f : List ℕ) (from k i : ℕ) → k ≤ i → total (countsIn (k - i) (drop (from + 8 * i) f)) ≡ 0
+pub total-end : (f : List ℕ) (from k i : ℕ) → k ≤ i → total (countsIn (k - i) (drop (from + entryBytes * i) f)) ≡ 0
 unfolding total
 total-end f from k i h = ap total (counts-end f from k i h)
 
@@ -113,17 +117,17 @@ module _ (f : List ℕ) (from k : ℕ) where
   list-wrong place e = rw e
 
   module _ (e : entriesCheck k from 0 (drop from f) ≡ none) where
-    pub list-long : (16 * total (countsIn k (drop from f)) ≡ from → ⊥) → faultAt (length f - 4) ≡ listCheck f from k
+    pub list-long : (vertexBytes * total (countsIn k (drop from f)) ≡ from → ⊥) → faultAt (length f - fieldBytes) ≡ listCheck f from k
     unfolding listCheck
-    list-long w = rw (e, ne-eqb (16 * total (countsIn k (drop from f))) from w)
+    list-long w = rw (e, ne-eqb (vertexBytes * total (countsIn k (drop from f))) from w)
 
-    pub list-fine : 16 * total (countsIn k (drop from f)) ≡ from → none ≡ listCheck f from k
+    pub list-fine : vertexBytes * total (countsIn k (drop from f)) ≡ from → none ≡ listCheck f from k
     unfolding listCheck
-    list-fine w = rw (e, eq-eqb (16 * total (countsIn k (drop from f))) from w)
+    list-fine w = rw (e, eq-eqb (vertexBytes * total (countsIn k (drop from f))) from w)
 
-  pub list-passed : listCheck f from k passes → (entriesCheck k from 0 (drop from f) passes) × (16 * total (countsIn k (drop from f)) ≡ from)
+  pub list-passed : listCheck f from k passes → (entriesCheck k from 0 (drop from f) passes) × (vertexBytes * total (countsIn k (drop from f)) ≡ from)
   unfolding listCheck
   list-passed h =
-      let t = eqb (16 * total (countsIn k (drop from f))) from in
-      let p = both (entriesCheck k from 0 (drop from f)) (fault t (length f - 4)) h in
-      (p .0, eqb-true (16 * total (countsIn k (drop from f))) from (held t (length f - 4) (p .1)))
+      let t = eqb (vertexBytes * total (countsIn k (drop from f))) from in
+      let p = row-parts (entriesCheck k from 0 (drop from f)) (fault t (length f - fieldBytes)) h in
+      (p .0, eqb-true (vertexBytes * total (countsIn k (drop from f))) from (held t (length f - fieldBytes) (p .1)))

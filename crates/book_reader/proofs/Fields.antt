@@ -9,6 +9,7 @@ use lib.Ieee.{Float, nan, inf, fin, binary64, isNan, nanBits, ofBits}
 use lib.Ieee.Bits.{nanBits-is, nanBits-above}
 use borrow.Author.Tests.{le-leb, lt-leb, lt-ltb}
 use Rattle.refusals.specs.Bounds.{coordinate}
+use Rattle.refusals.specs.Rings.{verticesLeast, verticesMost, ringsMost}
 use Rattle.book_layout.specs.Layout.{coordinateBits}
 use Rattle.book_layout.proofs.Lent.{coordinate-number}
 use Rattle.book_reader.specs.Parts.{fieldOk}
@@ -20,16 +21,16 @@ module _ (code v t : ℕ) where
   is-told (inl e) = rw e
   is-told (inr e) = rw e
 
-  pub few-vertices : code ≡ 1 → v < 3 → false ≡ fieldOk code v t
-  few-vertices e h = rw (e, lt-leb 3 v h)
+  pub few-vertices : code ≡ 1 → v < verticesLeast → false ≡ fieldOk code v t
+  few-vertices e h = rw (e, lt-leb verticesLeast v h)
 
-  pub most-vertices : code ≡ 1 → 3 ≤ v → leb v 256 ≡ fieldOk code v t
-  most-vertices e h = rw (e, le-leb 3 v h)
+  pub most-vertices : code ≡ 1 → verticesLeast ≤ v → leb v verticesMost ≡ fieldOk code v t
+  most-vertices e h = rw (e, le-leb verticesLeast v h)
 
   pub few-rings : code ≡ 2 → v < 1 → false ≡ fieldOk code v t
   few-rings e h = rw (e, lt-leb 1 v h)
 
-  pub most-rings : code ≡ 2 → 1 ≤ v → leb v 8 ≡ fieldOk code v t
+  pub most-rings : code ≡ 2 → 1 ≤ v → leb v ringsMost ≡ fieldOk code v t
   most-rings e h = rw (e, le-leb 1 v h)
 
 pub no-field : (code v t : ℕ) → ((code ≡ 0) ⊎ (code ≡ 3) → ⊥) → (code ≡ 1 → ⊥) → (code ≡ 2 → ⊥) → false ≡ fieldOk code v t

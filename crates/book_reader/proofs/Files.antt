@@ -8,16 +8,20 @@ use lib.ListN.{length, drop}
 use lib.Dec.{leb, eqb}
 use lib.Ieee.{Float}
 use borrow.Author.Tests.{le-leb, lt-leb, leb-true, eqb-true}
-use Rattle.refusals.specs.Refusals.{none, refuse, passed, unless, first}
-use Rattle.refusals.specs.Answers.{count}
+use Rattle.refusals.specs.Refusals.{none, passed, first}
+use Rattle.refusals.specs.Screens.{wrongBookRooms}
+use Rattle.refusals.specs.Answers.{counted}
 use Rattle.refusals.specs.declared.Refusal.{Refusal}
 use Rattle.refusals.specs.declared.answer.Count.{Count}
 use Rattle.refusals.proofs.First.{first-assoc}
-use Rattle.book_layout.specs.Layout.{within, total, ringCount, entryOffset, countsIn, countsOf}
+use Rattle.refusals.specs.Rings.{ringsMost, within, total}
+use Rattle.book_layout.specs.Layout.{fieldBytes, coordinateBytes, vertexBytes, entryBytes, tailBytes, bookLeast, bookMost, ringCount, entryOffset, countsIn, countsOf}
 use Rattle.book_layout.specs.Faults.{faultAt, fault, _passes, entriesCheck, coordsCheck, leastCheck, bookCheck}
 use Rattle.book_layout.specs.Reader.{numbersOf, holdsAll, readRefusal, readCall, readRoom, readCounts}
-use Rattle.book_layout.proofs.Passing.{both, held, and-both, is-within}
-use Rattle.refusals.proofs.Sized.{held-last}
+use Rattle.laws.proofs.Both.{both}
+use Rattle.refusals.proofs.Counts.{is-within}
+use Rattle.refusals.proofs.Sized.{row-parts, holds}
+use Rattle.book_layout.proofs.Passing.{held}
 use Rattle.book_layout.proofs.Lent.{length-numbers, length-counts}
 use Rattle.refusals.proofs.Calls.{unique, count-only}
 use Rattle.book_reader.specs.Parts.{tailCheck, listCheck}
@@ -25,57 +29,57 @@ use Rattle.book_reader.specs.Parts.{tailCheck, listCheck}
 -- ---- the last fields
 
 module _ (f : List ℕ) where
-  pub too-short : length f < 64 → faultAt 0 ≡ tailCheck f
+  pub too-short : length f < bookLeast → faultAt 0 ≡ tailCheck f
   unfolding tailCheck
-  too-short h = rw (lt-leb 64 (length f) h)
+  too-short h = rw (lt-leb bookLeast (length f) h)
 
-  module _ (low : 64 ≤ length f) where
-    pub too-long : 32840 < length f → faultAt 0 ≡ tailCheck f
+  module _ (low : bookLeast ≤ length f) where
+    pub too-long : bookMost < length f → faultAt 0 ≡ tailCheck f
     unfolding tailCheck
-    too-long h = rw (le-leb 64 (length f) low, lt-leb (length f) 32840 h)
+    too-long h = rw (le-leb bookLeast (length f) low, lt-leb (length f) bookMost h)
 
-    module _ (high : length f ≤ 32840) where
-      pub bad-count : within 1 8 (ringCount f) ≡ false → faultAt (length f - 8) ≡ tailCheck f
+    module _ (high : length f ≤ bookMost) where
+      pub bad-count : within 1 ringsMost (ringCount f) ≡ false → faultAt (length f - tailBytes) ≡ tailCheck f
       unfolding tailCheck
-      bad-count h = rw (le-leb 64 (length f) low, le-leb (length f) 32840 high, h)
+      bad-count h = rw (le-leb bookLeast (length f) low, le-leb (length f) bookMost high, h)
 
-      module _ (number : within 1 8 (ringCount f) ≡ true) where
-        pub bad-end : eqb (entryOffset f + 8 * ringCount f + 8) (length f) ≡ false → faultAt (length f - 4) ≡ tailCheck f
+      module _ (number : within 1 ringsMost (ringCount f) ≡ true) where
+        pub bad-end : eqb (entryOffset f + entryBytes * ringCount f + tailBytes) (length f) ≡ false → faultAt (length f - fieldBytes) ≡ tailCheck f
         unfolding tailCheck
-        bad-end h = rw (le-leb 64 (length f) low, le-leb (length f) 32840 high, number, h)
+        bad-end h = rw (le-leb bookLeast (length f) low, le-leb (length f) bookMost high, number, h)
 
-        pub good-end : eqb (entryOffset f + 8 * ringCount f + 8) (length f) ≡ true → none ≡ tailCheck f
+        pub good-end : eqb (entryOffset f + entryBytes * ringCount f + tailBytes) (length f) ≡ true → none ≡ tailCheck f
         unfolding tailCheck
-        good-end h = rw (le-leb 64 (length f) low, le-leb (length f) 32840 high, number, h)
+        good-end h = rw (le-leb bookLeast (length f) low, le-leb (length f) bookMost high, number, h)
 
 -- what it tells that they are right
 pub record Tail (f : List ℕ) : Type 0 where
-  pub low : 64 ≤ length f
-  pub high : length f ≤ 32840
-  pub few : ringCount f ≤ 8
-  pub sum : entryOffset f + 8 * ringCount f + 8 ≡ length f
+  pub low : bookLeast ≤ length f
+  pub high : length f ≤ bookMost
+  pub few : ringCount f ≤ ringsMost
+  pub sum : entryOffset f + entryBytes * ringCount f + tailBytes ≡ length f
 
 pub tail-passed : (f : List ℕ) → tailCheck f passes → Tail f
 unfolding tailCheck
 tail-passed f h =
-    let e = eqb (entryOffset f + 8 * ringCount f + 8) (length f) in
-    let t1 = fault (within 64 32840 (length f)) 0 in
-    let t2 = fault (within 1 8 (ringCount f)) (length f - 8) in
-    let t3 = fault e (length f - 4) in
-    let p = both t1 (first t2 t3) h in
-    let q = both t2 t3 (p .1) in
-    let w = is-within 64 32840 (length f) (held (within 64 32840 (length f)) 0 (p .0)) in
+    let e = eqb (entryOffset f + entryBytes * ringCount f + tailBytes) (length f) in
+    let t1 = fault (within bookLeast bookMost (length f)) 0 in
+    let t2 = fault (within 1 ringsMost (ringCount f)) (length f - tailBytes) in
+    let t3 = fault e (length f - fieldBytes) in
+    let p = row-parts t1 (first t2 t3) h in
+    let q = row-parts t2 t3 (p .1) in
+    let w = is-within bookLeast bookMost (length f) (held (within bookLeast bookMost (length f)) 0 (p .0)) in
     record {
       low = w .0;
       high = w .1;
-      few = is-within 1 8 (ringCount f) (held (within 1 8 (ringCount f)) (length f - 8) (q .0)) .1;
-      sum = eqb-true (entryOffset f + 8 * ringCount f + 8) (length f) (held e (length f - 4) (q .1));
+      few = is-within 1 ringsMost (ringCount f) (held (within 1 ringsMost (ringCount f)) (length f - tailBytes) (q .0)) .1;
+      sum = eqb-true (entryOffset f + entryBytes * ringCount f + tailBytes) (length f) (held e (length f - fieldBytes) (q .1));
     }
 
 -- ---- the checks in order, in the four parts that `check_book` makes
 
 abbrev pub afterList : List ℕ → Refusal
-afterList f = first (coordsCheck (entryOffset f / 8) 0 f) (leastCheck (countsIn (ringCount f) (drop (entryOffset f) f)) 0 f)
+afterList f = first (coordsCheck (entryOffset f / coordinateBytes) 0 f) (leastCheck (countsIn (ringCount f) (drop (entryOffset f) f)) 0 f)
 
 abbrev pub afterTail : List ℕ → Refusal
 afterTail f = first (listCheck f (entryOffset f) (ringCount f)) (afterList f)
@@ -85,12 +89,12 @@ unfolding bookCheck tailCheck listCheck countsOf
 book-is f =
     let k = ringCount f in
     let e = entryOffset f in
-    let t1 = fault (within 64 32840 (length f)) 0 in
-    let t2 = fault (within 1 8 k) (length f - 8) in
-    let t3 = fault (eqb (e + 8 * k + 8) (length f)) (length f - 4) in
+    let t1 = fault (within bookLeast bookMost (length f)) 0 in
+    let t2 = fault (within 1 ringsMost k) (length f - tailBytes) in
+    let t3 = fault (eqb (e + entryBytes * k + tailBytes) (length f)) (length f - fieldBytes) in
     let v4 = entriesCheck k e 0 (drop e f) in
-    let t5 = fault (eqb (16 * total (countsIn k (drop e f))) e) (length f - 4) in
-    let v6 = first (coordsCheck (e / 8) 0 f) (leastCheck (countsIn k (drop e f)) 0 f) in
+    let t5 = fault (eqb (vertexBytes * total (countsIn k (drop e f))) e) (length f - fieldBytes) in
+    let v6 = first (coordsCheck (e / coordinateBytes) 0 f) (leastCheck (countsIn k (drop e f)) 0 f) in
     sym
     (first-assoc t1 (first t2 t3) (first (first v4 t5) v6)
     ∙ ap (first t1) (first-assoc t2 t3 (first (first v4 t5) v6) ∙ ap (λ (v : Refusal). first t2 (first t3 v)) (first-assoc v4 t5 v6)))
@@ -103,29 +107,26 @@ module _ (f : List ℕ) (room counts : ℕ) where
   at-fault h = rw h
 
   module _ (ok : bookCheck f passes) where
-    pub small-room : room < entryOffset f / 8 → refuse 4 ≡ readRefusal f room counts
+    pub rooms-read : {n k : ℕ} {r : Refusal} → n ≡ entryOffset f → k ≡ ringCount f → r ≡ wrongBookRooms (n / coordinateBytes) room k counts
+        → r ≡ readRefusal f room counts
     unfolding readRefusal
-    small-room h = rw (ok, lt-leb (length (numbersOf f)) room (omega (arith, length-numbers f)))
-
-    pub large-room : entryOffset f / 8 ≤ room → unless (leb (ringCount f) counts) 4 ≡ readRefusal f room counts
-    unfolding readRefusal
-    large-room h = rw (ok, le-leb (length (numbersOf f)) room (omega (arith, length-numbers f)), length-counts f)
+    rooms-read a b e = rw (ok, length-numbers f, length-counts f, ← a, ← b) e
 
   pub reads : readRefusal f room counts passes → (bookCheck f passes) × (length (numbersOf f) ≤ room) × (length (countsOf f) ≤ counts)
   unfolding readRefusal
   reads h =
-      let p = both (bookCheck f) (unless (holdsAll f room counts) 4) h in
-      let q = and-both (leb (length (numbersOf f)) room) (leb (length (countsOf f)) counts) (held-last (holdsAll f room counts) 4 refl (p .1)) in
+      let p = row-parts (bookCheck f) (wrongBookRooms (length (numbersOf f)) room (length (countsOf f)) counts) h in
+      let q = both (leb (length (numbersOf f)) room) (leb (length (countsOf f)) counts) (holds (holdsAll f room counts) 4 0 refl (p .1)) in
       (p .0, leb-true (length (numbersOf f)) room (q .0), leb-true (length (countsOf f)) counts (q .1))
 
 -- ---- the answer and the rooms
 
 -- what `read_book` promises of its answer and of the two rooms that it leaves
 abbrev pub Promised : List ℕ → List Float → List ℕ → Count → List Float → List ℕ → Type 0
-Promised f room counts r x n = (count r ≡ readCall f (length room) (length counts)) × (x ≡ readRoom f room (length counts)) × (n ≡ readCounts f (length room) counts)
+Promised f room counts r x n = (counted r ≡ readCall f (length room) (length counts)) × (x ≡ readRoom f room (length counts)) × (n ≡ readCounts f (length room) counts)
 
 -- Two answers of the reader that meet its promise are equal, and so are the rooms.
 pub read-only : (f : List ℕ) (room : List Float) (counts : List ℕ) (r r' : Count) (x x' : List Float) (n n' : List ℕ)
     → Promised f room counts r x n → Promised f room counts r' x' n' → (r ≡ r') × (x ≡ x') × (n ≡ n')
 read-only f room counts r r' x x' n n' p q =
-    (unique count count-only (readCall f (length room) (length counts)) r r' (p .0) (q .0), p .1 ∙ sym (q .1), p .2 ∙ sym (q .2))
+    (unique counted count-only (readCall f (length room) (length counts)) r r' (p .0) (q .0), p .1 ∙ sym (q .1), p .2 ∙ sym (q .2))

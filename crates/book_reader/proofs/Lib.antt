@@ -1,7 +1,7 @@
 -- The modules that belong to no one function.
-mod Numbers
 mod Fields
 mod Coords
 mod Entries
 mod Rings
 pub mod Files
+pub mod Handed

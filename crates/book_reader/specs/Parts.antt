@@ -6,7 +6,8 @@ use lib.ListN.{length, drop}
 use lib.Dec.{eqb}
 use Rattle.refusals.specs.Refusals.{firstOf}
 use Rattle.refusals.specs.declared.Refusal.{Refusal}
-use Rattle.book_layout.specs.Layout.{vertexBytes, entryBytes, tailBytes, bookLeast, bookMost, within, total, countsIn, ringCount, entryOffset}
+use Rattle.refusals.specs.Rings.{verticesLeast, verticesMost, ringsMost, within, total}
+use Rattle.book_layout.specs.Layout.{fieldBytes, vertexBytes, entryBytes, tailBytes, bookLeast, bookMost, countsIn, ringCount, entryOffset}
 use Rattle.book_layout.specs.Faults.{fault, entriesCheck}
 
 -- whether the field with a code is right, by its value and what it is held to
@@ -14,9 +15,9 @@ abbrev pub fieldOk : ℕ → ℕ → ℕ → Bool
 -- 0: a ring's offset
 fieldOk zero value told = eqb value told
 -- 1: its vertices
-fieldOk (suc zero) value told = within 3 256 value
+fieldOk (suc zero) value told = within verticesLeast verticesMost value
 -- 2: the ring count
-fieldOk (suc (suc zero)) value told = within 1 8 value
+fieldOk (suc (suc zero)) value told = within 1 ringsMost value
 -- 3: the end of the entries
 fieldOk (suc (suc (suc zero))) value told = eqb value told
 fieldOk (suc (suc (suc (suc code)))) value told = false
@@ -26,11 +27,11 @@ unfoldable pub tailCheck : List ℕ → Refusal
 tailCheck f =
     firstOf
     (fault (within bookLeast bookMost (length f)) 0
-    ∷ fault (within 1 8 (ringCount f)) (length f - 8)
-    ∷ fault (eqb (entryOffset f + entryBytes * ringCount f + tailBytes) (length f)) (length f - 4)
+    ∷ fault (within 1 ringsMost (ringCount f)) (length f - tailBytes)
+    ∷ fault (eqb (entryOffset f + entryBytes * ringCount f + tailBytes) (length f)) (length f - fieldBytes)
     ∷ [])
 
 -- the k entries from the place `at` on, and that the rings end exactly there
 unfoldable pub listCheck : List ℕ → ℕ → ℕ → Refusal
 listCheck f at k =
-    firstOf (entriesCheck k at 0 (drop at f) ∷ fault (eqb (vertexBytes * total (countsIn k (drop at f))) at) (length f - 4) ∷ [])
+    firstOf (entriesCheck k at 0 (drop at f) ∷ fault (eqb (vertexBytes * total (countsIn k (drop at f))) at) (length f - fieldBytes) ∷ [])

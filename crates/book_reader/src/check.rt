@@ -1,28 +1,30 @@
 // The checks of a file: each answers refusal 7 with the place of the first fault that it finds, or no refusal.
 use crate::load::load;
-use crate::number::entry_offset;
-use crate::number::number4;
-use crate::number::number8;
-use crate::number::ring_count;
+use crate::tail::entry_offset;
+use crate::tail::ring_count;
 use book_layout::BOOK_LEAST;
 use book_layout::BOOK_MOST;
 use book_layout::COORDINATE_BYTES;
 use book_layout::ENTRY_BYTES;
 use book_layout::FIELD_BYTES;
-use book_layout::RINGS_MOST;
 use book_layout::TAIL_BYTES;
 use book_layout::VERTEX_BYTES;
-use book_layout::VERTICES_LEAST;
-use book_layout::VERTICES_MOST;
+use number_bytes::number4;
+use number_bytes::number8;
 use reading::is_least;
+use refusals::REFUSED_BOOK;
+use refusals::RINGS_MOST;
 use refusals::Refusal;
-use refusals::screen::unless;
+use refusals::VERTICES_LEAST;
+use refusals::VERTICES_MOST;
+use refusals::screen::book_rooms;
 use refusals::test::is_coordinate;
 ghost use mathlib.Core.Path.{_≡_};
 ghost use Prim.Native.Nat.{_+_, _*_, _/_, _≤_};
 ghost use lib.ListN.{length, drop};
 ghost use Rattle.reading.specs.Reading.{vertices, isLeast};
-ghost use Rattle.book_layout.specs.Layout.{coordinateBits, coordsIn, countsIn};
+ghost use Rattle.refusals.specs.Rings.{verticesLeast, verticesMost, ringsMost};
+ghost use Rattle.book_layout.specs.Layout.{coordinateBytes, vertexBytes, entryBytes, tailBytes, bookMost, coordinateBits, coordsIn, countsIn};
 ghost use Rattle.book_layout.specs.Faults.{faultAt, _passes, coordsCheck, leastCheck, bookCheck};
 ghost use Rattle.book_layout.specs.Reader.{readRefusal};
 ghost use Rattle.book_reader.specs.Parts.{fieldOk, tailCheck, listCheck};
@@ -31,13 +33,11 @@ ghost use Rattle.book_reader.specs.Parts.{fieldOk, tailCheck, listCheck}
 fn fault(place: usize) -> Refusal
     ensures { λ r. ⌜ r ≡ faultAt place ⌝ }
 {
-    Refusal {
-        number: 7,
-        place: place as u64,
-    }
+    Refusal::new(REFUSED_BOOK, place as u64)
 }
 
-// Whether the field with a code is right: 0 a ring's offset, which is told; 1 its vertices; 2 the ring count; 3 the end of the entries, which is told.
+// Whether the field with a code is right: 0 a ring's offset, which is told; 1 its vertices; 2 the ring count; 3 the end of the entries,
+// which is told.
 fn is_right(code: u32, value: usize, told: usize) -> bool
     ensures { λ r. ⌜ r ≡ fieldOk code value told ⌝ }
 {
@@ -73,7 +73,7 @@ fn are_coordinate_bits(b: u64) -> bool
 
 // The k entries from f[from] on, and that the rings end where they begin.
 fn check_entries(f: &[u8], from: usize, k: usize) -> Refusal
-    requires { ⌜ (from + 8 * k + 8 ≡ length (now f)) × (k ≤ 8) × (length (now f) ≤ 32840) ⌝ }
+    requires { ⌜ (from + entryBytes * k + tailBytes ≡ length (now f)) × (k ≤ ringsMost) × (length (now f) ≤ bookMost) ⌝ }
     ensures { λ r. ⌜ r ≡ listCheck (now (f .entry)) from k ⌝ }
 {
     let mut before: usize = 0;
@@ -99,7 +99,7 @@ fn check_entries(f: &[u8], from: usize, k: usize) -> Refusal
 
 // The m coordinates from the file's front on.
 fn check_coords(f: &[u8], m: usize) -> Refusal
-    requires { ⌜ (8 * m ≤ length (now f)) × (length (now f) ≤ 32840) ⌝ }
+    requires { ⌜ (coordinateBytes * m ≤ length (now f)) × (length (now f) ≤ bookMost) ⌝ }
     ensures { λ r. ⌜ r ≡ coordsCheck m 0 (now (f .entry)) ⌝ }
 {
     let mut j = 0;
@@ -115,11 +115,11 @@ fn check_coords(f: &[u8], m: usize) -> Refusal
 
 // Whether the ring of n vertices from f[at] on is its own least reading.
 fn is_least_at(f: &[u8], at: usize, n: usize) -> bool
-    requires { ⌜ (at + 16 * n ≤ length (now f)) × (3 ≤ n) × (n ≤ 256) × (length (now f) ≤ 32840) ⌝ }
+    requires { ⌜ (at + vertexBytes * n ≤ length (now f)) × (verticesLeast ≤ n) × (n ≤ verticesMost) × (length (now f) ≤ bookMost) ⌝ }
     requires { ⌜ coordsCheck (2 * n) at (drop at (now f)) passes ⌝ }
     ensures { λ r. ⌜ r ≡ isLeast (vertices (coordsIn (2 * n) (drop at (now (f .entry))))) ⌝ }
 {
-    let mut ring = [0.0; 512];
+    let mut ring = [0.0; 2 * VERTICES_MOST];
     let end = 2 * n;
     load(f, at, end, &mut ring);
     is_least(&ring[..end])
@@ -127,8 +127,8 @@ fn is_least_at(f: &[u8], at: usize, n: usize) -> bool
 
 // The rings of the k entries from f[from] on.
 fn check_rings(f: &[u8], from: usize, k: usize) -> Refusal
-    requires { ⌜ (from + 8 * k + 8 ≡ length (now f)) × (k ≤ 8) × (length (now f) ≤ 32840) ⌝ }
-    requires { ⌜ (listCheck (now f) from k passes) × (coordsCheck (from / 8) 0 (now f) passes) ⌝ }
+    requires { ⌜ (from + entryBytes * k + tailBytes ≡ length (now f)) × (k ≤ ringsMost) × (length (now f) ≤ bookMost) ⌝ }
+    requires { ⌜ (listCheck (now f) from k passes) × (coordsCheck (from / coordinateBytes) 0 (now f) passes) ⌝ }
     ensures { λ r. ⌜ r ≡ leastCheck (countsIn k (drop from (now (f .entry)))) 0 (now (f .entry)) ⌝ }
 {
     let mut at: usize = 0;
@@ -195,8 +195,6 @@ pub fn refusal(f: &[u8], room: usize, counts: usize) -> Refusal
     if !no.passed() {
         return no;
     }
-    if room < entry_offset(f) / COORDINATE_BYTES {
-        return Refusal::new(4);
-    }
-    unless(ring_count(f) <= counts, 4)
+    let numbers = entry_offset(f) / COORDINATE_BYTES;
+    book_rooms(numbers, room, ring_count(f), counts)
 }

@@ -2,4 +2,4 @@
 pub mod calls;
 mod check;
 mod load;
-mod number;
+mod tail;

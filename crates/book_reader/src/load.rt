@@ -1,25 +1,26 @@
 // What a file holds, loaded into rooms.
-use crate::number::entry_offset;
-use crate::number::number4;
-use crate::number::number8;
-use crate::number::ring_count;
+use crate::tail::entry_offset;
+use crate::tail::ring_count;
 use book_layout::COORDINATE_BYTES;
 use book_layout::ENTRY_BYTES;
 use book_layout::FIELD_BYTES;
+use number_bytes::number4;
+use number_bytes::number8;
 ghost use mathlib.Core.Path.{_≡_};
 ghost use mathlib.Core.List.{map};
 ghost use Prim.Native.Nat.{_+_, _*_, _≤_};
 ghost use lib.ListN.{length, drop};
 ghost use lib.Seq.{sets};
 ghost use lib.Ieee.{binary64, ofBits};
-ghost use Rattle.book_layout.specs.Layout.{coordsIn, countsIn, countsOf};
+ghost use Rattle.refusals.specs.Rings.{ringsMost};
+ghost use Rattle.book_layout.specs.Layout.{coordinateBytes, entryBytes, tailBytes, bookMost, coordsIn, countsIn, countsOf};
 ghost use Rattle.book_layout.specs.Faults.{_passes, coordsCheck, bookCheck};
 ghost use Rattle.book_layout.specs.Reader.{numbersOf};
 ghost use Rattle.ring.specs.Room.{laid};
 
 // The m numbers from f[at] on, at the room's front.
 pub fn load(f: &[u8], at: usize, m: usize, room: &mut [f64])
-    requires { ⌜ (at + 8 * m ≤ length (now f)) × (m ≤ length (now room)) × (length (now f) ≤ 32840) ⌝ }
+    requires { ⌜ (at + coordinateBytes * m ≤ length (now f)) × (m ≤ length (now room)) × (length (now f) ≤ bookMost) ⌝ }
     requires { ⌜ coordsCheck m at (drop at (now f)) passes ⌝ }
     ensures { λ _. ⌜ now (room .exit) ≡ sets (now (room .entry)) 0 (map (ofBits binary64) (coordsIn m (drop at (now (f .entry))))) ⌝ }
 {
@@ -33,7 +34,7 @@ pub fn load(f: &[u8], at: usize, m: usize, room: &mut [f64])
 
 // The vertex counts of the k entries from f[from] on, at the front of counts.
 fn load_counts(f: &[u8], from: usize, k: usize, counts: &mut [u32])
-    requires { ⌜ (from + 8 * k + 8 ≡ length (now f)) × (k ≤ 8) × (k ≤ length (now counts)) ⌝ }
+    requires { ⌜ (from + entryBytes * k + tailBytes ≡ length (now f)) × (k ≤ ringsMost) × (k ≤ length (now counts)) ⌝ }
     ensures { λ _. ⌜ now (counts .exit) ≡ sets (now (counts .entry)) 0 (countsIn k (drop from (now (f .entry)))) ⌝ }
 {
     let mut i = 0;
@@ -47,7 +48,10 @@ fn load_counts(f: &[u8], from: usize, k: usize, counts: &mut [u32])
 pub fn load_book(f: &[u8], room: &mut [f64], counts: &mut [u32]) -> usize
     requires { ⌜ bookCheck (now f) passes ⌝ }
     requires { ⌜ (length (numbersOf (now f)) ≤ length (now room)) × (length (countsOf (now f)) ≤ length (now counts)) ⌝ }
-    ensures { λ r. ⌜ (r ≡ length (countsOf (now (f .entry)))) × (now (room .exit) ≡ laid (numbersOf (now (f .entry))) (now (room .entry))) × (now (counts .exit) ≡ laid (countsOf (now (f .entry))) (now (counts .entry))) ⌝ }
+    ensures { λ r.
+        ⌜ (r ≡ length (countsOf (now (f .entry))))
+        × (now (room .exit) ≡ laid (numbersOf (now (f .entry))) (now (room .entry)))
+        × (now (counts .exit) ≡ laid (countsOf (now (f .entry))) (now (counts .entry))) ⌝ }
 {
     let from = entry_offset(f);
     let k = ring_count(f);

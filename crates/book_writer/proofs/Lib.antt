@@ -1,5 +1,4 @@
 -- The modules that belong to no one function.
-mod Lengths
 mod Part
 mod Storing
 mod Stored

@@ -11,14 +11,15 @@ use lib.Dec.{T}
 use lib.Ieee.{Float, nan, isNan}
 use Rattle.refusals.specs.Bounds.{coordinate, every, coordinates}
 use Rattle.reading.specs.Lent.{Lent}
+use Rattle.refusals.specs.Rings.{verticesMost}
 use Rattle.book_layout.proofs.Lent.{coordinate-number}
-use Rattle.book_layout.proofs.Passing.{and-both}
+use Rattle.laws.proofs.Both.{both}
 
 coordinates-at : (xs : List Float) (i : ℕ) → coordinates xs ≡ true → i < length xs → coordinate (getD xs i nan) ≡ true
 unfolding every
 coordinates-at [] i t h = absurd (not-suc-le-zero h)
-coordinates-at (x ∷ xs) zero t h = and-both (coordinate x) (coordinates xs) t .0
-coordinates-at (x ∷ xs) (suc i) t h = coordinates-at xs i (and-both (coordinate x) (coordinates xs) t .1) (omega arith)
+coordinates-at (x ∷ xs) zero t h = both (coordinate x) (coordinates xs) t .0
+coordinates-at (x ∷ xs) (suc i) t h = coordinates-at xs i (both (coordinate x) (coordinates xs) t .1) (omega arith)
 
 module _ (xs : List Float) (at n : ℕ) (t : coordinates xs ≡ true) (inside : at + 2 * n ≤ length xs) where
   abbrev part : List Float
@@ -36,5 +37,5 @@ module _ (xs : List Float) (at n : ℕ) (t : coordinates xs ≡ true) (inside : 
       let e : getD part i nan ≡ getD xs (at + i) nan = getD-take (at + 2 * n - at) (drop at xs) i nan (omega arith) ∙ getD-drop at xs i nan in
       subst (λ (x : Float). T (not (isNan x))) (sym e) (coordinate-number (getD xs (at + i) nan) (coordinates-at xs (at + i) t (omega arith)))
 
-  pub part-lent : n ≤ 256 → Lent part
+  pub part-lent : n ≤ verticesMost → Lent part
   part-lent h = record { even = omega (arith, part-length); most = omega (arith, part-length); numbers = part-number }

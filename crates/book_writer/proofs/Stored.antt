@@ -11,11 +11,15 @@ use Rattle.ring.specs.Room.{laid}
 use Rattle.reading.specs.Reading.{Vertex, leastReading}
 use Rattle.reading.specs.Lent.{ringOf}
 use Rattle.reading.proofs.Leasts.{length-least}
-use Rattle.book_layout.specs.Layout.{within, bytesOf, entries, layout, bookOf, total}
-use Rattle.book_layout.specs.Writer.{ringsFrom, sizedAll, bookSize}
-use Rattle.book_layout.proofs.Bytes.{laid-is, length-bytesOf, length-entries}
+use Rattle.number_bytes.specs.Bytes.{bytesOf}
+use Rattle.number_bytes.proofs.Bytes.{length-bytesOf}
+use Rattle.refusals.specs.Rings.{verticesLeast, verticesMost, within, total, sizedAll}
+use Rattle.book_layout.specs.Layout.{fieldBytes, vertexBytes, entryBytes, entries, layout, bookOf}
+use Rattle.book_layout.specs.Writer.{ringsFrom, bookSize}
+use Rattle.book_layout.proofs.Bytes.{laid-is, length-entries}
 use Rattle.book_layout.proofs.Checks.{body-total}
-use Rattle.book_layout.proofs.Passing.{and-both, is-within}
+use Rattle.laws.proofs.Both.{both}
+use Rattle.refusals.proofs.Counts.{is-within}
 use Rattle.book_layout.proofs.Lent.{ring-count}
 use Rattle.book_writer.proofs.Storing.{stored, sets-append}
 
@@ -23,10 +27,10 @@ stored-counts : (ns : List ℕ) (xs : List Float) → sizedAll ns ≡ true → 2
 unfolding ringsFrom sizedAll total
 stored-counts [] xs s h = refl
 stored-counts (n ∷ ns) xs s h =
-    let p = and-both (within 3 256 n) (sizedAll ns) s in
+    let p = both (within verticesLeast verticesMost n) (sizedAll ns) s in
     let c : length (ringOf (take (2 * n) xs)) ≡ n = ring-count n xs (omega arith) in
     ap₂ (λ (a : ℕ) (b : List ℕ). a ∷ b)
-    (length-least (ringOf (take (2 * n) xs)) (omega (arith, is-within 3 256 n (p .0))) ∙ c)
+    (length-least (ringOf (take (2 * n) xs)) (omega (arith, is-within verticesLeast verticesMost n (p .0))) ∙ c)
     (stored-counts ns (drop (2 * n) xs) (p .1) (omega (arith, length-drop (2 * n) xs)))
 
 -- the book that is stored, and the room
@@ -37,13 +41,13 @@ module _ (xs : List Float) (ns room : List ℕ) (sized : sizedAll ns ≡ true) (
   same-counts : map length kept ≡ ns
   same-counts = stored-counts ns xs sized (omega arith)
 
-  stored-length : length (stored ns xs) ≡ 16 * total ns
-  stored-length = body-total kept ∙ ap (λ (l : List ℕ). 16 * total l) same-counts
+  stored-length : length (stored ns xs) ≡ vertexBytes * total ns
+  stored-length = body-total kept ∙ ap (λ (l : List ℕ). vertexBytes * total l) same-counts
 
   rings-number : length kept ≡ length ns
   rings-number = sym (length-map kept length) ∙ ap length same-counts
 
-  book-is : bookOf (ringsFrom ns xs) ≡ stored ns xs ++ (entries 0 ns ++ (bytesOf 4 (length ns) ++ bytesOf 4 (16 * total ns)))
+  book-is : bookOf (ringsFrom ns xs) ≡ stored ns xs ++ (entries 0 ns ++ (bytesOf fieldBytes (length ns) ++ bytesOf fieldBytes (vertexBytes * total ns)))
   unfolding bookOf layout
   book-is = rw (same-counts, rings-number, stored-length)
 
@@ -53,35 +57,35 @@ module _ (xs : List Float) (ns room : List ℕ) (sized : sizedAll ns ≡ true) (
       ap length book-is
       ∙ omega (
         arith,
-        length-append (stored ns xs) (entries 0 ns ++ (bytesOf 4 (length ns) ++ bytesOf 4 (16 * total ns))),
-        length-append (entries 0 ns) (bytesOf 4 (length ns) ++ bytesOf 4 (16 * total ns)),
-        length-append (bytesOf 4 (length ns)) (bytesOf 4 (16 * total ns)),
-        length-bytesOf 4 (length ns),
-        length-bytesOf 4 (16 * total ns),
+        length-append (stored ns xs) (entries 0 ns ++ (bytesOf fieldBytes (length ns) ++ bytesOf fieldBytes (vertexBytes * total ns))),
+        length-append (entries 0 ns) (bytesOf fieldBytes (length ns) ++ bytesOf fieldBytes (vertexBytes * total ns)),
+        length-append (bytesOf fieldBytes (length ns)) (bytesOf fieldBytes (vertexBytes * total ns)),
+        length-bytesOf fieldBytes (length ns),
+        length-bytesOf fieldBytes (vertexBytes * total ns),
         length-entries 0 ns,
         stored-length,
       )
 
   -- the four runs of stores, one after the other
   pub four-runs : bookSize ns ≤ length room
-      → sets (sets (sets (sets room 0 (stored ns xs)) (16 * total ns) (entries 0 ns)) (16 * total ns + 8 * length ns) (bytesOf 4 (length ns))) (16 * total ns + 8 * length ns + 4) (bytesOf 4 (16 * total ns))
+      → sets (sets (sets (sets room 0 (stored ns xs)) (vertexBytes * total ns) (entries 0 ns)) (vertexBytes * total ns + entryBytes * length ns) (bytesOf fieldBytes (length ns))) (vertexBytes * total ns + entryBytes * length ns + fieldBytes) (bytesOf fieldBytes (vertexBytes * total ns))
       ≡ laid (bookOf (ringsFrom ns xs)) room
   four-runs h =
-      let f = 16 * total ns in
+      let f = vertexBytes * total ns in
       let a = stored ns xs in
       let b = entries 0 ns in
-      let c = bytesOf 4 (length ns) in
-      let d = bytesOf 4 f in
+      let c = bytesOf fieldBytes (length ns) in
+      let d = bytesOf fieldBytes f in
       let e1 : 0 + length a ≡ f = omega (arith, stored-length) in
-      let e2 : f + length b ≡ f + 8 * length ns = omega (arith, length-entries 0 ns) in
-      let e3 : f + 8 * length ns + length c ≡ f + 8 * length ns + 4 = omega (arith, length-bytesOf 4 (length ns)) in
+      let e2 : f + length b ≡ f + entryBytes * length ns = omega (arith, length-entries 0 ns) in
+      let e3 : f + entryBytes * length ns + length c ≡ f + entryBytes * length ns + fieldBytes = omega (arith, length-bytesOf fieldBytes (length ns)) in
       let r1 = sets room 0 a in
       let r2 = sets r1 f b in
-      let z : sets room 0 (a ++ (b ++ (c ++ d))) ≡ sets (sets r2 (f + 8 * length ns) c) (f + 8 * length ns + 4) d =
+      let z : sets room 0 (a ++ (b ++ (c ++ d))) ≡ sets (sets r2 (f + entryBytes * length ns) c) (f + entryBytes * length ns + fieldBytes) d =
       sets-append room 0 a (b ++ (c ++ d))
       ∙ ap (λ (j : ℕ). sets r1 j (b ++ (c ++ d))) e1
       ∙ sets-append r1 f b (c ++ d)
       ∙ ap (λ (j : ℕ). sets r2 j (c ++ d)) e2
-      ∙ sets-append r2 (f + 8 * length ns) c d
-      ∙ ap (λ (j : ℕ). sets (sets r2 (f + 8 * length ns) c) j d) e3 in
+      ∙ sets-append r2 (f + entryBytes * length ns) c d
+      ∙ ap (λ (j : ℕ). sets (sets r2 (f + entryBytes * length ns) c) j d) e3 in
       sym z ∙ ap (sets room 0) (sym book-is) ∙ laid-is (bookOf (ringsFrom ns xs)) room (omega (arith, book-length))

@@ -1,6 +1,6 @@
--- Runs of stores: the bytes of a number, of coordinates, of entries and of rings. In each loop, what is yet to be stored from here on gives the room that
+-- Runs of stores: the bytes of coordinates, of entries and of rings. In each loop, what is yet to be stored from here on gives the room that
 -- was asked for. Assumes nothing.
-use Prim.Native.Nat.{ℕ, suc, _+_, _-_, _*_, _/_, _%_, _≤_, _<_}
+use Prim.Native.Nat.{ℕ, suc, _+_, _*_, _≤_, _<_}
 use native.Mathlib.Omega.{arith}
 use native.Mathlib.Numerals.{add-one}
 use mathlib.Core.Path.{_≡_, sym, ap, ap₂, _∙_}
@@ -11,9 +11,11 @@ use lib.Ieee.{Float}
 use Rattle.reading.specs.Reading.{flat, leastReading}
 use Rattle.reading.specs.Lent.{ringOf}
 use Rattle.reading.proofs.Leasts.{length-least}
-use Rattle.book_layout.specs.Layout.{bytesOf, coordBytes, body, entries}
+use Rattle.number_bytes.specs.Bytes.{bytesOf}
+use Rattle.number_bytes.proofs.Bytes.{length-bytesOf}
+use Rattle.book_layout.specs.Layout.{fieldBytes, coordinateBytes, vertexBytes, entryBytes, coordBytes, body, entries}
 use Rattle.book_layout.specs.Writer.{ringsFrom}
-use Rattle.book_layout.proofs.Bytes.{length-bytesOf, length-ring}
+use Rattle.book_layout.proofs.Bytes.{length-ring}
 use Rattle.book_layout.proofs.Lent.{ring-count}
 
 pub sets-append : {A : Type 0} (l : List A) (i : ℕ) (u v : List A) → sets l i (u ++ v) ≡ sets (sets l i u) (i + length u) v
@@ -22,74 +24,54 @@ sets-append l i (a ∷ u) v =
     let e : suc i + length u ≡ i + suc (length u) = omega arith in
     sets-append (set l i a) (suc i) u v ∙ ap (λ (k : ℕ). sets (sets (set l i a) (suc i) u) k v) e
 
--- ---- `put`
-
-pub put-start : (room : List ℕ) (at k n : ℕ) → sets room at (bytesOf k n) ≡ sets room (at + 0) (bytesOf (k - 0) n)
-put-start room at k n = ap₂ (λ (a b : ℕ). sets room a (bytesOf b n)) (omega arith) (omega arith)
-
-pub put-on : (room : List ℕ) (at k i rest : ℕ) → i < k
-    → sets room (at + i) (bytesOf (k - i) rest) ≡ sets (set room (at + i) (rest % 256)) (at + (i + 1)) (bytesOf (k - (i + 1)) (rest / 256))
-unfolding bytesOf
-put-on room at k i rest h =
-    let e : k - i ≡ suc (k - (i + 1)) = omega arith in
-    let d : suc (at + i) ≡ at + (i + 1) = omega arith in
-    ap (λ (m : ℕ). sets room (at + i) (bytesOf m rest)) e
-    ∙ ap (λ (m : ℕ). sets (set room (at + i) (rest % 256)) m (bytesOf (k - (i + 1)) (rest / 256))) d
-
-pub put-end : (room : List ℕ) (at k i rest : ℕ) → k ≤ i → sets room (at + i) (bytesOf (k - i) rest) ≡ room
-unfolding bytesOf
-put-end room at k i rest h =
-    let e : k - i ≡ 0 = omega arith in
-    ap (λ (m : ℕ). sets room (at + i) (bytesOf m rest)) e
-
 -- ---- `put_ring`
 
-pub ring-start : (room l : List ℕ) (at : ℕ) → sets room at (coordBytes l) ≡ sets room (at + 8 * 0) (coordBytes (drop 0 l))
+pub ring-start : (room l : List ℕ) (at : ℕ) → sets room at (coordBytes l) ≡ sets room (at + coordinateBytes * 0) (coordBytes (drop 0 l))
 ring-start room l at = ap (λ (a : ℕ). sets room a (coordBytes l)) (omega arith)
 
 pub ring-on : (room l : List ℕ) (at j : ℕ) → j < length l
-    → sets room (at + 8 * j) (coordBytes (drop j l)) ≡ sets (sets room (at + 8 * j) (bytesOf 8 (getD l j 0))) (at + 8 * (j + 1)) (coordBytes (drop (j + 1) l))
+    → sets room (at + coordinateBytes * j) (coordBytes (drop j l)) ≡ sets (sets room (at + coordinateBytes * j) (bytesOf coordinateBytes (getD l j 0))) (at + coordinateBytes * (j + 1)) (coordBytes (drop (j + 1) l))
 unfolding coordBytes
 ring-on room l at j h =
-    let b = bytesOf 8 (getD l j 0) in
-    let d : at + 8 * j + length b ≡ at + 8 * (j + 1) = omega (arith, length-bytesOf 8 (getD l j 0)) in
+    let b = bytesOf coordinateBytes (getD l j 0) in
+    let d : at + coordinateBytes * j + length b ≡ at + coordinateBytes * (j + 1) = omega (arith, length-bytesOf coordinateBytes (getD l j 0)) in
     let e : suc j ≡ j + 1 = omega arith in
-    ap (λ (m : List ℕ). sets room (at + 8 * j) (coordBytes m)) (drop-cons l j 0 h)
-    ∙ sets-append room (at + 8 * j) b (coordBytes (drop (suc j) l))
-    ∙ ap₂ (λ (x y : ℕ). sets (sets room (at + 8 * j) b) x (coordBytes (drop y l))) d e
+    ap (λ (m : List ℕ). sets room (at + coordinateBytes * j) (coordBytes m)) (drop-cons l j 0 h)
+    ∙ sets-append room (at + coordinateBytes * j) b (coordBytes (drop (suc j) l))
+    ∙ ap₂ (λ (x y : ℕ). sets (sets room (at + coordinateBytes * j) b) x (coordBytes (drop y l))) d e
 
-pub ring-end : (room l : List ℕ) (at j : ℕ) → length l ≤ j → sets room (at + 8 * j) (coordBytes (drop j l)) ≡ room
+pub ring-end : (room l : List ℕ) (at j : ℕ) → length l ≤ j → sets room (at + coordinateBytes * j) (coordBytes (drop j l)) ≡ room
 unfolding coordBytes
-ring-end room l at j h = ap (λ (m : List ℕ). sets room (at + 8 * j) (coordBytes m)) (drop-of-length-le l h)
+ring-end room l at j h = ap (λ (m : List ℕ). sets room (at + coordinateBytes * j) (coordBytes m)) (drop-of-length-le l h)
 
 -- ---- `put_entries`
 
 module _ (room ns : List ℕ) (from before i : ℕ) where
   pub entries-on : i < length ns
-      → sets room (from + 8 * i) (entries before (drop i ns))
-      ≡ sets (sets (sets room (from + 8 * i) (bytesOf 4 before)) (from + 8 * i + 4) (bytesOf 4 (getD ns i 0))) (from + 8 * (i + 1)) (entries (before + 16 * getD ns i 0) (drop (i + 1) ns))
+      → sets room (from + entryBytes * i) (entries before (drop i ns))
+      ≡ sets (sets (sets room (from + entryBytes * i) (bytesOf fieldBytes before)) (from + entryBytes * i + fieldBytes) (bytesOf fieldBytes (getD ns i 0))) (from + entryBytes * (i + 1)) (entries (before + vertexBytes * getD ns i 0) (drop (i + 1) ns))
   unfolding entries
   entries-on h =
-      let a = from + 8 * i in
+      let a = from + entryBytes * i in
       let n = getD ns i 0 in
-      let u = bytesOf 4 before in
-      let w = bytesOf 4 n in
-      let x = entries (before + 16 * n) (drop (suc i) ns) in
-      let e : a + length u ≡ a + 4 = omega (arith, length-bytesOf 4 before) in
-      let e' : a + 4 + length w ≡ from + 8 * (i + 1) = omega (arith, length-bytesOf 4 n) in
+      let u = bytesOf fieldBytes before in
+      let w = bytesOf fieldBytes n in
+      let x = entries (before + vertexBytes * n) (drop (suc i) ns) in
+      let e : a + length u ≡ a + fieldBytes = omega (arith, length-bytesOf fieldBytes before) in
+      let e' : a + fieldBytes + length w ≡ from + entryBytes * (i + 1) = omega (arith, length-bytesOf fieldBytes n) in
       ap (λ (l : List ℕ). sets room a (entries before l)) (drop-cons ns i 0 h)
       ∙ sets-append room a u (w ++ x)
       ∙ ap (λ (j : ℕ). sets (sets room a u) j (w ++ x)) e
-      ∙ sets-append (sets room a u) (a + 4) w x
-      ∙ ap (λ (j : ℕ). sets (sets (sets room a u) (a + 4) w) j x) e'
-      ∙ ap (λ (j : ℕ). sets (sets (sets room a u) (a + 4) w) (from + 8 * (i + 1)) (entries (before + 16 * n) (drop j ns))) (sym (add-one i))
+      ∙ sets-append (sets room a u) (a + fieldBytes) w x
+      ∙ ap (λ (j : ℕ). sets (sets (sets room a u) (a + fieldBytes) w) j x) e'
+      ∙ ap (λ (j : ℕ). sets (sets (sets room a u) (a + fieldBytes) w) (from + entryBytes * (i + 1)) (entries (before + vertexBytes * n) (drop j ns))) (sym (add-one i))
 
-  pub entries-end : length ns ≤ i → sets room (from + 8 * i) (entries before (drop i ns)) ≡ room
+  pub entries-end : length ns ≤ i → sets room (from + entryBytes * i) (entries before (drop i ns)) ≡ room
   unfolding entries
-  entries-end h = ap (λ (l : List ℕ). sets room (from + 8 * i) (entries before l)) (drop-of-length-le ns h)
+  entries-end h = ap (λ (l : List ℕ). sets room (from + entryBytes * i) (entries before l)) (drop-of-length-le ns h)
 
-pub entries-start : (room ns : List ℕ) (from : ℕ) → sets room from (entries 0 ns) ≡ sets room (from + 8 * 0) (entries 0 (drop 0 ns))
-entries-start room ns from = let e : from ≡ from + 8 * 0 = omega arith in ap (λ (a : ℕ). sets room a (entries 0 ns)) e
+pub entries-start : (room ns : List ℕ) (from : ℕ) → sets room from (entries 0 ns) ≡ sets room (from + entryBytes * 0) (entries 0 (drop 0 ns))
+entries-start room ns from = let e : from ≡ from + entryBytes * 0 = omega arith in ap (λ (a : ℕ). sets room a (entries 0 ns)) e
 
 -- ---- `put_rings`
 
@@ -99,21 +81,21 @@ stored ns xs = body (map leastReading (ringsFrom ns xs))
 
 module _ (room ns : List ℕ) (xs : List Float) (at i : ℕ) where
   pub rings-on : i < length ns → 0 < getD ns i 0 → at + 2 * getD ns i 0 ≤ length xs
-      → sets room (8 * at) (stored (drop i ns) (drop at xs))
-      ≡ sets (sets room (8 * at) (coordBytes (flat (leastReading (ringOf (take (2 * getD ns i 0) (drop at xs))))))) (8 * (at + 2 * getD ns i 0)) (stored (drop (i + 1) ns) (drop (at + 2 * getD ns i 0) xs))
+      → sets room (coordinateBytes * at) (stored (drop i ns) (drop at xs))
+      ≡ sets (sets room (coordinateBytes * at) (coordBytes (flat (leastReading (ringOf (take (2 * getD ns i 0) (drop at xs))))))) (coordinateBytes * (at + 2 * getD ns i 0)) (stored (drop (i + 1) ns) (drop (at + 2 * getD ns i 0) xs))
   unfolding ringsFrom body
   rings-on h p k =
       let n = getD ns i 0 in
       let r = ringOf (take (2 * n) (drop at xs)) in
       let u = coordBytes (flat (leastReading r)) in
       let m : length r ≡ n = ring-count n (drop at xs) (omega (arith, length-drop at xs)) in
-      let l : length u ≡ 16 * n = omega (arith, length-ring (leastReading r), length-least r (omega arith)) in
-      let e : 8 * at + length u ≡ 8 * (at + 2 * n) = omega arith in
-      ap (λ (t : List ℕ). sets room (8 * at) (stored t (drop at xs))) (drop-cons ns i 0 h)
-      ∙ sets-append room (8 * at) u (stored (drop (suc i) ns) (drop (2 * n) (drop at xs)))
-      ∙ ap (λ (j : ℕ). sets (sets room (8 * at) u) j (stored (drop (suc i) ns) (drop (2 * n) (drop at xs)))) e
-      ∙ ap₂ (λ (j : ℕ) (t : List Float). sets (sets room (8 * at) u) (8 * (at + 2 * n)) (stored (drop j ns) t)) (sym (add-one i)) (drop-drop (2 * n) at xs)
+      let l : length u ≡ vertexBytes * n = omega (arith, length-ring (leastReading r), length-least r (omega arith)) in
+      let e : coordinateBytes * at + length u ≡ coordinateBytes * (at + 2 * n) = omega arith in
+      ap (λ (t : List ℕ). sets room (coordinateBytes * at) (stored t (drop at xs))) (drop-cons ns i 0 h)
+      ∙ sets-append room (coordinateBytes * at) u (stored (drop (suc i) ns) (drop (2 * n) (drop at xs)))
+      ∙ ap (λ (j : ℕ). sets (sets room (coordinateBytes * at) u) j (stored (drop (suc i) ns) (drop (2 * n) (drop at xs)))) e
+      ∙ ap₂ (λ (j : ℕ) (t : List Float). sets (sets room (coordinateBytes * at) u) (coordinateBytes * (at + 2 * n)) (stored (drop j ns) t)) (sym (add-one i)) (drop-drop (2 * n) at xs)
 
-  pub rings-end : length ns ≤ i → sets room (8 * at) (stored (drop i ns) (drop at xs)) ≡ room
+  pub rings-end : length ns ≤ i → sets room (coordinateBytes * at) (stored (drop i ns) (drop at xs)) ≡ room
   unfolding ringsFrom body
-  rings-end h = ap (λ (t : List ℕ). sets room (8 * at) (stored t (drop at xs))) (drop-of-length-le ns h)
+  rings-end h = ap (λ (t : List ℕ). sets room (coordinateBytes * at) (stored t (drop at xs))) (drop-of-length-le ns h)

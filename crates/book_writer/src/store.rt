@@ -1,12 +1,13 @@
 // The bytes of a book, stored in a room.
-use crate::lent::sum_of;
 use book_layout::COORDINATE_BYTES;
 use book_layout::ENTRY_BYTES;
 use book_layout::FIELD_BYTES;
 use book_layout::TAIL_BYTES;
 use book_layout::VERTEX_BYTES;
+use number_bytes::put;
 use reading::coordinate;
 use reading::least;
+use refusals::rings::sum_of;
 ghost use mathlib.Core.Path.{_≡_};
 ghost use mathlib.Core.List.{map};
 ghost use Prim.Native.Nat.{_+_, _*_, _<_, _≤_};
@@ -15,27 +16,14 @@ ghost use lib.Seq.{sets};
 ghost use Rattle.ring.specs.Room.{laid};
 ghost use Rattle.reading.specs.Reading.{flat, choice, leastReading};
 ghost use Rattle.reading.specs.Lent.{ringOf, Lent};
-ghost use Rattle.book_layout.specs.Layout.{bytesOf, coordBytes, body, entries, total, bookOf};
+ghost use Rattle.refusals.specs.Rings.{verticesMost, ringsMost, total};
+ghost use Rattle.book_layout.specs.Layout.{coordinateBytes, entryBytes, coordBytes, body, entries, bookOf};
 ghost use Rattle.book_layout.specs.Writer.{ringsFrom, bookSize, Held};
-
-// The k low bytes of n, the lowest first, from room[at] on.
-fn put(room: &mut [u8], at: usize, k: usize, n: u64)
-    requires { ⌜ at + k ≤ length (now room) ⌝ }
-    ensures { λ _. ⌜ now (room .exit) ≡ sets (now (room .entry)) at (bytesOf k n) ⌝ }
-{
-    let mut rest = n;
-    let mut i = 0;
-    while i < k {
-        room[at + i] = (rest % 256) as u8;
-        rest = rest / 256;
-        i += 1;
-    }
-}
 
 // The reading c of a ring, from room[at] on.
 fn put_ring(ring: &[f64], c: usize, room: &mut [u8], at: usize)
     requires { ⌜ Lent (now ring) ⌝ }
-    requires { ⌜ (c < length (now ring)) × (at + 8 * length (now ring) ≤ length (now room)) ⌝ }
+    requires { ⌜ (c < length (now ring)) × (at + coordinateBytes * length (now ring) ≤ length (now room)) ⌝ }
     ensures { λ _. ⌜ now (room .exit) ≡ sets (now (room .entry)) at (coordBytes (flat (choice (ringOf (now (ring .entry))) c))) ⌝ }
 {
     let mut j = 0;
@@ -49,7 +37,7 @@ fn put_ring(ring: &[f64], c: usize, room: &mut [u8], at: usize)
 // The least reading of a ring, from room[at] on.
 fn put_least(ring: &[f64], room: &mut [u8], at: usize)
     requires { ⌜ Lent (now ring) ⌝ }
-    requires { ⌜ (0 < length (now ring)) × (at + 8 * length (now ring) ≤ length (now room)) ⌝ }
+    requires { ⌜ (0 < length (now ring)) × (at + coordinateBytes * length (now ring) ≤ length (now room)) ⌝ }
     ensures { λ _. ⌜ now (room .exit) ≡ sets (now (room .entry)) at (coordBytes (flat (leastReading (ringOf (now (ring .entry)))))) ⌝ }
 {
     let c = least(ring);
@@ -59,8 +47,9 @@ fn put_least(ring: &[f64], room: &mut [u8], at: usize)
 // The rings, each in its least reading, from the front of the room.
 fn put_rings(xs: &[f64], counts: &[u32], room: &mut [u8])
     requires { ⌜ Held (now xs) (now counts) ⌝ }
-    requires { ⌜ 8 * length (now xs) ≤ length (now room) ⌝ }
-    ensures { λ _. ⌜ now (room .exit) ≡ sets (now (room .entry)) 0 (body (map leastReading (ringsFrom (now (counts .entry)) (now (xs .entry))))) ⌝ }
+    requires { ⌜ coordinateBytes * length (now xs) ≤ length (now room) ⌝ }
+    ensures { λ _.
+        ⌜ now (room .exit) ≡ sets (now (room .entry)) 0 (body (map leastReading (ringsFrom (now (counts .entry)) (now (xs .entry))))) ⌝ }
 {
     let mut at = 0;
     let mut i = 0;
@@ -75,8 +64,8 @@ fn put_rings(xs: &[f64], counts: &[u32], room: &mut [u8])
 
 // The entries, from room[from] on.
 fn put_entries(counts: &[u32], room: &mut [u8], from: usize)
-    requires { ⌜ (length (now counts) ≤ 8) × (from + 8 * length (now counts) ≤ length (now room)) ⌝ }
-    requires { ⌜ 16 * total (now counts) ≤ 32768 ⌝ }
+    requires { ⌜ (length (now counts) ≤ ringsMost) × (from + entryBytes * length (now counts) ≤ length (now room)) ⌝ }
+    requires { ⌜ total (now counts) ≤ ringsMost * verticesMost ⌝ }
     ensures { λ _. ⌜ now (room .exit) ≡ sets (now (room .entry)) from (entries 0 (now (counts .entry))) ⌝ }
 {
     let mut before: usize = 0;
@@ -95,7 +84,8 @@ fn put_entries(counts: &[u32], room: &mut [u8], from: usize)
 pub fn put_book(xs: &[f64], counts: &[u32], room: &mut [u8]) -> usize
     requires { ⌜ Held (now xs) (now counts) ⌝ }
     requires { ⌜ bookSize (now counts) ≤ length (now room) ⌝ }
-    ensures { λ r. ⌜ (r ≡ bookSize (now (counts .entry))) × (now (room .exit) ≡ laid (bookOf (ringsFrom (now (counts .entry)) (now (xs .entry)))) (now (room .entry))) ⌝ }
+    ensures { λ r. ⌜ r ≡ bookSize (now (counts .entry)) ⌝ }
+    ensures { λ _. ⌜ now (room .exit) ≡ laid (bookOf (ringsFrom (now (counts .entry)) (now (xs .entry)))) (now (room .entry)) ⌝ }
 {
     let from = VERTEX_BYTES * sum_of(counts);
     let tail = from + ENTRY_BYTES * counts.len();

@@ -16,7 +16,9 @@ pub extern "C" fn byr_write_book(
     bytes: &mut u64,
 ) -> u32
     ensures { λ r. ⌜ r ≡ returned (writeCall (now (coordinates .entry)) (now (counts .entry)) (length (now (room .entry)))) ⌝ }
-    ensures { λ _. ⌜ now (bytes .exit) ≡ told itself (writeCall (now (coordinates .entry)) (now (counts .entry)) (length (now (room .entry)))) (now (bytes .entry)) ⌝ }
+    ensures { λ _.
+        ⌜ now (bytes .exit) ≡ told itself (writeCall (now (coordinates .entry)) (now (counts .entry)) (length (now (room .entry))))
+        (now (bytes .entry)) ⌝ }
     ensures { λ _. ⌜ now (room .exit) ≡ writeRoom (now (coordinates .entry)) (now (counts .entry)) (now (room .entry)) ⌝ }
 {
     hand_count(
@@ -36,8 +38,12 @@ pub extern "C" fn byr_read_book(
     place: &mut u64,
 ) -> u32
     ensures { λ r. ⌜ r ≡ returned (readCall (now (book .entry)) (length (now (coordinates .entry))) (length (now (counts .entry)))) ⌝ }
-    ensures { λ _. ⌜ now (rings .exit) ≡ told itself (readCall (now (book .entry)) (length (now (coordinates .entry))) (length (now (counts .entry)))) (now (rings .entry)) ⌝ }
-    ensures { λ _. ⌜ now (place .exit) ≡ toldPlace (readCall (now (book .entry)) (length (now (coordinates .entry))) (length (now (counts .entry)))) (now (place .entry)) ⌝ }
+    ensures { λ _.
+        ⌜ now (rings .exit) ≡ told itself
+        (readCall (now (book .entry)) (length (now (coordinates .entry))) (length (now (counts .entry)))) (now (rings .entry)) ⌝ }
+    ensures { λ _.
+        ⌜ now (place .exit) ≡ toldPlace
+        (readCall (now (book .entry)) (length (now (coordinates .entry))) (length (now (counts .entry)))) (now (place .entry)) ⌝ }
     ensures { λ _. ⌜ now (coordinates .exit) ≡ readRoom (now (book .entry)) (now (coordinates .entry)) (length (now (counts .entry))) ⌝ }
     ensures { λ _. ⌜ now (counts .exit) ≡ readCounts (now (book .entry)) (length (now (coordinates .entry))) (now (counts .entry)) ⌝ }
 {

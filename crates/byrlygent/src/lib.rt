@@ -3,3 +3,4 @@ pub mod book;
 pub mod rings;
 pub mod scalars;
 pub mod sliding;
+pub mod version;

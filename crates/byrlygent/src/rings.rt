@@ -68,7 +68,8 @@ pub extern "C" fn byr_segments_intersect(
     meet: &mut u32,
 ) -> u32
     ensures { λ r. ⌜ r ≡ returned (intersectCall (point x1 y1) (point x2 y2) (point x3 y3) (point x4 y4)) ⌝ }
-    ensures { λ _. ⌜ now (meet .exit) ≡ told flag (intersectCall (point x1 y1) (point x2 y2) (point x3 y3) (point x4 y4)) (now (meet .entry)) ⌝ }
+    ensures { λ _.
+        ⌜ now (meet .exit) ≡ told flag (intersectCall (point x1 y1) (point x2 y2) (point x3 y3) (point x4 y4)) (now (meet .entry)) ⌝ }
 {
     let p1 = Point { x: x1, y: y1 };
     let p2 = Point { x: x2, y: y2 };
@@ -89,7 +90,8 @@ pub extern "C" fn byr_point_segment_distance(
     distance: &mut f64,
 ) -> u32
     ensures { λ r. ⌜ r ≡ returned (segmentDistanceCall (point px py) (point ax ay) (point bx by)) ⌝ }
-    ensures { λ _. ⌜ now (distance .exit) ≡ told itself (segmentDistanceCall (point px py) (point ax ay) (point bx by)) (now (distance .entry)) ⌝ }
+    ensures { λ _.
+        ⌜ now (distance .exit) ≡ told itself (segmentDistanceCall (point px py) (point ax ay) (point bx by)) (now (distance .entry)) ⌝ }
 {
     let p = Point { x: px, y: py };
     let a = Point { x: ax, y: ay };
@@ -104,7 +106,8 @@ pub extern "C" fn byr_point_segment_distance(
 #[no_mangle]
 pub extern "C" fn byr_mirror_polygon(ring: &[f64], room: &mut [f64], vertices: &mut u64) -> u32
     ensures { λ r. ⌜ r ≡ returned (mirrorCall (now (ring .entry)) (length (now (room .entry)))) ⌝ }
-    ensures { λ _. ⌜ now (vertices .exit) ≡ told itself (mirrorCall (now (ring .entry)) (length (now (room .entry)))) (now (vertices .entry)) ⌝ }
+    ensures { λ _.
+        ⌜ now (vertices .exit) ≡ told itself (mirrorCall (now (ring .entry)) (length (now (room .entry)))) (now (vertices .entry)) ⌝ }
     ensures { λ _. ⌜ now (room .exit) ≡ mirrorRoom (now (ring .entry)) (now (room .entry)) ⌝ }
 {
     hand_count(ring_copies::calls::mirror_polygon(ring, room), vertices)
@@ -114,7 +117,8 @@ pub extern "C" fn byr_mirror_polygon(ring: &[f64], room: &mut [f64], vertices: &
 #[no_mangle]
 pub extern "C" fn byr_open_ring(ring: &[f64], room: &mut [f64], vertices: &mut u64) -> u32
     ensures { λ r. ⌜ r ≡ returned (openCall (now (ring .entry)) (length (now (room .entry)))) ⌝ }
-    ensures { λ _. ⌜ now (vertices .exit) ≡ told itself (openCall (now (ring .entry)) (length (now (room .entry)))) (now (vertices .entry)) ⌝ }
+    ensures { λ _.
+        ⌜ now (vertices .exit) ≡ told itself (openCall (now (ring .entry)) (length (now (room .entry)))) (now (vertices .entry)) ⌝ }
     ensures { λ _. ⌜ now (room .exit) ≡ openRoom (now (ring .entry)) (now (room .entry)) ⌝ }
 {
     hand_count(ring_copies::calls::open_ring(ring, room), vertices)

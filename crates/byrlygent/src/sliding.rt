@@ -15,8 +15,8 @@ ghost use lib.ListN.{length};
 ghost use Rattle.plane.specs.Vector.{point};
 ghost use Rattle.handed.specs.Handed.{returned, told, toldFound, itself, flag, isFound, xOf, yOf, hitDistance, hitKind, hitStationary, hitOrbiting};
 ghost use Rattle.projection.specs.Calls.{projectCall, distanceCall, nearCall};
-ghost use Rattle.find_contacts.specs.Calls.{findCall, findWhich, findPoints};
-ghost use Rattle.translation_vectors.specs.Calls.{vectorsCall, vectorsRoom, sourcesRoom, fitCall, fitRoom, fitSources};
+ghost use Rattle.contacts_call.specs.Calls.{findCall, findWhich, findPoints};
+ghost use Rattle.vectors_call.specs.Calls.{vectorsCall, vectorsRoom, sourcesRoom, fitCall, fitRoom, fitSources};
 ghost use Rattle.selection.specs.Calls.{selectCall};
 ghost use Rattle.collision.specs.Calls.{collisionCall};
 ghost use Rattle.interlocking.specs.Calls.{interlockCall};
@@ -40,7 +40,8 @@ pub extern "C" fn byr_project_point_to_segment(
     parameter: &mut f64,
 ) -> u32
     ensures { λ r. ⌜ r ≡ returned (projectCall (point px py) (point ax ay) (point bx by)) ⌝ }
-    ensures { λ _. ⌜ now (parameter .exit) ≡ told itself (projectCall (point px py) (point ax ay) (point bx by)) (now (parameter .entry)) ⌝ }
+    ensures { λ _.
+        ⌜ now (parameter .exit) ≡ told itself (projectCall (point px py) (point ax ay) (point bx by)) (now (parameter .entry)) ⌝ }
 {
     let p = Point { x: px, y: py };
     let a = Point { x: ax, y: ay };
@@ -105,13 +106,23 @@ pub extern "C" fn byr_find_contacts(
     points: &mut [f64],
     count: &mut u64,
 ) -> u32
-    ensures { λ r. ⌜ r ≡ returned (findCall (now (stationary .entry)) (now (orbiting .entry)) tolerance (length (now (which .entry))) (length (now (points .entry)))) ⌝ }
-    ensures { λ _. ⌜ now (count .exit) ≡ told itself (findCall (now (stationary .entry)) (now (orbiting .entry)) tolerance (length (now (which .entry))) (length (now (points .entry)))) (now (count .entry)) ⌝ }
-    ensures { λ _. ⌜ now (which .exit) ≡ findWhich (now (stationary .entry)) (now (orbiting .entry)) tolerance (now (which .entry)) (now (points .entry)) ⌝ }
-    ensures { λ _. ⌜ now (points .exit) ≡ findPoints (now (stationary .entry)) (now (orbiting .entry)) tolerance (now (which .entry)) (now (points .entry)) ⌝ }
+    ensures { λ r.
+        ⌜ r ≡ returned
+        (findCall (now (stationary .entry)) (now (orbiting .entry)) tolerance (length (now (which .entry))) (length (now
+        (points .entry)))) ⌝ }
+    ensures { λ _.
+        ⌜ now (count .exit) ≡ told itself
+        (findCall (now (stationary .entry)) (now (orbiting .entry)) tolerance (length (now (which .entry))) (length (now (points .entry))))
+        (now (count .entry)) ⌝ }
+    ensures { λ _.
+        ⌜ now (which .exit) ≡ findWhich (now (stationary .entry)) (now (orbiting .entry)) tolerance (now (which .entry))
+        (now (points .entry)) ⌝ }
+    ensures { λ _.
+        ⌜ now (points .exit) ≡ findPoints (now (stationary .entry)) (now (orbiting .entry)) tolerance (now (which .entry))
+        (now (points .entry)) ⌝ }
 {
     hand_count(
-        find_contacts::calls::find_contacts(stationary, orbiting, tolerance, which, points),
+        contacts_call::calls::find_contacts(stationary, orbiting, tolerance, which, points),
         count,
     )
 }
@@ -126,13 +137,24 @@ pub extern "C" fn byr_compute_translation_vectors(
     sources: &mut [u64],
     count: &mut u64,
 ) -> u32
-    ensures { λ r. ⌜ r ≡ returned (vectorsCall (now (stationary .entry)) (now (orbiting .entry)) tolerance (length (now (vectors .entry))) (length (now (sources .entry)))) ⌝ }
-    ensures { λ _. ⌜ now (count .exit) ≡ told itself (vectorsCall (now (stationary .entry)) (now (orbiting .entry)) tolerance (length (now (vectors .entry))) (length (now (sources .entry)))) (now (count .entry)) ⌝ }
-    ensures { λ _. ⌜ now (vectors .exit) ≡ vectorsRoom (now (stationary .entry)) (now (orbiting .entry)) tolerance (now (vectors .entry)) (now (sources .entry)) ⌝ }
-    ensures { λ _. ⌜ now (sources .exit) ≡ sourcesRoom (now (stationary .entry)) (now (orbiting .entry)) tolerance (now (vectors .entry)) (now (sources .entry)) ⌝ }
+    ensures { λ r.
+        ⌜ r ≡ returned
+        (vectorsCall (now (stationary .entry)) (now (orbiting .entry)) tolerance (length (now (vectors .entry))) (length (now
+        (sources .entry)))) ⌝ }
+    ensures { λ _.
+        ⌜ now (count .exit) ≡ told itself
+        (vectorsCall (now (stationary .entry)) (now (orbiting .entry)) tolerance (length (now (vectors .entry))) (length (now
+        (sources .entry))))
+        (now (count .entry)) ⌝ }
+    ensures { λ _.
+        ⌜ now (vectors .exit) ≡ vectorsRoom (now (stationary .entry)) (now (orbiting .entry)) tolerance (now (vectors .entry))
+        (now (sources .entry)) ⌝ }
+    ensures { λ _.
+        ⌜ now (sources .exit) ≡ sourcesRoom (now (stationary .entry)) (now (orbiting .entry)) tolerance (now (vectors .entry))
+        (now (sources .entry)) ⌝ }
 {
     hand_count(
-        translation_vectors::calls::compute_translation_vectors(
+        vectors_call::calls::compute_translation_vectors(
             stationary,
             orbiting,
             tolerance,
@@ -156,14 +178,25 @@ pub extern "C" fn byr_handle_perfect_fit(
     sources: &mut [u64],
     count: &mut u64,
 ) -> u32
-    ensures { λ r. ⌜ r ≡ returned (fitCall (now (stationary .entry)) (now (orbiting .entry)) (point rx ry) (now (visited .entry)) tolerance (length (now (vectors .entry))) (length (now (sources .entry)))) ⌝ }
-    ensures { λ _. ⌜ now (count .exit) ≡ told itself (fitCall (now (stationary .entry)) (now (orbiting .entry)) (point rx ry) (now (visited .entry)) tolerance (length (now (vectors .entry))) (length (now (sources .entry)))) (now (count .entry)) ⌝ }
-    ensures { λ _. ⌜ now (vectors .exit) ≡ fitRoom (now (stationary .entry)) (now (orbiting .entry)) (point rx ry) (now (visited .entry)) tolerance (now (vectors .entry)) (now (sources .entry)) ⌝ }
-    ensures { λ _. ⌜ now (sources .exit) ≡ fitSources (now (stationary .entry)) (now (orbiting .entry)) (point rx ry) (now (visited .entry)) tolerance (now (vectors .entry)) (now (sources .entry)) ⌝ }
+    ensures { λ r.
+        ⌜ r ≡ returned
+        (fitCall (now (stationary .entry)) (now (orbiting .entry)) (point rx ry) (now (visited .entry)) tolerance (length (now
+        (vectors .entry))) (length (now (sources .entry)))) ⌝ }
+    ensures { λ _.
+        ⌜ now (count .exit) ≡ told itself
+        (fitCall (now (stationary .entry)) (now (orbiting .entry)) (point rx ry) (now (visited .entry)) tolerance (length (now
+        (vectors .entry))) (length (now (sources .entry))))
+        (now (count .entry)) ⌝ }
+    ensures { λ _.
+        ⌜ now (vectors .exit) ≡ fitRoom (now (stationary .entry)) (now (orbiting .entry)) (point rx ry) (now (visited .entry))
+        tolerance (now (vectors .entry)) (now (sources .entry)) ⌝ }
+    ensures { λ _.
+        ⌜ now (sources .exit) ≡ fitSources (now (stationary .entry)) (now (orbiting .entry)) (point rx ry) (now (visited .entry))
+        tolerance (now (vectors .entry)) (now (sources .entry)) ⌝ }
 {
     let reference = Point { x: rx, y: ry };
     hand_count(
-        translation_vectors::calls::handle_perfect_fit(
+        vectors_call::calls::handle_perfect_fit(
             stationary,
             orbiting,
             reference,
@@ -203,8 +236,12 @@ pub extern "C" fn byr_select_translation_vector(
     index: &mut u64,
 ) -> u32
     ensures { λ r. ⌜ r ≡ returned (selectCall (now (vectors .entry)) (previousOf has px py) (point cx cy) (point x y)) ⌝ }
-    ensures { λ _. ⌜ now (found .exit) ≡ told isFound (selectCall (now (vectors .entry)) (previousOf has px py) (point cx cy) (point x y)) (now (found .entry)) ⌝ }
-    ensures { λ _. ⌜ now (index .exit) ≡ toldFound itself (selectCall (now (vectors .entry)) (previousOf has px py) (point cx cy) (point x y)) (now (index .entry)) ⌝ }
+    ensures { λ _.
+        ⌜ now (found .exit) ≡ told isFound (selectCall (now (vectors .entry)) (previousOf has px py) (point cx cy) (point x y))
+        (now (found .entry)) ⌝ }
+    ensures { λ _.
+        ⌜ now (index .exit) ≡ toldFound itself (selectCall (now (vectors .entry)) (previousOf has px py) (point cx cy) (point x y))
+        (now (index .entry)) ⌝ }
 {
     let before = previous(has, px, py);
     let centroid = Point { x: cx, y: cy };
@@ -231,11 +268,21 @@ pub extern "C" fn byr_check_translation_collision(
     oi: &mut u64,
 ) -> u32
     ensures { λ r. ⌜ r ≡ returned (collisionCall (now (stationary .entry)) (now (orbiting .entry)) (point dx dy) tolerance) ⌝ }
-    ensures { λ _. ⌜ now (found .exit) ≡ told isFound (collisionCall (now (stationary .entry)) (now (orbiting .entry)) (point dx dy) tolerance) (now (found .entry)) ⌝ }
-    ensures { λ _. ⌜ now (distance .exit) ≡ toldFound hitDistance (collisionCall (now (stationary .entry)) (now (orbiting .entry)) (point dx dy) tolerance) (now (distance .entry)) ⌝ }
-    ensures { λ _. ⌜ now (kind .exit) ≡ toldFound hitKind (collisionCall (now (stationary .entry)) (now (orbiting .entry)) (point dx dy) tolerance) (now (kind .entry)) ⌝ }
-    ensures { λ _. ⌜ now (si .exit) ≡ toldFound hitStationary (collisionCall (now (stationary .entry)) (now (orbiting .entry)) (point dx dy) tolerance) (now (si .entry)) ⌝ }
-    ensures { λ _. ⌜ now (oi .exit) ≡ toldFound hitOrbiting (collisionCall (now (stationary .entry)) (now (orbiting .entry)) (point dx dy) tolerance) (now (oi .entry)) ⌝ }
+    ensures { λ _.
+        ⌜ now (found .exit) ≡ told isFound (collisionCall (now (stationary .entry)) (now (orbiting .entry)) (point dx dy) tolerance)
+        (now (found .entry)) ⌝ }
+    ensures { λ _.
+        ⌜ now (distance .exit) ≡ toldFound hitDistance
+        (collisionCall (now (stationary .entry)) (now (orbiting .entry)) (point dx dy) tolerance) (now (distance .entry)) ⌝ }
+    ensures { λ _.
+        ⌜ now (kind .exit) ≡ toldFound hitKind
+        (collisionCall (now (stationary .entry)) (now (orbiting .entry)) (point dx dy) tolerance) (now (kind .entry)) ⌝ }
+    ensures { λ _.
+        ⌜ now (si .exit) ≡ toldFound hitStationary
+        (collisionCall (now (stationary .entry)) (now (orbiting .entry)) (point dx dy) tolerance) (now (si .entry)) ⌝ }
+    ensures { λ _.
+        ⌜ now (oi .exit) ≡ toldFound hitOrbiting
+        (collisionCall (now (stationary .entry)) (now (orbiting .entry)) (point dx dy) tolerance) (now (oi .entry)) ⌝ }
 {
     let translation = Point { x: dx, y: dy };
     let answer = collision::calls::check_translation_collision(
@@ -260,9 +307,15 @@ pub extern "C" fn byr_detect_interlocking_opportunity(
     toy: &mut f64,
 ) -> u32
     ensures { λ r. ⌜ r ≡ returned (interlockCall (now (stationary .entry)) (now (orbiting .entry)) (point x y) tolerance) ⌝ }
-    ensures { λ _. ⌜ now (found .exit) ≡ told isFound (interlockCall (now (stationary .entry)) (now (orbiting .entry)) (point x y) tolerance) (now (found .entry)) ⌝ }
-    ensures { λ _. ⌜ now (tox .exit) ≡ toldFound xOf (interlockCall (now (stationary .entry)) (now (orbiting .entry)) (point x y) tolerance) (now (tox .entry)) ⌝ }
-    ensures { λ _. ⌜ now (toy .exit) ≡ toldFound yOf (interlockCall (now (stationary .entry)) (now (orbiting .entry)) (point x y) tolerance) (now (toy .entry)) ⌝ }
+    ensures { λ _.
+        ⌜ now (found .exit) ≡ told isFound (interlockCall (now (stationary .entry)) (now (orbiting .entry)) (point x y) tolerance)
+        (now (found .entry)) ⌝ }
+    ensures { λ _.
+        ⌜ now (tox .exit) ≡ toldFound xOf (interlockCall (now (stationary .entry)) (now (orbiting .entry)) (point x y) tolerance)
+        (now (tox .entry)) ⌝ }
+    ensures { λ _.
+        ⌜ now (toy .exit) ≡ toldFound yOf (interlockCall (now (stationary .entry)) (now (orbiting .entry)) (point x y) tolerance)
+        (now (toy .entry)) ⌝ }
 {
     let current = Point { x, y };
     let answer = interlocking::calls::detect_interlocking_opportunity(
@@ -287,13 +340,19 @@ pub extern "C" fn byr_recover_contact(
     toy: &mut f64,
 ) -> u32
     ensures { λ r. ⌜ r ≡ returned (recoverCall (now (stationary .entry)) (now (orbiting .entry)) (point x y) tolerance) ⌝ }
-    ensures { λ _. ⌜ now (found .exit) ≡ told isFound (recoverCall (now (stationary .entry)) (now (orbiting .entry)) (point x y) tolerance) (now (found .entry)) ⌝ }
-    ensures { λ _. ⌜ now (tox .exit) ≡ toldFound xOf (recoverCall (now (stationary .entry)) (now (orbiting .entry)) (point x y) tolerance) (now (tox .entry)) ⌝ }
-    ensures { λ _. ⌜ now (toy .exit) ≡ toldFound yOf (recoverCall (now (stationary .entry)) (now (orbiting .entry)) (point x y) tolerance) (now (toy .entry)) ⌝ }
+    ensures { λ _.
+        ⌜ now (found .exit) ≡ told isFound (recoverCall (now (stationary .entry)) (now (orbiting .entry)) (point x y) tolerance)
+        (now (found .entry)) ⌝ }
+    ensures { λ _.
+        ⌜ now (tox .exit) ≡ toldFound xOf (recoverCall (now (stationary .entry)) (now (orbiting .entry)) (point x y) tolerance)
+        (now (tox .entry)) ⌝ }
+    ensures { λ _.
+        ⌜ now (toy .exit) ≡ toldFound yOf (recoverCall (now (stationary .entry)) (now (orbiting .entry)) (point x y) tolerance)
+        (now (toy .entry)) ⌝ }
 {
     let current = Point { x, y };
-    let answer = recovery::calls::recover_contact(stationary, orbiting, current, tolerance);
-    hand_position(answer, found, tox, toy)
+    let recovered = recovery::calls::recover_contact(stationary, orbiting, current, tolerance);
+    hand_position(recovered, found, tox, toy)
 }
 
 // Whether two polygons overlap, or lie no more than 1e-6 apart.
@@ -314,7 +373,8 @@ pub extern "C" fn byr_polygons_overlap_with_tolerance(
     overlap: &mut u32,
 ) -> u32
     ensures { λ r. ⌜ r ≡ returned (overlapWithCall (now (a .entry)) (now (b .entry)) tolerance) ⌝ }
-    ensures { λ _. ⌜ now (overlap .exit) ≡ told flag (overlapWithCall (now (a .entry)) (now (b .entry)) tolerance) (now (overlap .entry)) ⌝ }
+    ensures { λ _.
+        ⌜ now (overlap .exit) ≡ told flag (overlapWithCall (now (a .entry)) (now (b .entry)) tolerance) (now (overlap .entry)) ⌝ }
 {
     hand_truth(
         overlap::calls::polygons_overlap_with_tolerance(a, b, tolerance),
@@ -350,7 +410,9 @@ pub extern "C" fn byr_simplify_polygon(
     points: &mut u64,
 ) -> u32
     ensures { λ r. ⌜ r ≡ returned (simplifyCall (now (list .entry)) tolerance (length (now (room .entry)))) ⌝ }
-    ensures { λ _. ⌜ now (points .exit) ≡ told itself (simplifyCall (now (list .entry)) tolerance (length (now (room .entry)))) (now (points .entry)) ⌝ }
+    ensures { λ _.
+        ⌜ now (points .exit) ≡ told itself (simplifyCall (now (list .entry)) tolerance (length (now (room .entry))))
+        (now (points .entry)) ⌝ }
     ensures { λ _. ⌜ now (room .exit) ≡ simplifyRoom (now (list .entry)) tolerance (now (room .entry)) ⌝ }
 {
     hand_count(
@@ -375,24 +437,49 @@ pub extern "C" fn byr_compute_nfp_sliding(
     passes: &mut u64,
     stop: &mut u32,
 ) -> u32
-    ensures { λ r. ⌜ r ≡ refusalOf (traceCall (now (stationary .entry)) (now (orbiting .entry)) (settingsOf tolerance smallest limit) (length (now (work .entry))) (length (now (result .entry)))) .number ⌝ }
-    ensures { λ _. ⌜ now (points .exit) ≡ pointsTold (traceCall (now (stationary .entry)) (now (orbiting .entry)) (settingsOf tolerance smallest limit) (length (now (work .entry))) (length (now (result .entry)))) (now (points .entry)) ⌝ }
-    ensures { λ _. ⌜ now (stored .exit) ≡ storedTold (traceCall (now (stationary .entry)) (now (orbiting .entry)) (settingsOf tolerance smallest limit) (length (now (work .entry))) (length (now (result .entry)))) (now (stored .entry)) ⌝ }
-    ensures { λ _. ⌜ now (passes .exit) ≡ passesTold (traceCall (now (stationary .entry)) (now (orbiting .entry)) (settingsOf tolerance smallest limit) (length (now (work .entry))) (length (now (result .entry)))) (now (passes .entry)) ⌝ }
-    ensures { λ _. ⌜ now (stop .exit) ≡ stopTold (traceCall (now (stationary .entry)) (now (orbiting .entry)) (settingsOf tolerance smallest limit) (length (now (work .entry))) (length (now (result .entry)))) (now (stop .entry)) ⌝ }
-    ensures { λ _. ⌜ now (work .exit) ≡ traceWork (now (stationary .entry)) (now (orbiting .entry)) (settingsOf tolerance smallest limit) (now (work .entry)) (length (now (result .entry))) ⌝ }
-    ensures { λ _. ⌜ now (result .exit) ≡ traceResult (now (stationary .entry)) (now (orbiting .entry)) (settingsOf tolerance smallest limit) (length (now (work .entry))) (now (result .entry)) ⌝ }
+    ensures { λ r.
+        ⌜ r ≡ refusalOf
+        (traceCall (now (stationary .entry)) (now (orbiting .entry)) (settingsOf tolerance smallest limit) (length (now (work
+        .entry))) (length (now (result .entry))))
+        .number ⌝ }
+    ensures { λ _.
+        ⌜ now (points .exit) ≡ pointsTold
+        (traceCall (now (stationary .entry)) (now (orbiting .entry)) (settingsOf tolerance smallest limit) (length (now (work
+        .entry))) (length (now (result .entry))))
+        (now (points .entry)) ⌝ }
+    ensures { λ _.
+        ⌜ now (stored .exit) ≡ storedTold
+        (traceCall (now (stationary .entry)) (now (orbiting .entry)) (settingsOf tolerance smallest limit) (length (now (work
+        .entry))) (length (now (result .entry))))
+        (now (stored .entry)) ⌝ }
+    ensures { λ _.
+        ⌜ now (passes .exit) ≡ passesTold
+        (traceCall (now (stationary .entry)) (now (orbiting .entry)) (settingsOf tolerance smallest limit) (length (now (work
+        .entry))) (length (now (result .entry))))
+        (now (passes .entry)) ⌝ }
+    ensures { λ _.
+        ⌜ now (stop .exit) ≡ stopTold
+        (traceCall (now (stationary .entry)) (now (orbiting .entry)) (settingsOf tolerance smallest limit) (length (now (work
+        .entry))) (length (now (result .entry))))
+        (now (stop .entry)) ⌝ }
+    ensures { λ _.
+        ⌜ now (work .exit) ≡ traceWork (now (stationary .entry)) (now (orbiting .entry)) (settingsOf tolerance smallest limit)
+        (now (work .entry)) (length (now (result .entry))) ⌝ }
+    ensures { λ _.
+        ⌜ now (result .exit) ≡ traceResult (now (stationary .entry)) (now (orbiting .entry)) (settingsOf tolerance smallest limit)
+        (length (now (work .entry))) (now (result .entry)) ⌝ }
 {
     let settings = Settings {
         contact_tolerance: tolerance,
         min_translation: smallest,
         max_iterations: limit,
     };
-    hand_traced(
-        nfp_sliding::calls::compute_nfp_sliding(stationary, orbiting, settings, work, result),
-        points,
-        stored,
-        passes,
-        stop,
-    )
+    let traced = nfp_sliding::calls::compute_nfp_sliding(
+        stationary,
+        orbiting,
+        settings,
+        work,
+        result,
+    );
+    hand_traced(traced, points, stored, passes, stop)
 }

@@ -1,4 +1,4 @@
--- The centroid of a polygon, as document 01 fixes it. Definitions only.
+-- The centroid of a polygon, as docs/SCOPE.md fixes it. Definitions only.
 use Prim.Native.Nat.{ℕ, zero, suc}
 use mathlib.Core.Bool.{cond}
 use mathlib.Core.List.{List}

@@ -1,4 +1,4 @@
-// The centroid of a polygon, by document 01's formula: of its area, or of its vertices where the area is close to zero.
+// The centroid of a polygon, by docs/SCOPE.md's formula: of its area, or of its vertices where the area is close to zero.
 use plane::Point;
 use plane::vector::plus;
 use ring::next;

@@ -1,15 +1,15 @@
 -- The vector chosen on the way, and the one that selection chooses from the list. The invariant over the first k vectors: the best has the score that
 -- selection's has, and, where one is found, is the vector with its index; none is found only where k is 0. Assumes nothing.
-use Prim.Native.Nat.{ℕ, zero, suc, _+_, _*_, _-_, _/_, _≤_, _<_}
+use Prim.Native.Nat.{ℕ, zero, suc, _+_, _*_, _-_, _/_, _≤_}
 use mathlib.Core.Path.{_≡_, refl, sym, ap, _∙_}
 use mathlib.Core.Bool.{Bool, true, false, cond, true≢false}
 use mathlib.Core.List.{List, [], _∷_}
 use native.Mathlib.Omega.{arith}
 use lib.ListN.{length, drop}
-use lib.Ieee.{Float, inf, lt}
+use lib.Ieee.{Float, lt}
 use Rattle.plane.specs.declared.Point.{Point}
 use Rattle.ring.specs.Ring.{count}
-use Rattle.first_best.specs.Best.{over, better}
+use Rattle.laws.specs.FirstBest.{over, better}
 use Rattle.pairs.specs.Pairs.{pairCount}
 use Rattle.contacts.specs.Contacts.{contactsFrom}
 use Rattle.contacts.proofs.Following.{FoundAt}
@@ -22,11 +22,11 @@ use Rattle.selection.specs.Select.{vectorAt, scoreAt, scoredAt, above, startOf,
 use Rattle.selection.specs.declared.Previous.{Previous}
 use Rattle.selection.specs.declared.Scored.{Scored}
 use Rattle.choose.specs.Choose.{vectorNo, choiceOf, Standing, stands, standing, unset, raised, weighOf, raisedBy, weighedBy, takenBy, climbOf}
-use Rattle.courses.specs.Courses.{vectorIs}
+use Rattle.vectors.specs.Courses.{vectorIs}
 use Rattle.choose.specs.declared.Best.{Best}
 use Rattle.choose.specs.declared.Weighed.{Weighed}
 use Rattle.choose.specs.declared.Weighed.the-variants.{Passed, Raised}
-use Rattle.courses.specs.declared.Course.{Course}
+use Rattle.vectors.specs.declared.course.Course.{Course}
 use Rattle.choose.specs.declared.Choice.{Choice}
 use Rattle.choose.specs.declared.Choice.the-variants.{Nothing, Vector}
 

@@ -8,7 +8,7 @@ use Rattle.plane.specs.Vector.{point}
 use Rattle.plane.specs.declared.Point.{Point}
 use Rattle.vectors.specs.Vectors.{Sourced, vector, numbersOf}
 use Rattle.vectors.specs.declared.TranslationVector.{TranslationVector}
-use Rattle.courses.specs.Courses.{vectorIs}
+use Rattle.vectors.specs.Courses.{vectorIs}
 use Rattle.selection.specs.Score.{scoreOf}
 use Rattle.selection.specs.Select.{selectOf}
 use Rattle.selection.specs.declared.Previous.{Previous}

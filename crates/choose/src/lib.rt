@@ -4,20 +4,21 @@ use contacts::Next;
 use contacts::edges_of;
 use contacts::frames_of;
 use contacts::next_within;
-use courses::Course;
-use courses::along_by;
-use courses::course_by;
-use courses::direction_of;
-use courses::is_below;
-use courses::reach;
-use courses::to_vector;
 use pairs::pair_at;
 use plane::Point;
+use plane::vector::ahead;
 use plane::vector::dot;
 use selection::Previous;
 use selection::continued;
 use selection::start;
 use vectors::TranslationVector;
+use vectors::course::Course;
+use vectors::course::along_by;
+use vectors::course::course_by;
+use vectors::course::direction_of;
+use vectors::course::is_below;
+use vectors::course::reach;
+use vectors::course::to_vector;
 use vectors::fit::is_visited;
 ghost use mathlib.Core.Path.{_≡_};
 ghost use Prim.Native.Nat.{_<_};
@@ -26,7 +27,7 @@ ghost use Rattle.pairs.specs.Pairs.{Sides, pairCount};
 ghost use Rattle.vectors.specs.Vectors.{vectorBy, vectorOf};
 ghost use Rattle.vectors.specs.Fit.{keeps, fitOf};
 ghost use Rattle.selection.specs.Score.{scoreOf};
-ghost use Rattle.courses.specs.Courses.{vectorIs};
+ghost use Rattle.vectors.specs.Courses.{vectorIs};
 ghost use Rattle.choose.specs.Choose.{standing, raisedBy, weighedBy, takenBy, weighOf, unset, climbOf, choiceOf};
 
 // A vector, or nothing.
@@ -52,12 +53,7 @@ pub enum Weighed {
 fn is_kept(course: Course, from: Point, visited: &[f64], tol: f64) -> bool
     ensures { λ r. ⌜ r ≡ keeps from (now (visited .entry)) tol (vectorIs course) ⌝ }
 {
-    let dir = direction_of(course);
-    let far = reach(course);
-    let at = Point {
-        x: from.x + dir.x * far,
-        y: from.y + dir.y * far,
-    };
+    let at = ahead(from, direction_of(course), reach(course));
     !is_visited(at, visited, tol)
 }
 
@@ -70,7 +66,8 @@ fn score(course: Course, previous: Previous, ccw: Point) -> f64
     if is_below(course, 1e-6) { s - 100.0 } else { s }
 }
 
-// What a vector of score s makes of the best so far, whose score is `top`: only a strictly greater score replaces, but the first is always taken.
+// What a vector of score s makes of the best so far, whose score is `top`: only a strictly greater score replaces, but the first is always
+// taken.
 fn raise(found: bool, top: f64, s: f64) -> Weighed
     ensures { λ r. ⌜ r ≡ raisedBy found top s ⌝ }
 {
@@ -134,7 +131,9 @@ fn weigh_both(
     previous: Previous,
     ccw: Point,
 ) -> Best
-    ensures { λ r. ⌜ standing r ≡ weighOf (keeps from (now (visited .entry)) tol) previous ccw (weighOf (keeps from (now (visited .entry)) tol) previous ccw (standing best) (vectorBy kind e 0)) (vectorBy kind e 1) ⌝ }
+    ensures { λ r.
+        ⌜ standing r ≡ weighOf (keeps from (now (visited .entry)) tol) previous ccw
+        (weighOf (keeps from (now (visited .entry)) tol) previous ccw (standing best) (vectorBy kind e 0)) (vectorBy kind e 1) ⌝ }
 {
     let along = along_by(kind, e);
     let one = course_by(kind, e, along, 0);
@@ -177,7 +176,11 @@ fn weigh_contact(
 ) -> Best
     requires { ⌜ Sides (count (now stationary)) (count (now orbiting)) ⌝ }
     requires { ⌜ k < pairCount (count (now stationary)) (count (now orbiting)) ⌝ }
-    ensures { λ r. ⌜ standing r ≡ weighOf (keeps from (now (visited .entry)) tol) previous ccw (weighOf (keeps from (now (visited .entry)) tol) previous ccw (standing best) (vectorOf (now (stationary .entry)) (now (orbiting .entry)) k 0)) (vectorOf (now (stationary .entry)) (now (orbiting .entry)) k 1) ⌝ }
+    ensures { λ r.
+        ⌜ standing r ≡ weighOf (keeps from (now (visited .entry)) tol) previous ccw
+        (weighOf (keeps from (now (visited .entry)) tol) previous ccw (standing best)
+        (vectorOf (now (stationary .entry)) (now (orbiting .entry)) k 0))
+        (vectorOf (now (stationary .entry)) (now (orbiting .entry)) k 1) ⌝ }
 {
     let pair = pair_at(k, stationary.len() / 2, orbiting.len() / 2);
     let e = edges_of(stationary, orbiting, pair);
@@ -195,7 +198,9 @@ fn climb(
     ccw: Point,
 ) -> Best
     requires { ⌜ Sides (count (now stationary)) (count (now orbiting)) ⌝ }
-    ensures { λ r. ⌜ standing r ≡ climbOf previous ccw unset (fitOf (now (stationary .entry)) (now (orbiting .entry)) from (now (visited .entry)) tol) ⌝ }
+    ensures { λ r.
+        ⌜ standing r ≡ climbOf previous ccw unset
+        (fitOf (now (stationary .entry)) (now (orbiting .entry)) from (now (visited .entry)) tol) ⌝ }
 {
     let mut best = Best {
         found: false,

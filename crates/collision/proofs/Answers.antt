@@ -8,10 +8,13 @@ use native.Mathlib.Decide.{decLt}
 use lib.Ieee.{Float}
 use Rattle.plane.specs.declared.Point.{Point}
 use Rattle.refusals.specs.Refusals.{passed}
+use Rattle.refusals.specs.Rows.{ofMoving}
 use Rattle.refusals.specs.Answers.{answers, refuses}
+use Rattle.pairs.specs.Pairs.{pair}
+use Rattle.pairs.specs.declared.Pair.{Pair}
 use Rattle.collision.specs.Check.{collisionOf}
-use Rattle.collision.specs.Nearest.{Pair, pairIs, pairAt, rayAt, Told, nothing, hit}
-use Rattle.collision.specs.Calls.{Values, values, checked, collisionRefusal, collisionCall}
+use Rattle.collision.specs.Nearest.{pairNo, rayAt, Told, nothing, hit}
+use Rattle.collision.specs.Calls.{Values, values, checked, collisionCall}
 use Rattle.collision.specs.declared.Ray.the-variants.{At}
 use Rattle.collision.specs.declared.Collision.{Collision}
 use Rattle.collision.specs.declared.Collision.the-variants.{Nothing, Hit}
@@ -35,9 +38,9 @@ checked-only (Refused r) (Refused s) h = cc
 
 -- an answer that keeps the call's promise is what the theorem demands
 pub answer-told : (st orb : List Float) (move : Point) (tol : Float) (x : Collision) → checked (Is x) ≡ collisionCall st orb move tol → Told st orb move tol x
-answer-told st orb move tol x h = go (passed (collisionRefusal st orb move tol)) h
+answer-told st orb move tol x h = go (passed (ofMoving st orb move tol)) h
   where
-    go : (b : Bool) → answers (values x) ≡ cond b (answers (values (collisionOf st orb move tol))) (refuses (collisionRefusal st orb move tol)) → Told st orb move tol x
+    go : (b : Bool) → answers (values x) ≡ cond b (answers (values (collisionOf st orb move tol))) (refuses (ofMoving st orb move tol)) → Told st orb move tol x
     go true e = rw (values-only x (collisionOf st orb move tol) (cc)) (collision-told st orb move tol)
     go false e = absurd (let z : _≡_ {A = ℕ} 0 1 = cc in omega arith)
 
@@ -53,6 +56,6 @@ told-only st orb move tol (Hit d k s o) (Hit e l t p) (hit f n) (hit f' n') = go
     go (no a) (yes b) = cc (n .first (n' .number) e b (n' .blocks), n' .least (n .number) d (n .blocks))
     go (no a) (no b) =
         let same : n .number ≡ n' .number = omega arith in
-        let v : pairIs k s o ≡ pairIs l t p = sym (n .is) ∙ ap (pairAt st orb) same ∙ n' .is in
-        let m : At d ≡ At e = sym (n .blocks .meets) ∙ ap (λ (j : ℕ). rayAt st orb move tol (pairAt st orb j)) same ∙ n' .blocks .meets in
+        let v : pair k s o ≡ pair l t p = sym (n .is) ∙ ap (pairNo st orb) same ∙ n' .is in
+        let m : At d ≡ At e = sym (n .blocks .meets .at) ∙ ap (λ (j : ℕ). rayAt st orb move tol (pairNo st orb j)) same ∙ n' .blocks .meets .at in
         cc (ap (λ (w : Pair). w .kind) v, ap (λ (w : Pair). w .stationary) v, ap (λ (w : Pair). w .orbiting) v)

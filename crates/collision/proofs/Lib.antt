@@ -1,5 +1,4 @@
 -- The modules that belong to no one function.
-pub mod Screened
 pub mod Nearer
 pub mod Counting
 pub mod Pairs

@@ -3,7 +3,7 @@ use Prim.Native.Nat.{ℕ}
 use mathlib.Core.Path.{_≡_, refl}
 use mathlib.Core.Bool.{true, false}
 use lib.Ieee.{Float, isNan}
-use Rattle.first_best.proofs.Order.{lt-weave, lt-irrefl, lt-asym}
+use Rattle.laws.proofs.Order.{lt-weave, lt-irrefl, lt-asym}
 use Rattle.collision.specs.Hit.{nearer}
 use Rattle.collision.specs.declared.Collision.{Collision}
 use Rattle.collision.specs.declared.Collision.the-variants.{Nothing, Hit}

@@ -1,7 +1,7 @@
 -- The theorem of the check: it answers nothing exactly if the move is shorter than the tolerance or no computed hit of either kind lies strictly
 -- between the tolerance and the length less the tolerance; else it answers such a hit, no other such hit is strictly smaller, and each that is
 -- scanned before it is strictly larger. Assumes nothing.
-use Prim.Native.Nat.{ℕ, _+_, _<_}
+use Prim.Native.Nat.{ℕ, _<_}
 use mathlib.Core.Path.{_≡_, refl, sym, ap, _∙_}
 use mathlib.Core.Logic.{inl, inr, ⊎-elim}
 use mathlib.Core.Bool.{Bool, true, false}
@@ -10,11 +10,13 @@ use native.Mathlib.Omega.{arith}
 use lib.Ieee.{Float, lt}
 use Rattle.plane.specs.Vector.{lengthOf}
 use Rattle.plane.specs.declared.Point.{Point}
-use Rattle.first_best.specs.Best.{First, none, some}
-use Rattle.first_best.proofs.Scan.{over-first}
+use Rattle.laws.specs.FirstBest.{First, none, some}
+use Rattle.laws.proofs.FirstBest.{over-first}
+use Rattle.pairs.specs.Pairs.{pair}
+use Rattle.pairs.specs.declared.Pair.{Pair}
 use Rattle.collision.specs.Hit.{nearer}
 use Rattle.collision.specs.Check.{bothOf, sweepOf, collisionOf}
-use Rattle.collision.specs.Nearest.{Pair, pairIs, half, pairAt, rayAt, Blocks, Told, nothing, hit}
+use Rattle.collision.specs.Nearest.{pairNo, scans, rayAt, Blocks, Told, nothing, hit}
 use Rattle.collision.specs.declared.Collision.{Collision}
 use Rattle.collision.specs.declared.Collision.the-variants.{Nothing, Hit}
 use Rattle.collision.proofs.Nearer.{irrefl, asym, behind, weave}
@@ -24,40 +26,40 @@ use Rattle.collision.proofs.Pairs.{found, numbered}
 no-bool : {A : Type 0} → true ≡ false → A
 no-bool e = absurd (let z : _≡_ {A = ℕ} 0 1 = cc in omega arith)
 
-same-pair : (p : Pair) (k s o : ℕ) → p .kind ≡ k → p .stationary ≡ s → p .orbiting ≡ o → p ≡ pairIs k s o
+same-pair : (p : Pair) (k s o : ℕ) → p .kind ≡ k → p .stationary ≡ s → p .orbiting ≡ o → p ≡ pair k s o
 same-pair p k s o a b c = rw (← a, ← b, ← c)
 
 module _ (st orb : List Float) (move : Point) (tol : Float) where
   -- the number of a pair that blocks, and what it comes to
   hits : (k : ℕ) (d : Float) → Blocks st orb move tol k d
-      → found st orb move tol k ≡ Hit d (pairAt st orb k .kind) (pairAt st orb k .stationary) (pairAt st orb k .orbiting)
+      → found st orb move tol k ≡ Hit d (pairNo st orb k .kind) (pairNo st orb k .stationary) (pairNo st orb k .orbiting)
   unfolding found sweepOf
-  hits k d b = counts (sweepOf move tol) _ _ _ _ d (b .meets) (b .above) (b .below)
+  hits k d b = counts (sweepOf move tol) _ _ _ _ d (b .meets .at) (b .above) (b .below)
 
   carried : (k : ℕ) (d : Float) (l s o : ℕ) → found st orb move tol k ≡ Hit d l s o
-      → Carries (rayAt st orb move tol (pairAt st orb k)) (sweepOf move tol) (pairAt st orb k .kind) (pairAt st orb k .stationary) (pairAt st orb k .orbiting) d l s o
+      → Carries (rayAt st orb move tol (pairNo st orb k)) (sweepOf move tol) (pairNo st orb k .kind) (pairNo st orb k .stationary) (pairNo st orb k .orbiting) d l s o
   unfolding found
   carried k d l s o e = carries (sweepOf move tol) _ _ _ _ d l s o e
 
-  blocks-at : (k : ℕ) (d : Float) (l s o : ℕ) → k < half st orb + half st orb → found st orb move tol k ≡ Hit d l s o → Blocks st orb move tol k d
+  blocks-at : (k : ℕ) (d : Float) (l s o : ℕ) → k < scans st orb → found st orb move tol k ≡ Hit d l s o → Blocks st orb move tol k d
   unfolding sweepOf
   blocks-at k d l s o h e =
       let c = carried k d l s o e in
-      record { scanned = h; meets = c .meets; above = c .above; below = c .below }
+      record { meets = record { scanned = h; at = c .meets }; above = c .above; below = c .below }
 
   -- the scan answers the first of the nearest
-  scanned-first : First nearer (found st orb move tol) Nothing (half st orb + half st orb) (bothOf st orb (sweepOf move tol))
+  scanned-first : First nearer (found st orb move tol) Nothing (scans st orb) (bothOf st orb (sweepOf move tol))
   unfolding found
   scanned-first =
       rw numbered
       (over-first nearer (found st orb move tol) Nothing (λ x y j. weave x y (found st orb move tol j) (λ d k s o e. real (sweepOf move tol) _ _ _ _ d k s o e)) irrefl asym behind _)
 
-  told : (r : Collision) → lt (lengthOf move) tol ≡ false → First nearer (found st orb move tol) Nothing (half st orb + half st orb) r → Told st orb move tol r
+  told : (r : Collision) → lt (lengthOf move) tol ≡ false → First nearer (found st orb move tol) Nothing (scans st orb) r → Told st orb move tol r
   unfolding nearer
   told r far (none z all) =
       rw z
       (nothing
-      (inr (λ k d b. no-bool (sym (ap (λ (x : Collision). nearer x Nothing) (hits k d b)) ∙ all k (b .scanned)))))
+      (inr (λ k d b. no-bool (sym (ap (λ (x : Collision). nearer x Nothing) (hits k d b)) ∙ all k (b .meets .scanned)))))
   told r far (some k l q h first least) = go (found st orb move tol k) refl
     where
       go : (x : Collision) → found st orb move tol k ≡ x → Told st orb move tol r
@@ -72,7 +74,7 @@ module _ (st orb : List Float) (move : Point) (tol : Float) where
             number = k;
             is = same-pair _ _ _ _ (c .kinds) (c .firsts) (c .seconds);
             blocks = b;
-            least = λ j e' b'. rw (hits j e' b', e) at (least j (b' .scanned));
+            least = λ j e' b'. rw (hits j e' b', e) at (least j (b' .meets .scanned));
             first = λ j e' before b'. rw (hits j e' b', e) at (first j before (rw (hits j e' b') refl));
           }))
 

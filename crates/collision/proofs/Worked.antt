@@ -11,13 +11,15 @@ use Rattle.plane.specs.Vector.{point, minusOf, dotOf, crossOf, lengthOf}
 use Rattle.ring.specs.Ring.{pointAt}
 use Rattle.refusals.specs.Refusals.{refuse}
 use Rattle.refusals.specs.Bounds.{coordinate, finite, every}
+use Rattle.refusals.specs.Rows.{ofTwoPolygons, ofMoving}
 use Rattle.refusals.specs.Answers.{answers, refuses}
-use Rattle.first_best.specs.Best.{better, over, nest}
+use Rattle.laws.specs.FirstBest.{better, over, nest}
+use Rattle.pairs.specs.Pairs.{pair, pairOf}
 use Rattle.collision.specs.Ray.{rayWithin, rayOf, edgeRay}
 use Rattle.collision.specs.Hit.{countedOf, nearer}
-use Rattle.collision.specs.Check.{pairOf, scanOf, backOf, bothOf, sweepOf, collisionOf}
-use Rattle.collision.specs.Nearest.{pairIs, pairAt, rayAt}
-use Rattle.collision.specs.Calls.{collisionRefusal, collisionCall}
+use Rattle.collision.specs.Check.{hitOf, scanOf, backOf, bothOf, sweepOf, collisionOf}
+use Rattle.collision.specs.Nearest.{pairNo, rayAt}
+use Rattle.collision.specs.Calls.{collisionCall}
 use Rattle.collision.specs.declared.Ray.the-variants.{At}
 
 abbrev three : Float
@@ -42,31 +44,31 @@ Q =
     float 0xc014_0000_0000_0000 ∷ f1 ∷ float 0xc008_0000_0000_0000 ∷ f1 ∷ float 0xc008_0000_0000_0000 ∷ three ∷ float 0xc014_0000_0000_0000 ∷ three ∷ []
 
 hits : collisionCall S Q (point ten f0) tolerance ≡ answers (some (record { distance = three; kind = 0; stationary = 3; orbiting = 1 }))
-unfolding collisionRefusal every coordinate finite collisionOf sweepOf bothOf backOf scanOf pairOf nest over better nearer countedOf edgeRay rayOf rayWithin largerOf orNumber ahead minusZero absOf pointAt minusOf crossOf lengthOf dotOf sqrtOf add sub mul div lt le eq neg ofBits
+unfolding ofMoving ofTwoPolygons every coordinate finite collisionOf sweepOf bothOf backOf scanOf hitOf nest over better nearer countedOf edgeRay rayOf rayWithin largerOf orNumber ahead minusZero absOf pointAt minusOf crossOf lengthOf dotOf sqrtOf add sub mul div lt le eq neg ofBits
 hits = refl
 
 -- the pair of the tie, four pairs later
-ties : rayAt S Q (point ten f0) tolerance (pairAt S Q 11) ≡ At three
-unfolding pairAt rayAt sweepOf backOf edgeRay rayOf rayWithin largerOf orNumber ahead minusZero absOf pointAt minusOf crossOf lengthOf dotOf sqrtOf add sub mul div lt le eq neg ofBits
+ties : rayAt S Q (point ten f0) tolerance (pairNo S Q 11) ≡ At three
+unfolding pairOf rayAt sweepOf backOf edgeRay rayOf rayWithin largerOf orNumber ahead minusZero absOf pointAt minusOf crossOf lengthOf dotOf sqrtOf add sub mul div lt le eq neg ofBits
 ties = refl
 
-tie-is : pairAt S Q 11 ≡ pairIs 0 3 2
-unfolding pairAt
+tie-is : pairNo S Q 11 ≡ pair 0 3 2
+unfolding pairOf
 tie-is = refl
 
 short-of-it : collisionCall S Q (point three f0) tolerance ≡ answers none
-unfolding collisionRefusal every coordinate finite collisionOf sweepOf bothOf backOf scanOf pairOf nest over better nearer countedOf edgeRay rayOf rayWithin largerOf orNumber ahead minusZero absOf pointAt minusOf crossOf lengthOf dotOf sqrtOf add sub mul div lt le eq neg ofBits
+unfolding ofMoving ofTwoPolygons every coordinate finite collisionOf sweepOf bothOf backOf scanOf hitOf nest over better nearer countedOf edgeRay rayOf rayWithin largerOf orNumber ahead minusZero absOf pointAt minusOf crossOf lengthOf dotOf sqrtOf add sub mul div lt le eq neg ofBits
 short-of-it = refl
 
 no-move : collisionCall S Q (point f0 f0) tolerance ≡ answers none
-unfolding collisionRefusal every coordinate finite collisionOf lengthOf dotOf sqrtOf add mul lt le eq ofBits
+unfolding ofMoving ofTwoPolygons every coordinate finite collisionOf lengthOf dotOf sqrtOf add mul lt le eq ofBits
 no-move = refl
 
 -- 2 of the move comes before 3
-move-first : collisionCall S Q (point (f1 ⊘ f0) f0) f0 ≡ refuses (refuse 2)
-unfolding collisionRefusal every coordinate finite div ofBits
+move-first : collisionCall S Q (point (f1 ⊘ f0) f0) f0 ≡ refuses (refuse 2 0)
+unfolding ofMoving ofTwoPolygons every coordinate finite div ofBits
 move-first = refl
 
-no-tolerance : collisionCall S Q (point three f0) f0 ≡ refuses (refuse 3)
-unfolding collisionRefusal every coordinate finite lt ofBits
+no-tolerance : collisionCall S Q (point three f0) f0 ≡ refuses (refuse 3 0)
+unfolding ofMoving ofTwoPolygons every coordinate finite lt ofBits
 no-tolerance = refl

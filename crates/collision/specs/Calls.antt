@@ -1,13 +1,11 @@
 -- What the call answers: the refusal of what is lent, or what the move runs into. Definitions only.
 use Prim.Native.Nat.{ℕ}
-use mathlib.Core.List.{List, [], _∷_}
+use mathlib.Core.List.{List}
 use mathlib.Core.Option.{Option, none, some}
 use lib.Ieee.{Float}
 use Rattle.plane.specs.declared.Point.{Point}
-use Rattle.refusals.specs.Refusals.{firstOf}
-use Rattle.refusals.specs.Screens.{wrongPolygon, wrongNumber, wrongPosition, wrongTolerance}
+use Rattle.refusals.specs.Rows.{ofMoving}
 use Rattle.refusals.specs.Answers.{Outcome, answers, refuses, outcome}
-use Rattle.refusals.specs.declared.Refusal.{Refusal}
 use Rattle.collision.specs.Check.{collisionOf}
 use Rattle.collision.specs.declared.Collision.{Collision}
 use Rattle.collision.specs.declared.Collision.the-variants.{Nothing, Hit}
@@ -29,10 +27,5 @@ abbrev pub checked : Checked → Outcome (Option Values)
 checked (checked-is.Is x) = answers (values x)
 checked (checked-is.Refused r) = refuses r
 
--- 1 and 2 of the polygons, 2 of the move, 3 of the tolerance
-unfoldable pub collisionRefusal : List Float → List Float → Point → Float → Refusal
-collisionRefusal st orb move tol =
-    firstOf (wrongPolygon st ∷ wrongPolygon orb ∷ wrongNumber st ∷ wrongNumber orb ∷ wrongPosition move ∷ wrongTolerance tol ∷ [])
-
 abbrev pub collisionCall : List Float → List Float → Point → Float → Outcome (Option Values)
-collisionCall st orb move tol = outcome (collisionRefusal st orb move tol) (values (collisionOf st orb move tol))
+collisionCall st orb move tol = outcome (ofMoving st orb move tol) (values (collisionOf st orb move tol))

@@ -8,7 +8,7 @@ use Rattle.scalar.specs.Float.{_⊖_, _⊘_}
 use Rattle.plane.specs.Vector.{point, lengthOf}
 use Rattle.plane.specs.declared.Point.{Point}
 use Rattle.ring.specs.Ring.{count, pointAt}
-use Rattle.first_best.specs.Best.{over, nest}
+use Rattle.laws.specs.FirstBest.{over, nest}
 use Rattle.collision.specs.Ray.{edgeRay}
 use Rattle.collision.specs.Hit.{countedOf, nearer}
 use Rattle.collision.specs.declared.Sweep.{Sweep}
@@ -16,18 +16,18 @@ use Rattle.collision.specs.declared.Collision.{Collision}
 use Rattle.collision.specs.declared.Collision.the-variants.{Nothing}
 
 -- the vertex v of one ring against the edge e of the other: of kind 0 the edge is stationary's, of kind 1 orbiting's
-unfoldable pub pairOf : List Float → List Float → Sweep → ℕ → ℕ → ℕ → Collision
-pairOf vs es w kind v e =
+unfoldable pub hitOf : List Float → List Float → Sweep → ℕ → ℕ → ℕ → Collision
+hitOf vs es w kind v e =
     let ray = edgeRay (pointAt vs v) (w .dir) es e (w .tolerance) in
     cond (eqb kind 0) (countedOf ray w 0 e v) (countedOf ray w 1 v e)
 
 -- the vertex v against each edge
 unfoldable pub rowOf : List Float → List Float → Sweep → ℕ → ℕ → Collision → Collision
-rowOf vs es w kind v before = over nearer (pairOf vs es w kind v) before (count es)
+rowOf vs es w kind v before = over nearer (hitOf vs es w kind v) before (count es)
 
 -- each vertex against each edge
 unfoldable pub scanOf : List Float → List Float → Sweep → ℕ → Collision → Collision
-scanOf vs es w kind before = nest nearer (pairOf vs es w kind) (count es) before (count vs)
+scanOf vs es w kind before = nest nearer (hitOf vs es w kind) (count es) before (count vs)
 
 -- the other way
 unfoldable pub backOf : Sweep → Sweep
@@ -43,5 +43,6 @@ sweepOf move tol =
     let len = lengthOf move in
     record { dir = point (move .x ⊘ len) (move .y ⊘ len); limit = len ⊖ tol; tolerance = tol }
 
+-- `check_translation_collision`: nothing where the move is shorter than the tolerance
 unfoldable pub collisionOf : List Float → List Float → Point → Float → Collision
 collisionOf st orb move tol = cond (lt (lengthOf move) tol) Nothing (bothOf st orb (sweepOf move tol))

@@ -2,7 +2,7 @@
 use Prim.Native.Nat.{ℕ}
 use mathlib.Core.Bool.{Bool, true, false, _&&_, cond}
 use lib.Ieee.{Float, lt}
-use Rattle.first_best.specs.Best.{better}
+use Rattle.laws.specs.FirstBest.{better}
 use Rattle.collision.specs.declared.Sweep.{Sweep}
 use Rattle.collision.specs.declared.Ray.{Ray}
 use Rattle.collision.specs.declared.Ray.the-variants.{Miss, At}

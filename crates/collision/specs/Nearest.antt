@@ -1,15 +1,17 @@
 -- What the check of a move answers, over the pairs of both kinds in the order in which they are scanned. Definitions only.
-use Prim.Native.Nat.{ℕ, _+_, _*_, _-_, _/_, _%_, _<_}
+use Prim.Native.Nat.{ℕ, _<_}
 use mathlib.Core.Path.{_≡_}
 use mathlib.Core.Logic.{_⊎_}
 use mathlib.Core.Bool.{true, false, cond}
 use mathlib.Core.List.{List}
-use lib.Dec.{ltb, eqb}
+use lib.Dec.{eqb}
 use lib.Ieee.{Float, lt}
 use Rattle.scalar.specs.Float.{_⊖_}
 use Rattle.plane.specs.Vector.{lengthOf}
 use Rattle.plane.specs.declared.Point.{Point}
 use Rattle.ring.specs.Ring.{count, pointAt}
+use Rattle.pairs.specs.Pairs.{pair, pairOf, vertexPairs}
+use Rattle.pairs.specs.declared.Pair.{Pair}
 use Rattle.collision.specs.Ray.{edgeRay}
 use Rattle.collision.specs.Check.{sweepOf, backOf}
 use Rattle.collision.specs.declared.Ray.{Ray}
@@ -17,26 +19,14 @@ use Rattle.collision.specs.declared.Ray.the-variants.{At}
 use Rattle.collision.specs.declared.Collision.{Collision}
 use Rattle.collision.specs.declared.Collision.the-variants.{Nothing, Hit}
 
--- a pair: of kind 0 a vertex of orbiting and an edge of stationary, of kind 1 a vertex of stationary and an edge of orbiting
-pub record Pair : Type 0 where
-  pub kind : ℕ
-  pub stationary : ℕ
-  pub orbiting : ℕ
+-- the pair with a number in scan order: first, orbiting vertex by orbiting vertex, the stationary edges; then, stationary vertex by
+-- stationary vertex, the orbiting edges
+abbrev pub pairNo : List Float → List Float → ℕ → Pair
+pairNo st orb k = pairOf (count st) (count orb) k
 
-abbrev pub pairIs : ℕ → ℕ → ℕ → Pair
-pairIs k s o = record { kind = k; stationary = s; orbiting = o }
-
--- how many pairs there are of one kind
-abbrev pub half : List Float → List Float → ℕ
-half st orb = count orb * count st
-
--- the pair with a number in scan order: first, orbiting vertex by orbiting vertex, the stationary edges; then, stationary vertex by stationary vertex, the orbiting edges
-unfoldable pub pairAt : List Float → List Float → ℕ → Pair
-pairAt st orb k =
-    let n = count st in
-    let m = count orb in
-    let l = k - m * n in
-    cond (ltb k (m * n)) (pairIs 0 (k % n) (k / n)) (pairIs 1 (l / m) (l % m))
+-- how many there are of these two kinds
+abbrev pub scans : List Float → List Float → ℕ
+scans st orb = vertexPairs (count st) (count orb)
 
 -- the computed ray of a pair
 unfoldable pub rayAt : List Float → List Float → Point → Float → Pair → Ray
@@ -46,10 +36,14 @@ rayAt st orb move tol p =
     (edgeRay (pointAt orb (p .orbiting)) (w .dir) st (p .stationary) tol)
     (edgeRay (pointAt st (p .stationary)) (backOf w .dir) orb (p .orbiting) tol)
 
--- the pair number k has a computed hit at d, strictly between the tolerance and the length less the tolerance
+-- the pair number k has a computed hit at d
+pub record Meets (st orb : List Float) (move : Point) (tol : Float) (k : ℕ) (d : Float) : Type 0 where
+  pub scanned : k < scans st orb
+  pub at : rayAt st orb move tol (pairNo st orb k) ≡ At d
+
+-- and it lies strictly between the tolerance and the length less the tolerance
 pub record Blocks (st orb : List Float) (move : Point) (tol : Float) (k : ℕ) (d : Float) : Type 0 where
-  pub scanned : k < half st orb + half st orb
-  pub meets : rayAt st orb move tol (pairAt st orb k) ≡ At d
+  pub meets : Meets st orb move tol k d
   pub above : lt tol d ≡ true
   pub below : lt d (lengthOf move ⊖ tol) ≡ true
 
@@ -60,7 +54,7 @@ Clear st orb move tol = (lt (lengthOf move) tol ≡ true) ⊎ ((k : ℕ) (d : Fl
 -- such a hit: no other is strictly smaller, and each that is scanned before it is strictly larger
 pub record Nearest (st orb : List Float) (move : Point) (tol : Float) (d : Float) (p : Pair) : Type 0 where
   pub number : ℕ
-  pub is : pairAt st orb number ≡ p
+  pub is : pairNo st orb number ≡ p
   pub blocks : Blocks st orb move tol number d
   pub least : (j : ℕ) (e : Float) → Blocks st orb move tol j e → lt e d ≡ false
   pub first : (j : ℕ) (e : Float) → j < number → Blocks st orb move tol j e → lt d e ≡ true
@@ -68,4 +62,4 @@ pub record Nearest (st orb : List Float) (move : Point) (tol : Float) (d : Float
 -- the answer: nothing where the move is clear, and else the nearest hit
 pub data Told (st orb : List Float) (move : Point) (tol : Float) : Collision → Type 0 where
   nothing : Clear st orb move tol → Told st orb move tol Nothing
-  hit : {d : Float} {k s o : ℕ} → (Clear st orb move tol → ⊥) → Nearest st orb move tol d (pairIs k s o) → Told st orb move tol (Hit d k s o)
+  hit : {d : Float} {k s o : ℕ} → (Clear st orb move tol → ⊥) → Nearest st orb move tol d (pair k s o) → Told st orb move tol (Hit d k s o)

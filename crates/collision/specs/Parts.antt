@@ -13,8 +13,8 @@ use Rattle.collision.specs.declared.Ray.{Ray}
 use Rattle.collision.specs.declared.Ray.the-variants.{Miss, At}
 
 -- the parameter along the segment is within the tolerance
-abbrev pub onSegment : Float → Float → Bool
-onSegment u tol = le (neg tol) u && le u (f1 ⊕ tol)
+abbrev pub withinSegment : Float → Float → Bool
+withinSegment u tol = le (neg tol) u && le u (f1 ⊕ tol)
 
 -- the answer by the parameter along the ray alone
 abbrev pub inFront : Float → Float → Ray

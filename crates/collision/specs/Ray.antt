@@ -15,7 +15,7 @@ use Rattle.collision.specs.declared.Ray.the-variants.{Miss, At}
 unfoldable pub rayWithin : Float → Float → Float → Ray
 rayWithin t u tol = cond (le (neg tol) t && (le (neg tol) u && le u (f1 ⊕ tol))) (At (largerOf t f0)) Miss
 
--- the ray from o along d against the segment p q
+-- `ray_segment_intersection`: the ray from o along d against the segment p q
 unfoldable pub rayOf : Point → Point → Point → Point → Float → Ray
 rayOf o d p q tol =
     let seg = minusOf q p in

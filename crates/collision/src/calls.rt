@@ -1,7 +1,7 @@
 // The public call: check_translation_collision.
 use crate::answer::Checked;
 use plane::Point;
-use refusals::screen;
+use refusals::row;
 ghost use mathlib.Core.Path.{_≡_};
 ghost use Rattle.collision.specs.Calls.{checked, collisionCall};
 
@@ -14,9 +14,7 @@ pub fn check_translation_collision(
 ) -> Checked
     ensures { λ r. ⌜ checked r ≡ collisionCall (now (stationary .entry)) (now (orbiting .entry)) translation tolerance ⌝ }
 {
-    let rings = screen::two_polygons(stationary, orbiting);
-    let rest = screen::first(screen::position(translation), screen::tolerance(tolerance));
-    let no = screen::first(rings, rest);
+    let no = row::moving(stationary, orbiting, translation, tolerance);
     if no.passed() {
         Checked::Is(crate::check_translation_collision(
             stationary,

@@ -1,4 +1,5 @@
-// What a move runs into: rays against segments, the scan of both kinds of pair, the nearest hit: `check_translation_collision` of `nfp_sliding.rs`.
+// What a move runs into: rays against segments, the scan of both kinds of pair, the nearest hit: `check_translation_collision` of
+// `nfp_sliding.rs`.
 pub mod answer;
 pub mod calls;
 
@@ -12,7 +13,7 @@ ghost use mathlib.Core.Path.{_≡_};
 ghost use Prim.Native.Nat.{_<_};
 ghost use Rattle.ring.specs.Ring.{count};
 ghost use Rattle.collision.specs.Ray.{rayOf, edgeRay};
-ghost use Rattle.collision.specs.Parts.{onSegment, inFront, pairBy};
+ghost use Rattle.collision.specs.Parts.{withinSegment, inFront, pairBy};
 ghost use Rattle.collision.specs.Hit.{countedOf, keptOf};
 ghost use Rattle.collision.specs.Check.{rowOf, scanOf, backOf, bothOf, collisionOf};
 
@@ -41,8 +42,8 @@ pub struct Sweep {
 }
 
 // Whether the parameter along the segment is within the tolerance.
-fn on_segment(u: f64, tolerance: f64) -> bool
-    ensures { λ r. ⌜ r ≡ onSegment u tolerance ⌝ }
+fn within_segment(u: f64, tolerance: f64) -> bool
+    ensures { λ r. ⌜ r ≡ withinSegment u tolerance ⌝ }
 {
     if u >= -tolerance {
         u <= 1.0 + tolerance
@@ -78,7 +79,7 @@ pub fn ray_segment_intersection(
         return Ray::Miss;
     }
     let diff = minus(p1, origin);
-    if on_segment(cross(diff, dir) / den, tolerance) {
+    if within_segment(cross(diff, dir) / den, tolerance) {
         in_front(cross(diff, seg) / den, tolerance)
     } else {
         Ray::Miss
@@ -212,8 +213,9 @@ fn back(sweep: Sweep) -> Sweep
 fn both(stationary: &[f64], orbiting: &[f64], sweep: Sweep) -> Collision
     ensures { λ r. ⌜ r ≡ bothOf (now (stationary .entry)) (now (orbiting .entry)) sweep ⌝ }
 {
+    let against = back(sweep);
     let best = scan(orbiting, stationary, sweep, 0, Collision::Nothing);
-    scan(stationary, orbiting, back(sweep), 1, best)
+    scan(stationary, orbiting, against, 1, best)
 }
 
 // What orbiting, moved by translation, runs into first.

@@ -1,11 +1,12 @@
 -- The contacts one after the other: what `next_contact` found from the pair k on. Assumes nothing.
 use Prim.Native.Nat.{ℕ}
-use mathlib.Core.Path.{_≡_, sym, _∙_}
-use mathlib.Core.List.{List, []}
+use mathlib.Core.Path.{_≡_, refl, sym, _∙_}
+use mathlib.Core.Bool.{false}
+use mathlib.Core.List.{List, [], _∷_}
 use lib.Ieee.{Float}
 use Rattle.ring.specs.Ring.{count}
 use Rattle.pairs.specs.Pairs.{pairCount}
-use Rattle.contacts.specs.Contacts.{contactsFrom, touchesAt, nextOf}
+use Rattle.contacts.specs.Contacts.{contactsFrom, touchesAt, someOf, nextOf}
 use Rattle.contacts.specs.declared.Next.{Next}
 use Rattle.contacts.specs.declared.Next.the-variants.{Nothing, At}
 use Rattle.contacts.proofs.Picks.{Found, found, none-left}
@@ -19,3 +20,8 @@ module _ (st orb : List Float) (tol : Float) where
 
   pub next-none : (k : ℕ) {r : Next} → r ≡ nextOf (contactsFrom st orb tol k) → r ≡ Nothing → contactsFrom st orb tol k ≡ []
   next-none k e q = none-left (touchesAt st orb tol) (pairCount (count st) (count orb)) k (sym e ∙ q)
+
+-- without a contact there is none
+pub none-there : (l : List ℕ) → someOf l ≡ false → l ≡ []
+none-there [] h = refl
+none-there (k ∷ ks) h = cc

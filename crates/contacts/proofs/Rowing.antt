@@ -9,7 +9,7 @@ use mathlib.Core.Bool.{Bool, true, false, _&&_}
 use mathlib.Core.List.{List}
 use lib.Ieee.{Float}
 use Rattle.plane.specs.Vector.{minusOf, parallelOf}
-use Rattle.plane.specs.Segment.{onSegmentOf}
+use Rattle.plane.specs.Segment.{nearSegmentOf}
 use Rattle.plane.specs.declared.Point.{Point}
 use Rattle.ring.specs.Ring.{count, pointAt, nextOf}
 use Rattle.pairs.proofs.Numbers.{below, div-of, mod-of}
@@ -49,11 +49,11 @@ module _ (f : ℕ → Bool) (from n : ℕ) where
 
 -- one turn of `near_edge` and of `edge_along`
 module _ (r : List Float) (tol : Float) (i : ℕ) where
-  pub on-edge : (p : Point) {a b : Point} {t : Bool} → a ≡ pointAt r i → b ≡ pointAt r (nextOf i (count r)) → t ≡ onSegmentOf p a b tol → onEdge p r tol i ≡ t
+  pub on-edge : (p : Point) {a b : Point} {t : Bool} → a ≡ pointAt r i → b ≡ pointAt r (nextOf i (count r)) → t ≡ nearSegmentOf p a b tol → onEdge p r tol i ≡ t
   unfolding onEdge edgeEnd
   on-edge p e f h = rw (h, e, f) refl
 
-  pub is-along : (a b : Point) {c d : Point} {s t u : Bool} → c ≡ pointAt r i → d ≡ pointAt r (nextOf i (count r)) → s ≡ onSegmentOf (pointAt r i) a b tol → t ≡ onSegmentOf d a b tol
+  pub is-along : (a b : Point) {c d : Point} {s t u : Bool} → c ≡ pointAt r i → d ≡ pointAt r (nextOf i (count r)) → s ≡ nearSegmentOf (pointAt r i) a b tol → t ≡ nearSegmentOf d a b tol
       → u ≡ (parallelOf (minusOf b a) (minusOf d c) && (s && t)) → alongEdge a b r tol i ≡ u
   unfolding alongEdge edgeEnd edgesTouch
   is-along a b e f g h q = rw (q, g, h, e, f) refl

@@ -7,12 +7,12 @@ use mathlib.Core.List.{List}
 use lib.Dec.{T}
 use lib.Ieee.{Float, binary64, fits}
 use Rattle.plane.specs.Vector.{minusOf, parallelOf}
-use Rattle.plane.specs.Segment.{onSegmentOf}
+use Rattle.plane.specs.Segment.{nearSegmentOf}
 use Rattle.plane.specs.declared.Point.{Point}
 use Rattle.ring.specs.Ring.{count, pointAt}
-use Rattle.bounds.specs.Bounds.{Inside, Spans, Around, apart}
-use Rattle.bounds.specs.declared.Bounds.{Bounds}
-use Rattle.bounds.proofs.Clear.{clear}
+use Rattle.frames.specs.Frame.{Inside, Spans, Around, apart}
+use Rattle.frames.specs.declared.Frame.{Frame}
+use Rattle.frames.proofs.Clear.{clear}
 use Rattle.contacts.specs.Touching.{edgeEnd, edgesTouch}
 use Rattle.contacts.specs.Rows.{First, onEdge, alongEdge}
 
@@ -23,7 +23,7 @@ never : (p t : Bool) → p && (false && t) ≡ false
 never true t = refl
 never false t = refl
 
-module _ (r : List Float) (tol : Float) (around b : Bounds) (from : ℕ) (h : from < count r) (A : Around around r (count r)) where
+module _ (r : List Float) (tol : Float) (around b : Frame) (from : ℕ) (h : from < count r) (A : Around around r (count r)) where
   pub no-near : (p : Point) {t : Bool} → Inside b p → (t ≡ apart around b tol) × T (fits binary64 tol) → t ≡ true → First (onEdge p r tol) from (count r) (count r)
   unfolding onEdge edgeEnd
   no-near p P e k = none-of (onEdge p r tol) from (count r) h (λ i l. clear around b tol p _ _ (e .1) (A i l) P (sym (e .0) ∙ k))
@@ -32,4 +32,4 @@ module _ (r : List Float) (tol : Float) (around b : Bounds) (from : ℕ) (h : fr
   unfolding alongEdge edgesTouch
   no-along c d S e k =
       none-of (alongEdge c d r tol) from (count r) h
-      (λ i l. rw (clear b around tol (pointAt r i) c d (e .1) S (A i l .first) (sym (e .0) ∙ k)) (never (parallelOf (minusOf d c) (minusOf (edgeEnd r i) (pointAt r i))) (onSegmentOf (edgeEnd r i) c d tol)))
+      (λ i l. rw (clear b around tol (pointAt r i) c d (e .1) S (A i l .first) (sym (e .0) ∙ k)) (never (parallelOf (minusOf d c) (minusOf (edgeEnd r i) (pointAt r i))) (nearSegmentOf (edgeEnd r i) c d tol)))

@@ -1,4 +1,4 @@
--- Worked examples, by computation: the contacts of document 01's S and Q where Q starts. Assumes nothing.
+-- Worked examples, by computation: the contacts of docs/SCOPE.md's S and Q where Q starts. Assumes nothing.
 use mathlib.Core.Path.{_≡_, refl}
 use mathlib.Core.List.{List, [], _∷_}
 use lib.Ieee.{Float, add, sub, mul, div, lt, neg, ofBits}
@@ -6,7 +6,7 @@ use Rattle.scalar.specs.Float.{float, f0, f1}
 use Rattle.scalar.specs.Scalar.{absOf, clampOf}
 use Rattle.square_root.specs.Root.{sqrtOf}
 use Rattle.plane.specs.Vector.{minusOf, dotOf, crossOf, lengthOf, distanceOf, parallelOf}
-use Rattle.plane.specs.Segment.{clampedFoot, projectOf, alongOf, toSegmentOf, onSegmentOf}
+use Rattle.plane.specs.Segment.{clampedFoot, projectOf, alongOf, toSegmentOf, nearSegmentOf}
 use Rattle.ring.specs.Ring.{pointAt}
 use Rattle.pairs.specs.Pairs.{pairOf}
 use Rattle.contacts.specs.Touching.{edgeEnd, edgesOf, edgesTouch, touchesBy, touching, f2, pointBy, contactPoint}
@@ -31,7 +31,7 @@ Q = f0 ∷ minus-two ∷ f2 ∷ minus-two ∷ f2 ∷ f0 ∷ f0 ∷ f0 ∷ []
 
 -- the pairs' numbers
 pub numbers : contactsOf S Q tol ≡ 8 ∷ 12 ∷ 15 ∷ 18 ∷ 19 ∷ 34 ∷ []
-unfolding picks touching touchesBy edgesOf edgeEnd edgesTouch pairOf pointAt onSegmentOf toSegmentOf alongOf projectOf clampedFoot clampOf parallelOf absOf crossOf minusOf dotOf lengthOf distanceOf sqrtOf add sub mul div lt neg ofBits
+unfolding picks touching touchesBy edgesOf edgeEnd edgesTouch pairOf pointAt nearSegmentOf toSegmentOf alongOf projectOf clampedFoot clampOf parallelOf absOf crossOf minusOf dotOf lengthOf distanceOf sqrtOf add sub mul div lt neg ofBits
 numbers = refl
 
 -- vertex-edge (0,2), (0,3), (3,3); edge-vertex (0,2), (0,3); edge-edge (0,2)

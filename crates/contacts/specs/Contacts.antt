@@ -26,13 +26,25 @@ touchesAt st orb tol k = touching st orb tol (pairOf (count st) (count orb) k)
 abbrev pub contactsFrom : List Float → List Float → Float → ℕ → List ℕ
 contactsFrom st orb tol k = picks (touchesAt st orb tol) k (pairCount (count st) (count orb) - k)
 
--- all contacts
+-- `find_contacts`: all contacts
 abbrev pub contactsOf : List Float → List Float → Float → List ℕ
 contactsOf st orb tol = contactsFrom st orb tol 0
+
+abbrev pub someOf : List ℕ → Bool
+someOf [] = false
+someOf (k ∷ ks) = true
+
+-- `has_contacts`
+abbrev pub hasContact : List Float → List Float → Float → Bool
+hasContact st orb tol = someOf (contactsOf st orb tol)
 
 abbrev pub nextOf : List ℕ → Next
 nextOf [] = Nothing
 nextOf (k ∷ ks) = At k
+
+-- how many numbers a contact takes of those that say which it is
+abbrev pub entry : ℕ
+entry = 3
 
 -- per contact its kind, its stationary and its orbiting index
 unfoldable pub whichOf : ℕ → ℕ → List ℕ → List ℕ

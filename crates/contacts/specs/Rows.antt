@@ -4,10 +4,10 @@ use mathlib.Core.Path.{_≡_}
 use mathlib.Core.Bool.{Bool, true, false}
 use mathlib.Core.List.{List}
 use lib.Ieee.{Float}
-use Rattle.plane.specs.Segment.{onSegmentOf}
+use Rattle.plane.specs.Segment.{nearSegmentOf}
 use Rattle.plane.specs.declared.Point.{Point}
 use Rattle.ring.specs.Ring.{count, pointAt}
-use Rattle.bounds.specs.Bounds.{Around}
+use Rattle.frames.specs.Frame.{Around}
 use Rattle.contacts.specs.Touching.{edgeEnd, edgesTouch}
 use Rattle.contacts.specs.declared.Frames.{Frames}
 
@@ -20,7 +20,7 @@ pub record First (f : ℕ → Bool) (from n r : ℕ) : Type 0 where
 
 -- p is near the edge i
 unfoldable pub onEdge : Point → List Float → Float → ℕ → Bool
-onEdge p r tol i = onSegmentOf p (pointAt r i) (edgeEnd r i) tol
+onEdge p r tol i = nearSegmentOf p (pointAt r i) (edgeEnd r i) tol
 
 -- the edge i lies along a b
 unfoldable pub alongEdge : Point → Point → List Float → Float → ℕ → Bool

@@ -6,7 +6,7 @@ use lib.Dec.{eqb}
 use lib.Ieee.{Float}
 use Rattle.scalar.specs.Float.{_⊕_, _⊘_, float}
 use Rattle.plane.specs.Vector.{point, minusOf, parallelOf}
-use Rattle.plane.specs.Segment.{onSegmentOf}
+use Rattle.plane.specs.Segment.{nearSegmentOf}
 use Rattle.plane.specs.declared.Point.{Point}
 use Rattle.ring.specs.Ring.{count, pointAt, nextOf}
 use Rattle.pairs.specs.declared.Pair.{Pair}
@@ -31,10 +31,10 @@ edgesOf st orb p =
 unfoldable pub edgesTouch : Edges → Float → Bool
 edgesTouch e tol =
     parallelOf (minusOf (e .b) (e .a)) (minusOf (e .d) (e .c))
-    && (onSegmentOf (e .c) (e .a) (e .b) tol && onSegmentOf (e .d) (e .a) (e .b) tol)
+    && (nearSegmentOf (e .c) (e .a) (e .b) tol && nearSegmentOf (e .d) (e .a) (e .b) tol)
 
 unfoldable pub touchesBy : ℕ → Edges → Float → Bool
-touchesBy kd e tol = byKind kd (onSegmentOf (e .c) (e .a) (e .b) tol) (onSegmentOf (e .a) (e .c) (e .d) tol) (edgesTouch e tol)
+touchesBy kd e tol = byKind kd (nearSegmentOf (e .c) (e .a) (e .b) tol) (nearSegmentOf (e .a) (e .c) (e .d) tol) (edgesTouch e tol)
 
 unfoldable pub touching : List Float → List Float → Float → Pair → Bool
 touching st orb tol p = touchesBy (p .kind) (edgesOf st orb p) tol

@@ -1,8 +1,8 @@
 // The contacts of a stationary and an orbiting ring, one after the other, in the order of the pairs' numbers.
 mod rows;
 
-use bounds::Bounds;
-use bounds::bounds_of;
+use frames::Frame;
+use frames::frame_of;
 use pairs::Pair;
 use plane::Point;
 use ring::next;
@@ -12,10 +12,13 @@ use rows::scan_vertices;
 ghost use mathlib.Core.Path.{_≡_};
 ghost use Prim.Native.Nat.{_*_, _<_, _≤_};
 ghost use Rattle.ring.specs.Ring.{count};
-ghost use Rattle.pairs.specs.Pairs.{Sides, Within, pairCount};
+ghost use Rattle.pairs.specs.Pairs.{Sides, Within, pairCount, vertexPairs};
 ghost use Rattle.contacts.specs.Touching.{edgeEnd, edgesOf};
 ghost use Rattle.contacts.specs.Rows.{Framed};
-ghost use Rattle.contacts.specs.Contacts.{contactsFrom, nextOf};
+ghost use Rattle.contacts.specs.Contacts.{contactsFrom, nextOf, hasContact};
+
+// How many numbers a contact takes of those that say which it is: its kind, its stationary and its orbiting index.
+pub const ENTRY: usize = 3;
 
 // The two edges of a pair: a b of the stationary ring, c d of the orbiting one.
 pub struct Edges {
@@ -27,8 +30,8 @@ pub struct Edges {
 
 // The bounds around both rings.
 pub struct Frames {
-    pub stationary: Bounds,
-    pub orbiting: Bounds,
+    pub stationary: Frame,
+    pub orbiting: Frame,
 }
 
 // The first contact from a pair's number on.
@@ -63,7 +66,8 @@ pub fn edges_of(stationary: &[f64], orbiting: &[f64], pair: Pair) -> Edges
 // The first contact of two edges from the pair number `from` on.
 fn next_edges(stationary: &[f64], orbiting: &[f64], frames: Frames, tol: f64, from: usize) -> Next
     requires { ⌜ Sides (count (now stationary)) (count (now orbiting)) ⌝ }
-    requires { ⌜ (2 * (count (now stationary) * count (now orbiting)) ≤ from) × (from ≤ pairCount (count (now stationary)) (count (now orbiting))) ⌝ }
+    requires { ⌜ (vertexPairs (count (now stationary)) (count (now orbiting)) ≤ from)
+        × (from ≤ pairCount (count (now stationary)) (count (now orbiting))) ⌝ }
     requires { ⌜ Framed frames (now stationary) (now orbiting) ⌝ }
     ensures { λ r. ⌜ r ≡ nextOf (contactsFrom (now (stationary .entry)) (now (orbiting .entry)) tol from) ⌝ }
 {
@@ -85,7 +89,8 @@ fn next_edges(stationary: &[f64], orbiting: &[f64], frames: Frames, tol: f64, fr
 // The first contact that is no orbiting vertex on a stationary edge, from the pair number `from` on.
 fn next_later(stationary: &[f64], orbiting: &[f64], frames: Frames, tol: f64, from: usize) -> Next
     requires { ⌜ Sides (count (now stationary)) (count (now orbiting)) ⌝ }
-    requires { ⌜ (count (now stationary) * count (now orbiting) ≤ from) × (from ≤ pairCount (count (now stationary)) (count (now orbiting))) ⌝ }
+    requires { ⌜ (count (now stationary) * count (now orbiting) ≤ from)
+        × (from ≤ pairCount (count (now stationary)) (count (now orbiting))) ⌝ }
     requires { ⌜ Framed frames (now stationary) (now orbiting) ⌝ }
     ensures { λ r. ⌜ r ≡ nextOf (contactsFrom (now (stationary .entry)) (now (orbiting .entry)) tol from) ⌝ }
 {
@@ -140,8 +145,8 @@ pub fn frames_of(stationary: &[f64], orbiting: &[f64]) -> Frames
     ensures { λ r. ⌜ Framed r (now (stationary .entry)) (now (orbiting .entry)) ⌝ }
 {
     Frames {
-        stationary: bounds_of(stationary),
-        orbiting: bounds_of(orbiting),
+        stationary: frame_of(stationary),
+        orbiting: frame_of(orbiting),
     }
 }
 
@@ -158,4 +163,15 @@ pub fn next_contact(stationary: &[f64], orbiting: &[f64], tol: f64, from: usize)
         tol,
         from,
     )
+}
+
+// Whether there is a contact.
+pub fn has_contact(stationary: &[f64], orbiting: &[f64], tol: f64) -> bool
+    requires { ⌜ Sides (count (now stationary)) (count (now orbiting)) ⌝ }
+    ensures { λ r. ⌜ r ≡ hasContact (now (stationary .entry)) (now (orbiting .entry)) tol ⌝ }
+{
+    match next_contact(stationary, orbiting, tol, 0) {
+        Next::Nothing => false,
+        Next::At(_) => true,
+    }
 }

@@ -1,9 +1,9 @@
 // The scans of the pairs of one kind, row by row: one point or one edge stays while the edges of the other ring go by.
-use bounds::Bounds;
-use bounds::bounds_at;
-use bounds::is_apart;
-use bounds::is_beside;
-use bounds::with_edge;
+use frames::Frame;
+use frames::frame_at;
+use frames::is_apart;
+use frames::is_beside;
+use frames::with_edge;
 use near::point_on_segment;
 use plane::Point;
 use plane::vector::edges_parallel;
@@ -14,14 +14,14 @@ ghost use mathlib.Core.Path.{_≡_};
 ghost use mathlib.Core.Bool.{_&&_};
 ghost use Prim.Native.Nat.{_+_, _*_, _<_, _≤_};
 ghost use Rattle.plane.specs.Vector.{minusOf, parallelOf};
-ghost use Rattle.plane.specs.Segment.{onSegmentOf};
+ghost use Rattle.plane.specs.Segment.{nearSegmentOf};
 ghost use Rattle.ring.specs.Ring.{count};
-ghost use Rattle.bounds.specs.Bounds.{Around};
+ghost use Rattle.frames.specs.Frame.{Around};
 ghost use Rattle.contacts.specs.Rows.{First, onEdge, alongEdge, onEdgeAt, alongEdgeAt};
 
 // Whether a point is nearer to a segment than tol; its foot is worked out only where the segment is not beside it.
 fn is_on(p: Point, a: Point, b: Point, tol: f64) -> bool
-    ensures { λ r. ⌜ r ≡ onSegmentOf p a b tol ⌝ }
+    ensures { λ r. ⌜ r ≡ nearSegmentOf p a b tol ⌝ }
 {
     if is_beside(p, a, b, tol) {
         return false;
@@ -49,12 +49,12 @@ fn near_edge(p: Point, ring: &[f64], from: usize, tol: f64) -> usize
 }
 
 // The same, with the ring's bounds at hand: a point apart from them is near no edge.
-fn near_edge_within(p: Point, ring: &[f64], around: Bounds, from: usize, tol: f64) -> usize
+fn near_edge_within(p: Point, ring: &[f64], around: Frame, from: usize, tol: f64) -> usize
     requires { ⌜ from < count (now ring) ⌝ }
     requires { ⌜ Around around (now ring) (count (now ring)) ⌝ }
     ensures { λ r. ⌜ First (onEdge p (now (ring .entry)) tol) from (count (now (ring .entry))) r ⌝ }
 {
-    if is_apart(around, bounds_at(p), tol) {
+    if is_apart(around, frame_at(p), tol) {
         return ring.len() / 2;
     }
     near_edge(p, ring, from, tol)
@@ -102,7 +102,7 @@ fn edge_along_within(
     a: Point,
     b: Point,
     ring: &[f64],
-    around: Bounds,
+    around: Frame,
     from: usize,
     tol: f64,
 ) -> usize
@@ -110,18 +110,18 @@ fn edge_along_within(
     requires { ⌜ Around around (now ring) (count (now ring)) ⌝ }
     ensures { λ r. ⌜ First (alongEdge a b (now (ring .entry)) tol) from (count (now (ring .entry))) r ⌝ }
 {
-    if is_apart(with_edge(bounds_at(a), a, b), around, tol) {
+    if is_apart(with_edge(frame_at(a), a, b), around, tol) {
         return ring.len() / 2;
     }
     edge_along(a, b, ring, from, tol)
 }
 
-// The first pair of a vertex of one list and an edge of a ring, in bounds that are around it, that are near, from the vertex v and the edge e on,
-// or the number of pairs.
+// The first pair of a vertex of one list and an edge of a ring, in bounds that are around it, that are near, from the vertex v and the edge
+// e on, or the number of pairs.
 pub fn scan_vertices(
     points: &[f64],
     ring: &[f64],
-    around: Bounds,
+    around: Frame,
     v: usize,
     e: usize,
     tol: f64,
@@ -129,7 +129,9 @@ pub fn scan_vertices(
     requires { ⌜ (v < count (now points)) × (e < count (now ring)) ⌝ }
     requires { ⌜ (count (now points) ≤ 256) × (count (now ring) ≤ 256) ⌝ }
     requires { ⌜ Around around (now ring) (count (now ring)) ⌝ }
-    ensures { λ r. ⌜ First (onEdgeAt (now (points .entry)) (now (ring .entry)) tol) (v * count (now (ring .entry)) + e) (count (now (points .entry)) * count (now (ring .entry))) r ⌝ }
+    ensures { λ r.
+        ⌜ First (onEdgeAt (now (points .entry)) (now (ring .entry)) tol) (v * count (now (ring .entry)) + e)
+        (count (now (points .entry)) * count (now (ring .entry))) r ⌝ }
 {
     let vn = points.len() / 2;
     let en = ring.len() / 2;
@@ -150,7 +152,7 @@ pub fn scan_vertices(
 pub fn scan_edges(
     stationary: &[f64],
     orbiting: &[f64],
-    around: Bounds,
+    around: Frame,
     s: usize,
     o: usize,
     tol: f64,
@@ -158,7 +160,9 @@ pub fn scan_edges(
     requires { ⌜ (s < count (now stationary)) × (o < count (now orbiting)) ⌝ }
     requires { ⌜ (count (now stationary) ≤ 256) × (count (now orbiting) ≤ 256) ⌝ }
     requires { ⌜ Around around (now orbiting) (count (now orbiting)) ⌝ }
-    ensures { λ r. ⌜ First (alongEdgeAt (now (stationary .entry)) (now (orbiting .entry)) tol) (s * count (now (orbiting .entry)) + o) (count (now (stationary .entry)) * count (now (orbiting .entry))) r ⌝ }
+    ensures { λ r.
+        ⌜ First (alongEdgeAt (now (stationary .entry)) (now (orbiting .entry)) tol) (s * count (now (orbiting .entry)) + o)
+        (count (now (stationary .entry)) * count (now (orbiting .entry))) r ⌝ }
 {
     let sn = stationary.len() / 2;
     let on = orbiting.len() / 2;

@@ -4,8 +4,7 @@ use mathlib.Core.Path.{_≡_, refl}
 use mathlib.Core.Bool.{true, false}
 use mathlib.Core.Option.{Option, none, some}
 use Rattle.refusals.specs.Answers.{Outcome, answers, refuses}
-use Rattle.refusals.specs.Refusals.{refuse}
-use Rattle.book_layout.specs.Faults.{faultAt}
+use Rattle.refusals.specs.Refusals.{refusedBook, refuse}
 use Rattle.handed.specs.Handed.{returned, told, toldFound, toldPlace, itself, flag, isFound}
 
 -- a book of two rings: 0, the count, and no place
@@ -26,7 +25,7 @@ read-place = refl
 
 -- a book with a fault at its byte 0: 7, the count as it was, and the place
 abbrev wrong : Outcome ℕ
-wrong = refuses (faultAt 0)
+wrong = refuses (refuse refusedBook 0)
 
 wrong-number : returned wrong ≡ 7
 unfolding returned
@@ -41,11 +40,11 @@ unfolding toldPlace
 wrong-place = refl
 
 -- a room too short: 4, and no place
-short-number : returned {A = ℕ} (refuses (refuse 4)) ≡ 4
+short-number : returned {A = ℕ} (refuses (refuse 4 0)) ≡ 4
 unfolding returned
 short-number = refl
 
-short-place : toldPlace {A = ℕ} (refuses (refuse 4)) 9 ≡ 9
+short-place : toldPlace {A = ℕ} (refuses (refuse 4 0)) 9 ≡ 9
 unfolding toldPlace
 short-place = refl
 

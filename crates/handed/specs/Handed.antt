@@ -8,7 +8,6 @@ use Rattle.plane.specs.declared.Point.{Point}
 use Rattle.collision.specs.Calls.{Values}
 use Rattle.refusals.specs.Answers.{Outcome, answers, refuses}
 use Rattle.refusals.specs.Refusals as refusal
-use Rattle.book_layout.specs.Faults.{faultAt}
 
 -- the number of no refusal where the call answers, and else the refusal's
 unfoldable pub returned : {A : Type 0} → Outcome A → ℕ
@@ -29,7 +28,7 @@ toldFound say (refuses r) held = held
 -- a cell for the place of a book's first fault
 unfoldable pub toldPlace : {A : Type 0} → Outcome A → ℕ → ℕ
 toldPlace (answers a) held = held
-toldPlace (refuses r) held = cond (eqb (r .number) (faultAt 0 .number)) (r .place) held
+toldPlace (refuses r) held = cond (eqb (r .number) (refusal.refusedBook)) (r .place) held
 
 -- an answer as it is
 abbrev pub itself : {A : Type 0} → A → A

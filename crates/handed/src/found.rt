@@ -2,18 +2,21 @@
 // returns the refusal's number and leaves the cells as they were.
 use collision::Collision;
 use collision::answer::Checked;
-use moved::answer::Found;
-use moved::answer::Position;
+use refusals::answer::Found;
+use refusals::answer::Position;
 use selection::answer::Selected;
 ghost use mathlib.Core.Path.{_≡_};
 ghost use Rattle.collision.specs.Calls.{checked};
-ghost use Rattle.moved.specs.Answers.{position};
+ghost use Rattle.refusals.specs.Answers.{position};
 ghost use Rattle.selection.specs.Calls.{selected};
 ghost use Rattle.handed.specs.Handed.{returned, told, toldFound, itself, isFound, xOf, yOf, hitDistance, hitKind, hitStationary, hitOrbiting};
 
 // The index of a vector, or nothing.
 pub fn hand_selected(answer: Selected, found: &mut u32, index: &mut u64) -> u32
-    ensures { λ r. ⌜ (r ≡ returned (selected answer)) × (now (found .exit) ≡ told isFound (selected answer) (now (found .entry))) × (now (index .exit) ≡ toldFound itself (selected answer) (now (index .entry))) ⌝ }
+    ensures { λ r.
+        ⌜ (r ≡ returned (selected answer))
+        × (now (found .exit) ≡ told isFound (selected answer) (now (found .entry)))
+        × (now (index .exit) ≡ toldFound itself (selected answer) (now (index .entry))) ⌝ }
 {
     match answer {
         Selected::Nothing => {
@@ -31,7 +34,11 @@ pub fn hand_selected(answer: Selected, found: &mut u32, index: &mut u64) -> u32
 
 // A position, or nothing.
 pub fn hand_position(answer: Position, found: &mut u32, x: &mut f64, y: &mut f64) -> u32
-    ensures { λ r. ⌜ (r ≡ returned (position answer)) × (now (found .exit) ≡ told isFound (position answer) (now (found .entry))) × (now (x .exit) ≡ toldFound xOf (position answer) (now (x .entry))) × (now (y .exit) ≡ toldFound yOf (position answer) (now (y .entry))) ⌝ }
+    ensures { λ r.
+        ⌜ (r ≡ returned (position answer))
+        × (now (found .exit) ≡ told isFound (position answer) (now (found .entry)))
+        × (now (x .exit) ≡ toldFound xOf (position answer) (now (x .entry)))
+        × (now (y .exit) ≡ toldFound yOf (position answer) (now (y .entry))) ⌝ }
 {
     match answer {
         Position::Is(f) => match f {
@@ -59,7 +66,13 @@ pub fn hand_checked(
     si: &mut u64,
     oi: &mut u64,
 ) -> u32
-    ensures { λ r. ⌜ (r ≡ returned (checked answer)) × (now (found .exit) ≡ told isFound (checked answer) (now (found .entry))) × (now (distance .exit) ≡ toldFound hitDistance (checked answer) (now (distance .entry))) × (now (kind .exit) ≡ toldFound hitKind (checked answer) (now (kind .entry))) × (now (si .exit) ≡ toldFound hitStationary (checked answer) (now (si .entry))) × (now (oi .exit) ≡ toldFound hitOrbiting (checked answer) (now (oi .entry))) ⌝ }
+    ensures { λ r.
+        ⌜ (r ≡ returned (checked answer))
+        × (now (found .exit) ≡ told isFound (checked answer) (now (found .entry)))
+        × (now (distance .exit) ≡ toldFound hitDistance (checked answer) (now (distance .entry)))
+        × (now (kind .exit) ≡ toldFound hitKind (checked answer) (now (kind .entry)))
+        × (now (si .exit) ≡ toldFound hitStationary (checked answer) (now (si .entry)))
+        × (now (oi .exit) ≡ toldFound hitOrbiting (checked answer) (now (oi .entry))) ⌝ }
 {
     match answer {
         Checked::Is(c) => match c {

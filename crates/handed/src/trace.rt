@@ -13,7 +13,12 @@ pub fn hand_traced(
     passes: &mut u64,
     stop: &mut u32,
 ) -> u32
-    ensures { λ r. ⌜ (r ≡ refusalOf (traced answer) .number) × (now (points .exit) ≡ pointsTold (traced answer) (now (points .entry))) × (now (stored .exit) ≡ storedTold (traced answer) (now (stored .entry))) × (now (passes .exit) ≡ passesTold (traced answer) (now (passes .entry))) × (now (stop .exit) ≡ stopTold (traced answer) (now (stop .entry))) ⌝ }
+    ensures { λ r.
+        ⌜ (r ≡ refusalOf (traced answer) .number)
+        × (now (points .exit) ≡ pointsTold (traced answer) (now (points .entry)))
+        × (now (stored .exit) ≡ storedTold (traced answer) (now (stored .entry)))
+        × (now (passes .exit) ≡ passesTold (traced answer) (now (passes .entry)))
+        × (now (stop .exit) ≡ stopTold (traced answer) (now (stop .entry))) ⌝ }
 {
     let no = refusal(answer);
     match answer {
@@ -29,8 +34,8 @@ pub fn hand_traced(
             *stop = why;
         }
         Traced::Refused(_) => {}
-        Traced::Full(n) => {
-            *passes = n;
+        Traced::Full(begun) => {
+            *passes = begun;
         }
         Traced::Short {
             passes: n,

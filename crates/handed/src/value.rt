@@ -1,5 +1,6 @@
 // Answers that are a value or a point. Each function returns 0 and writes the answer, or returns the refusal's number and leaves the cells as they were.
 use plane::Orientation;
+use refusals::REFUSED_BOOK;
 use refusals::answer::Count;
 use refusals::answer::Number;
 use refusals::answer::Truth;
@@ -7,12 +8,9 @@ use refusals::answer::Turn;
 use start_position::answer::Start;
 ghost use mathlib.Core.Path.{_≡_};
 ghost use Rattle.plane.specs.Orientation.{turnNumber};
-ghost use Rattle.refusals.specs.Answers.{truth, turn, number, count};
+ghost use Rattle.refusals.specs.Answers.{truth, turn, number, counted};
 ghost use Rattle.start_position.specs.Calls.{started};
 ghost use Rattle.handed.specs.Handed.{returned, told, toldPlace, itself, flag, xOf, yOf};
-
-// The number of the refusal that tells a place in a book.
-const WRONG_BOOK: u32 = 7;
 
 // Whether something holds, as 1 or 0.
 pub fn hand_truth(answer: Truth, out: &mut u32) -> u32
@@ -66,7 +64,7 @@ pub fn hand_number(answer: Number, out: &mut f64) -> u32
 
 // How many entries were written.
 pub fn hand_count(answer: Count, out: &mut u64) -> u32
-    ensures { λ r. ⌜ (r ≡ returned (count answer)) × (now (out .exit) ≡ told itself (count answer) (now (out .entry))) ⌝ }
+    ensures { λ r. ⌜ (r ≡ returned (counted answer)) × (now (out .exit) ≡ told itself (counted answer) (now (out .entry))) ⌝ }
 {
     match answer {
         Count::Is(n) => {
@@ -79,7 +77,10 @@ pub fn hand_count(answer: Count, out: &mut u64) -> u32
 
 // How many rings a book has, or the place of its first fault.
 pub fn hand_count_or_place(answer: Count, out: &mut u64, place: &mut u64) -> u32
-    ensures { λ r. ⌜ (r ≡ returned (count answer)) × (now (out .exit) ≡ told itself (count answer) (now (out .entry))) × (now (place .exit) ≡ toldPlace (count answer) (now (place .entry))) ⌝ }
+    ensures { λ r.
+        ⌜ (r ≡ returned (counted answer))
+        × (now (out .exit) ≡ told itself (counted answer) (now (out .entry)))
+        × (now (place .exit) ≡ toldPlace (counted answer) (now (place .entry))) ⌝ }
 {
     match answer {
         Count::Is(rings) => {
@@ -87,7 +88,7 @@ pub fn hand_count_or_place(answer: Count, out: &mut u64, place: &mut u64) -> u32
             0
         }
         Count::Refused(no) => {
-            if no.number == WRONG_BOOK {
+            if no.number == REFUSED_BOOK {
                 *place = no.place;
             }
             no.number
@@ -97,7 +98,10 @@ pub fn hand_count_or_place(answer: Count, out: &mut u64, place: &mut u64) -> u32
 
 // A position.
 pub fn hand_start(answer: Start, x: &mut f64, y: &mut f64) -> u32
-    ensures { λ r. ⌜ (r ≡ returned (started answer)) × (now (x .exit) ≡ told xOf (started answer) (now (x .entry))) × (now (y .exit) ≡ told yOf (started answer) (now (y .entry))) ⌝ }
+    ensures { λ r.
+        ⌜ (r ≡ returned (started answer))
+        × (now (x .exit) ≡ told xOf (started answer) (now (x .entry)))
+        × (now (y .exit) ≡ told yOf (started answer) (now (y .entry))) ⌝ }
 {
     match answer {
         Start::Is(p) => {

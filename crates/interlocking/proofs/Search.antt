@@ -4,8 +4,8 @@ use mathlib.Core.Path.{_≡_}
 use native.Mathlib.Omega.{arith}
 use native.Mathlib.Numerals.{add-one}
 use Rattle.plane.specs.declared.Point.{Point}
-use Rattle.moved.specs.declared.answer.Found.{Found}
-use Rattle.moved.specs.declared.answer.Found.the-variants.{Nothing, At}
+use Rattle.refusals.specs.declared.answer.Found.{Found}
+use Rattle.refusals.specs.declared.answer.Found.the-variants.{Nothing, At}
 use Rattle.interlocking.specs.Interlocking.{orElse, firstFound}
 
 module _ (f : ℕ → Found) (k n : ℕ) where

@@ -7,18 +7,18 @@ use lib.Ieee.{Float, add, sub, mul, div, lt, le, eq, neg, ofBits}
 use Rattle.scalar.specs.Float.{_⊘_, float, f0, f1}
 use Rattle.scalar.specs.Scalar.{absOf, minusZero, ahead, orNumber, smallerOf, largerOf}
 use Rattle.square_root.specs.Root.{sqrtOf}
-use Rattle.plane.specs.Vector.{point, minusOf, plusOf, dotOf, crossOf, lengthOf, normalizeOf, turnOf}
-use Rattle.ring.specs.Ring.{pointAt}
+use Rattle.plane.specs.Vector.{point, minusOf, plusOf, dotOf, crossOf, lengthOf, normalizeOf, turnOf, aheadOf}
+use Rattle.ring.specs.Ring.{pointAt, previousVertex}
 use Rattle.refusals.specs.Refusals.{refuse}
 use Rattle.refusals.specs.Bounds.{coordinate, finite, every}
 use Rattle.refusals.specs.Answers.{answers, refuses}
-use Rattle.moved.specs.Points.{points}
-use Rattle.moved.specs.Moved.{movedOf, aheadOf}
-use Rattle.moved.specs.Answers.{positionRefusal}
-use Rattle.moved.proofs.Worked.{f2, f4, f8, Q}
+use Rattle.ring.specs.Points.{points}
+use Rattle.ring.specs.Moved.{movedOf}
+use Rattle.refusals.specs.Rows.{ofTwoPolygons, ofMoving}
+use Rattle.ring.proofs.Worked.{f2, f4, f8, Q}
 use Rattle.overlap.specs.Extent.{widerOf, extentTo, apartOf, boxOf}
 use Rattle.overlap.specs.Overlap.{edgeOf, boxesApart, overlapOf}
-use Rattle.interlocking.specs.Interlocking.{previousOf, concaveOf, openingOf, leastOf, fitsOf, tryOf, candidateOf, orElse, firstFound, interlockOf}
+use Rattle.interlocking.specs.Interlocking.{concaveOf, openingOf, leastOf, fitsOf, tryOf, candidateOf, orElse, firstFound, interlockOf}
 use Rattle.interlocking.specs.Calls.{interlockCall}
 
 -- 1e-6
@@ -37,18 +37,18 @@ abbrev L : List Float
 L = f0 ∷ f0 ∷ f8 ∷ f0 ∷ f8 ∷ f4 ∷ f4 ∷ f4 ∷ f4 ∷ f8 ∷ f0 ∷ f8 ∷ []
 
 toward-the-notch : interlockCall notched Q (point f4 above) tolerance ≡ answers (some (point f4 (float 0x4033_ffff_ef39_085f)))
-unfolding positionRefusal every coordinate finite interlockOf firstFound orElse candidateOf tryOf fitsOf leastOf openingOf concaveOf previousOf edgeOf overlapOf boxesApart boxOf apartOf extentTo widerOf movedOf points plusOf aheadOf pointAt minusOf dotOf crossOf turnOf lengthOf normalizeOf smallerOf largerOf orNumber ahead minusZero absOf sqrtOf add sub mul div lt le eq neg ofBits
+unfolding ofMoving ofTwoPolygons every coordinate finite interlockOf firstFound orElse candidateOf tryOf fitsOf leastOf openingOf concaveOf previousVertex edgeOf overlapOf boxesApart boxOf apartOf extentTo widerOf movedOf points plusOf aheadOf pointAt minusOf dotOf crossOf turnOf lengthOf normalizeOf smallerOf largerOf orNumber ahead minusZero absOf sqrtOf add sub mul div lt le eq neg ofBits
 toward-the-notch = refl
 
 right-angle : interlockCall L Q (point f4 above) tolerance ≡ answers none
-unfolding positionRefusal every coordinate finite interlockOf firstFound orElse candidateOf leastOf openingOf concaveOf previousOf edgeOf boxOf extentTo widerOf pointAt minusOf dotOf crossOf turnOf smallerOf largerOf orNumber ahead minusZero absOf sqrtOf add sub mul lt le eq neg ofBits
+unfolding ofMoving ofTwoPolygons every coordinate finite interlockOf firstFound orElse candidateOf leastOf openingOf concaveOf previousVertex edgeOf boxOf extentTo widerOf pointAt minusOf dotOf crossOf turnOf smallerOf largerOf orNumber ahead minusZero absOf sqrtOf add sub mul lt le eq neg ofBits
 right-angle = refl
 
 -- 2 of the position comes before 3
-nowhere : interlockCall L Q (point (f1 ⊘ f0) f0) f0 ≡ refuses (refuse 2)
-unfolding positionRefusal every coordinate finite div ofBits
+nowhere : interlockCall L Q (point (f1 ⊘ f0) f0) f0 ≡ refuses (refuse 2 0)
+unfolding ofMoving ofTwoPolygons every coordinate finite div ofBits
 nowhere = refl
 
-no-tolerance : interlockCall L Q (point f4 above) f2 ≡ refuses (refuse 3)
-unfolding positionRefusal every coordinate finite lt le eq ofBits
+no-tolerance : interlockCall L Q (point f4 above) f2 ≡ refuses (refuse 3 0)
+unfolding ofMoving ofTwoPolygons every coordinate finite lt le eq ofBits
 no-tolerance = refl

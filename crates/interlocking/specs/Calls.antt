@@ -3,9 +3,9 @@ use mathlib.Core.List.{List}
 use mathlib.Core.Option.{Option}
 use lib.Ieee.{Float}
 use Rattle.plane.specs.declared.Point.{Point}
-use Rattle.refusals.specs.Answers.{Outcome, outcome}
-use Rattle.moved.specs.Answers.{found, positionRefusal}
+use Rattle.refusals.specs.Rows.{ofMoving}
+use Rattle.refusals.specs.Answers.{Outcome, outcome, found}
 use Rattle.interlocking.specs.Interlocking.{interlockOf}
 
 abbrev pub interlockCall : List Float → List Float → Point → Float → Outcome (Option Point)
-interlockCall s o current tol = outcome (positionRefusal s o current tol) (found (interlockOf s o current tol))
+interlockCall s o current tol = outcome (ofMoving s o current tol) (found (interlockOf s o current tol))

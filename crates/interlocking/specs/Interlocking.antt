@@ -1,31 +1,26 @@
 -- A position toward a concave vertex, in the order of operations of `nfp_sliding.rs`. Definitions only.
-use Prim.Native.Nat.{ℕ, zero, suc, _-_}
+use Prim.Native.Nat.{ℕ, zero, suc}
 use mathlib.Core.Bool.{Bool, not, _&&_, cond}
 use mathlib.Core.List.{List}
-use lib.Dec.{eqb}
 use lib.Ieee.{Float, lt}
 use Rattle.scalar.specs.Float.{_⊖_, _⊗_, f0}
 use Rattle.scalar.specs.Scalar.{absOf, smallerOf}
-use Rattle.plane.specs.Vector.{minusOf, dotOf, normalizeOf, turnOf, root}
+use Rattle.plane.specs.Vector.{minusOf, dotOf, normalizeOf, turnOf, root, aheadOf, half}
 use Rattle.plane.specs.declared.Point.{Point}
-use Rattle.ring.specs.Ring.{count, pointAt, nextOf}
-use Rattle.moved.specs.Moved.{movedOf, aheadOf, half}
-use Rattle.moved.specs.declared.answer.Found.{Found}
-use Rattle.moved.specs.declared.answer.Found.the-variants.{Nothing, At}
+use Rattle.ring.specs.Ring.{count, pointAt, nextOf, previousVertex}
+use Rattle.ring.specs.Moved.{movedOf}
+use Rattle.refusals.specs.declared.answer.Found.{Found}
+use Rattle.refusals.specs.declared.answer.Found.the-variants.{Nothing, At}
 use Rattle.overlap.specs.Extent.{boxOf}
 use Rattle.overlap.specs.Overlap.{edgeOf, overlapOf, f1e-6}
 
--- the vertex before i of n
-unfoldable pub previousOf : ℕ → ℕ → ℕ
-previousOf i n = cond (eqb i 0) (n - 1) (i - 1)
-
 -- the turn at vertex i is clockwise
 unfoldable pub concaveOf : List Float → ℕ → Bool
-concaveOf r i = lt (turnOf (pointAt r (previousOf i (count r))) (pointAt r i) (pointAt r (nextOf i (count r)))) f0
+concaveOf r i = lt (turnOf (pointAt r (previousVertex i (count r))) (pointAt r i) (pointAt r (nextOf i (count r)))) f0
 
 -- sqrt(|dot|) of the edges before and after vertex i
 unfoldable pub openingOf : List Float → ℕ → Float
-openingOf r i = root (absOf (dotOf (edgeOf r (previousOf i (count r))) (edgeOf r i)))
+openingOf r i = root (absOf (dotOf (edgeOf r (previousVertex i (count r))) (edgeOf r i)))
 
 -- half of the smaller side of the bounding box
 unfoldable pub leastOf : List Float → Float
@@ -57,5 +52,6 @@ unfoldable pub firstFound : (ℕ → Found) → ℕ → ℕ → Found
 firstFound f k zero = Nothing
 firstFound f k (suc more) = orElse (f k) (firstFound f (suc k) more)
 
+-- `detect_interlocking_opportunity`: the first position that a vertex gives
 unfoldable pub interlockOf : List Float → List Float → Point → Float → Found
 interlockOf s o current tol = firstFound (candidateOf s o current tol (leastOf o)) 0 (count s)

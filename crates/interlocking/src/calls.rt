@@ -1,9 +1,9 @@
 // The public call: detect_interlocking_opportunity.
-use moved::answer::Position;
-use moved::answer::lent;
 use plane::Point;
+use refusals::answer::Position;
+use refusals::row;
 ghost use mathlib.Core.Path.{_≡_};
-ghost use Rattle.moved.specs.Answers.{position};
+ghost use Rattle.refusals.specs.Answers.{position};
 ghost use Rattle.interlocking.specs.Calls.{interlockCall};
 
 // The first position toward a concave vertex at which the orbiting polygon, lent as drawn, does not overlap, or nothing.
@@ -15,7 +15,7 @@ pub fn detect_interlocking_opportunity(
 ) -> Position
     ensures { λ r. ⌜ position r ≡ interlockCall (now (stationary .entry)) (now (orbiting .entry)) current tolerance ⌝ }
 {
-    let no = lent(stationary, orbiting, current, tolerance);
+    let no = row::moving(stationary, orbiting, current, tolerance);
     if no.passed() {
         Position::Is(crate::detect_interlocking_opportunity(
             stationary,

@@ -1,19 +1,20 @@
 // A position toward a concave vertex of the stationary polygon: `detect_interlocking_opportunity` of `nfp_sliding.rs`.
 pub mod calls;
 
-use moved::ahead;
-use moved::answer::Found;
-use moved::move_ring;
 use overlap::compute_bbox;
 use overlap::edge_vector;
 use overlap::polygons_overlap;
 use plane::Point;
+use plane::vector::ahead;
 use plane::vector::dot;
 use plane::vector::minus;
 use plane::vector::normalize;
 use plane::vector::turn;
+use refusals::answer::Found;
+use ring::moving::move_ring;
 use ring::next;
 use ring::point_at;
+use ring::previous;
 use scalar::abs;
 use scalar::smaller;
 use square_root::sqrt;
@@ -21,15 +22,7 @@ ghost use mathlib.Core.Path.{_≡_};
 ghost use Prim.Native.Nat.{_%_, _<_, _≤_};
 ghost use lib.ListN.{length};
 ghost use Rattle.ring.specs.Ring.{count};
-ghost use Rattle.interlocking.specs.Interlocking.{previousOf, concaveOf, openingOf, leastOf, fitsOf, tryOf, candidateOf, interlockOf};
-
-// The vertex before i of n.
-fn previous(i: usize, n: usize) -> usize
-    requires { ⌜ i < n ⌝ }
-    ensures { λ r. ⌜ (r ≡ previousOf i n) × (r < n) ⌝ }
-{
-    if i == 0 { n - 1 } else { i - 1 }
-}
+ghost use Rattle.interlocking.specs.Interlocking.{concaveOf, openingOf, leastOf, fitsOf, tryOf, candidateOf, interlockOf};
 
 // Whether the turn at vertex i is clockwise.
 fn is_concave(polygon: &[f64], i: usize) -> bool

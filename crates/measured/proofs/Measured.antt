@@ -5,25 +5,24 @@ use lib.Ieee.{round, add, sub, mul, div, lt, le, eq, neg, ofBits, toBits}
 use Rattle.scalar.specs.Scalar.{absOf, minusZero, ahead, orNumber, smallerOf, largerOf, clampOf}
 use Rattle.square_root.specs.Root.{sqrtOf}
 use Rattle.plane.specs.Vector.{minusOf, plusOf, dotOf, crossOf, lengthOf, distanceOf, parallelOf, turnOf}
-use Rattle.plane.specs.Segment.{clampedFoot, projectOf, alongOf, toSegmentOf, onSegmentOf}
+use Rattle.plane.specs.Segment.{clampedFoot, projectOf, alongOf, toSegmentOf, nearSegmentOf}
 use Rattle.ring.specs.Each.{each}
-use Rattle.ring.specs.Ring.{pointAt}
-use Rattle.moved.specs.Points.{points}
-use Rattle.moved.specs.Moved.{movedOf}
+use Rattle.ring.specs.Ring.{pointAt, previousVertex}
+use Rattle.ring.specs.Points.{points}
+use Rattle.ring.specs.Moved.{movedOf}
+use Rattle.refusals.specs.Rows.{ofPoints3, ofRing, ofTwoPolygons, ofTouching, ofMoving, ofRooms, ofList}
 use Rattle.refusals.specs.Bounds.{coordinate, finite, every}
-use Rattle.refusals.specs.Screens.{ofPoints3, ofRing, ofTwoPolygons}
-use Rattle.first_best.specs.Best.{better, over, nest}
+use Rattle.laws.specs.FirstBest.{better, over, nest}
 use Rattle.start_position.specs.Start.{lowerOf, upperOf, vertexOf, startOf}
 use Rattle.pairs.specs.Pairs as pairs
 use Rattle.contacts.specs.Touching.{edgeEnd, edgesOf, edgesTouch, touchesBy, touching, pointBy, contactPoint}
 use Rattle.contacts.specs.Contacts.{picks, contactsOf, whichOf, pointsOf}
-use Rattle.find_contacts.specs.Calls.{findRefusal}
+use Rattle.contacts_call.specs.Calls.{findRefusal}
 use Rattle.collision.specs.Ray.{rayWithin, rayOf, edgeRay}
 use Rattle.collision.specs.Hit.{countedOf, nearer}
-use Rattle.collision.specs.Check.{pairOf, scanOf, backOf, bothOf, sweepOf, collisionOf}
-use Rattle.collision.specs.Nearest.{pairAt, rayAt}
-use Rattle.collision.specs.Calls.{collisionRefusal}
-use Rattle.simplify.specs.Simplify.{prevOf, staysOf, piece, survivors, simplified}
+use Rattle.collision.specs.Check.{hitOf, scanOf, backOf, bothOf, sweepOf, collisionOf}
+use Rattle.collision.specs.Nearest.{rayAt}
+use Rattle.simplify.specs.Simplify.{staysOf, piece, survivors, simplified}
 use Rattle.simplify.specs.Calls.{simplifyRefusal}
 use Rattle.reading.specs.Reading.{ord, less, best, bestOf, leastReading}
 use Rattle.reading.specs.Lent.{kept}
@@ -49,19 +48,19 @@ starting-holds = (refl, record {})
 
 -- the contacts' numbers in the scan
 numbers : contactsOf S there tolerance ≡ 8 ∷ 12 ∷ 15 ∷ 18 ∷ 19 ∷ 34 ∷ []
-unfolding picks touching touchesBy edgesOf edgeEnd edgesTouch pairs.pairOf pointAt onSegmentOf toSegmentOf alongOf projectOf clampedFoot clampOf parallelOf absOf crossOf minusOf dotOf lengthOf distanceOf sqrtOf add sub mul div lt neg ofBits round movedOf points plusOf
+unfolding picks touching touchesBy edgesOf edgeEnd edgesTouch pairs.pairOf pointAt nearSegmentOf toSegmentOf alongOf projectOf clampedFoot clampOf parallelOf absOf crossOf minusOf dotOf lengthOf distanceOf sqrtOf add sub mul div lt neg ofBits round movedOf points plusOf
 numbers = refl
 
 contacts-hold : AllHold contacts
-unfolding contacts findRefusal ofTwoPolygons every coordinate lt le eq neg ofBits round movedOf points plusOf add whichOf pairs.pairOf pointsOf contactPoint pointBy edgesOf edgeEnd pointAt div
+unfolding contacts findRefusal ofTouching ofTwoPolygons ofRooms every coordinate lt le eq neg ofBits round movedOf points plusOf add whichOf pairs.pairOf pointsOf contactPoint pointBy edgesOf edgeEnd pointAt div
 contacts-hold = (rw numbers refl, (rw numbers refl, (rw numbers refl, record {})))
 
 moves-hold : AllHold moves
-unfolding moves collisionRefusal every coordinate finite collisionOf sweepOf bothOf backOf scanOf pairOf nest over better nearer countedOf edgeRay rayOf rayWithin pairAt rayAt largerOf orNumber ahead minusZero absOf pointAt minusOf crossOf lengthOf dotOf sqrtOf add sub mul div lt le eq neg ofBits round movedOf points plusOf
+unfolding moves ofMoving ofTwoPolygons every coordinate finite collisionOf sweepOf bothOf backOf scanOf hitOf nest over better nearer countedOf edgeRay rayOf rayWithin pairs.pairOf rayAt largerOf orNumber ahead minusZero absOf pointAt minusOf crossOf lengthOf dotOf sqrtOf add sub mul div lt le eq neg ofBits round movedOf points plusOf
 moves-hold = (refl, (refl, (refl, (refl, (refl, (refl, record {}))))))
 
 path-holds : AllHold path
-unfolding path simplifyRefusal every finite simplified survivors piece staysOf prevOf pointAt turnOf toSegmentOf alongOf projectOf clampedFoot clampOf distanceOf lengthOf minusOf dotOf crossOf sqrtOf add sub mul div lt le eq ofBits round
+unfolding path simplifyRefusal ofList every finite simplified survivors piece staysOf previousVertex pointAt turnOf toSegmentOf alongOf projectOf clampedFoot clampOf distanceOf lengthOf minusOf dotOf crossOf sqrtOf add sub mul div lt le eq ofBits round
 path-holds = (refl, (refl, (refl, record {})))
 
 ring-holds : AllHold ring

@@ -5,7 +5,7 @@ use mathlib.Core.List.{List, [], _∷_, map}
 use lib.Ieee.{Float, binary64, round, neg}
 use Rattle.plane.specs.Vector.{point}
 use Rattle.plane.specs.declared.Point.{Point}
-use Rattle.moved.specs.Moved.{movedOf}
+use Rattle.ring.specs.Moved.{movedOf}
 
 -- the f64 nearest to a / b
 abbrev pub ratio : ℕ → ℕ → Float

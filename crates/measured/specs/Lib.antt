@@ -1,4 +1,4 @@
--- The pieces that document 01 gives values for, in one list.
+-- The pieces that docs/SCOPE.md gives values for, in one list.
 pub mod Piece
 pub mod Lent
 pub mod Pieces

@@ -1,4 +1,4 @@
--- A measured piece: what a written rule answers, and the value that document 01 gives. Definitions only.
+-- A measured piece: what a written rule answers, and the value that docs/SCOPE.md gives. Definitions only.
 use mathlib.Core.Path.{_≡_}
 use mathlib.Core.List.{List, [], _∷_}
 

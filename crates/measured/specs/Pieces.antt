@@ -1,4 +1,4 @@
--- Document 01's starred pieces, in its order and under its words: what the written rules answer, and the values that it gives. Definitions only.
+-- docs/SCOPE.md's starred pieces, in its order and under its words: what the written rules answer, and the values that it gives. Definitions only.
 use Prim.Native.Nat.{_^_}
 use mathlib.Core.Bool.{false}
 use mathlib.Core.List.{List, [], _∷_, _++_}
@@ -9,9 +9,10 @@ use Rattle.plane.specs.Vector.{root}
 use Rattle.refusals.specs.Answers.{answers}
 use Rattle.projection.specs.Calls.{projectCall, distanceCall}
 use Rattle.start_position.specs.Calls.{startCall}
-use Rattle.find_contacts.specs.Calls.{findCall, findWhich, findPoints}
+use Rattle.contacts_call.specs.Calls.{findCall, findWhich, findPoints}
 use Rattle.collision.specs.Calls.{collisionCall}
-use Rattle.collision.specs.Nearest.{pairIs, pairAt, rayAt}
+use Rattle.pairs.specs.Pairs.{pair}
+use Rattle.collision.specs.Nearest.{pairNo, rayAt}
 use Rattle.collision.specs.declared.Ray.the-variants.{At}
 use Rattle.simplify.specs.Simplify.{survivors}
 use Rattle.simplify.specs.Calls.{simplifyCall, simplifyRoom}
@@ -58,9 +59,9 @@ unfoldable pub moves : List Piece
 moves =
     collisionCall S beside (at 10 0) tolerance
     gives answers (some (record { distance = real 3; kind = 0; stationary = 3; orbiting = 1 }))
-    ∷ rayAt S beside (at 10 0) tolerance (pairIs 0 3 2) gives At (real 3)
-    ∷ pairAt S beside 7 gives pairIs 0 3 1
-    ∷ pairAt S beside 11 gives pairIs 0 3 2
+    ∷ rayAt S beside (at 10 0) tolerance (pair 0 3 2) gives At (real 3)
+    ∷ pairNo S beside 7 gives pair 0 3 1
+    ∷ pairNo S beside 11 gives pair 0 3 2
     ∷ collisionCall S beside (at 3 0) tolerance gives answers none
     ∷ collisionCall S beside (at 0 0) tolerance gives answers none
     ∷ []

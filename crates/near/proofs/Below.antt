@@ -1,29 +1,29 @@
 -- A number whose root is below a tolerance is not above the tolerance's square: in units of the smallest value the root's upper halfway point is not above the
 -- tolerance, so the number is not above the exact square, and rounding keeps that order. Assumes nothing.
-use Prim.Native.Nat.{ℕ, zero, suc, zero-le, _+_, _-_, _*_, _/_, _%_, _^_, _≤_, _<_}
+use Prim.Native.Nat.{ℕ, suc, zero-le, _+_, _-_, _*_, _/_, _%_, _^_, _≤_, _<_}
 use native.Mathlib.Omega.{arith}
 use native.Mathlib.Numerals.{add-one}
-use native.Mathlib.Nat.{mul-le-mul, mul-le-mul-right, le-refl, mul-assoc, mul-one, mul-pos, zero-mul, lt-of-lt-of-le}
-use mathlib.Core.Path.{_≡_, refl, sym, ap, _∙_, subst}
+use native.Mathlib.Nat.{mul-le-mul, mul-le-mul-right, le-refl, mul-assoc, mul-one, mul-pos, zero-mul}
+use mathlib.Core.Path.{_≡_, refl, sym, _∙_, subst}
 use mathlib.Core.Logic.{inl, inr}
 use mathlib.Core.Bool.{Bool, true, false, true≢false}
 use lib.IntN.{ℤ, pos}
-use lib.Dec.{T, ltb}
+use lib.Dec.{T}
 use lib.Pow.{pow-pos}
 use lib.Ieee.{Float, nan, inf, fin, Format, prec, emax, low, up, down, binary64, fits, round, ofBits, toBits, lt, le, add, mul}
-use lib.Ieee.Fits.{add-fits, mul-fits}
+use lib.Ieee.Fits.{add-fits}
 use lib.Ieee.Exact.{HasValue, round-exact}
 use lib.Ieee.Order.{le-of-values, round-mono}
-use lib.Ieee.Positive.{positive, above, above-of-le, positive-of-value, le-trans-positive, le→cross, own-value, num, den, den-pos, mul-at}
+use lib.Ieee.Positive.{positive, above-of-le, positive-of-value, le-trans-positive, le→cross, mul-at}
 use borrow.Author.Tests.{ltb-true, le-ltb}
+use Rattle.laws.proofs.Order.{le-of-lt, lt-infinity, lt-of-infinity}
+use Rattle.laws.proofs.Plain.{squares-not-below}
 use Rattle.square_root.specs.Root.{sqrtOf}
-use Rattle.square_root.specs.Nearest.{val, Nearest}
+use Rattle.square_root.specs.Nearest.{val}
 use Rattle.square_root.proofs.Values.{val-low, val-high, val-at, val-mono, val-lt, val-pos}
-use Rattle.square_root.proofs.Compare.{lt-units, le-of-lt, lt-infinity, lt-of-infinity, number-or-infinite, above-zero, sqrt-infinity, kind, Kind, a-zero, a-number, infinite, nan-or-not-less, zero-lt}
+use Rattle.square_root.proofs.Compare.{lt-units, number-or-infinite, above-zero, sqrt-infinity, kind, Kind, a-zero, a-number, infinite, nan-or-not-less}
 use Rattle.square_root.proofs.Above.{bits-pos, bits-lt, value-is}
 use Rattle.square_root.proofs.Order.{root-is, nearest-value}
-use Rattle.square_root.proofs.Laws.{root-nearest}
-use Rattle.square_root.proofs.Squares.{squares-not-below}
 use Rattle.square_root.proofs.Numbers.{lt-or-le}
 
 abbrev pub unit : ℕ

@@ -8,7 +8,7 @@ use square_root::sqrt;
 ghost use mathlib.Core.Path.{_≡_};
 ghost use lib.Ieee.{lt};
 ghost use Rattle.plane.specs.Vector.{lengthOf, distanceOf};
-ghost use Rattle.plane.specs.Segment.{onSegmentOf};
+ghost use Rattle.plane.specs.Segment.{nearSegmentOf};
 
 // Whether a vector is shorter than tol.
 pub fn is_shorter(v: Point, tol: f64) -> bool
@@ -32,7 +32,7 @@ pub fn is_near(a: Point, b: Point, tol: f64) -> bool
 
 // Whether a point is nearer to a segment than tol.
 pub fn point_on_segment(p: Point, a: Point, b: Point, tol: f64) -> bool
-    ensures { λ r. ⌜ r ≡ onSegmentOf p a b tol ⌝ }
+    ensures { λ r. ⌜ r ≡ nearSegmentOf p a b tol ⌝ }
 {
     is_near(p, along(a, b, project_point_to_segment(p, a, b)), tol)
 }

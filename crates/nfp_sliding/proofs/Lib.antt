@@ -2,3 +2,5 @@
 pub mod Same
 pub mod Traced
 pub mod Told
+pub mod Ends
+pub mod Worked

@@ -1,26 +1,26 @@
 -- The run over the room and the trace over the path say the same: what the room holds at the end is the path, and then what it held. The
 -- invariant: the room is the path so far and the rest of what it held. Assumes nothing.
-use Prim.Native.Nat.{ℕ, zero, suc, _+_, _*_, _-_, _/_, _≤_, _<_}
+use Prim.Native.Nat.{ℕ, zero, suc, _+_, _*_, _-_, _/_, _≤_}
 use native.Mathlib.Omega.{arith}
 use native.Mathlib.Numerals.{add-one}
-use mathlib.Core.Path.{_≡_, refl, sym, ap, _∙_}
+use mathlib.Core.Path.{_≡_, refl, sym, _∙_}
 use mathlib.Core.Bool.{Bool, true, false}
-use mathlib.Core.List.{List, [], _∷_, _++_}
-use lib.ListN.{length, take, drop, length-append, length-drop}
+use mathlib.Core.List.{List, _++_}
+use lib.ListN.{length, drop, length-append, length-drop}
 use lib.Seq.{take-at, sets-eq, take-append-seam, drop-append-add, drop-drop}
 use lib.Dec.{ltb}
 use lib.Ieee.{Float}
 use borrow.Author.Tests.{ltb-false}
 use Rattle.plane.specs.declared.Point.{Point}
 use Rattle.ring.specs.Ring.{count}
-use Rattle.ring.specs.Room.{laid}
-use Rattle.moved.specs.Moved.{putAt}
+use Rattle.ring.specs.Room.{laid, putAt}
+use Rattle.pass.specs.Stop.{passesUsed}
 use Rattle.pass.specs.Pass.{Scene, passOf}
 use Rattle.pass.specs.declared.Pose.{Pose}
 use Rattle.pass.specs.declared.Step.{Step}
 use Rattle.pass.specs.declared.Step.the-variants.{Stop, Stay, Store}
-use Rattle.passes.specs.declared.run.State.{State}
-use Rattle.passes.specs.Run.{Done, turnOf, turnBy, runOf, done, onward, state}
+use Rattle.pass_run.specs.declared.run.State.{State}
+use Rattle.pass_run.specs.Run.{Done, afterOf, afterBy, runOf, done, onward, state}
 use Rattle.nfp_sliding.specs.Path.{Trace, traceOf, follow, ended, coordinates, endOf}
 
 -- what a run over the room and a trace have to do with each other
@@ -49,8 +49,8 @@ ends held full reason passes stored pose path l e =
     record { end = rw n refl; left = refl; fits = l; whole = omega (arith, e) }
 
 pub same-run : (s : Scene) (held : List Float) (k : ℕ) → Claim s held k
-unfolding runOf traceOf turnOf turnBy
-same-run s held zero passes stored pose path l e = ends held false 5 passes stored pose path l e
+unfolding runOf traceOf afterOf afterBy
+same-run s held zero passes stored pose path l e = ends held false passesUsed passes stored pose path l e
 same-run s held (suc k) passes stored pose path l e = go (same-run s held k) (passOf s path pose) refl
   where
     room : List Float
@@ -62,8 +62,8 @@ same-run s held (suc k) passes stored pose path l e = go (same-run s held k) (pa
     st : State
     st = state pose stored
 
-    turned : (o : Step) → passOf s path pose ≡ o → turnOf s st room ≡ turnBy o st room
-    turned o h = rw (take-at path (drop (length path) held) (2 * stored) (sym e), h) refl
+    passed-so : (o : Step) → passOf s path pose ≡ o → afterOf s st room ≡ afterBy o st room
+    passed-so o h = rw (take-at path (drop (length path) held) (2 * stored) (sym e), h) refl
 
     long : (p : Point) → length (path ++ coordinates p) ≡ length path + 2
     long p = length-append path (coordinates p)
@@ -73,12 +73,12 @@ same-run s held (suc k) passes stored pose path l e = go (same-run s held k) (pa
         put-path path (drop (length path) held) stored p e (rw size h)
         ∙ (rw (drop-append-add, drop-drop, long) refl)
 
-    store : Claim s held k → (q : Pose) (b : Bool) → ltb (length held - length path) 2 ≡ b → turnOf s st room ≡ turnBy (Store q) st room
+    store : Claim s held k → (q : Pose) (b : Bool) → ltb (length held - length path) 2 ≡ b → afterOf s st room ≡ afterBy (Store q) st room
         → Same held
-        (onward (turnOf s st room .answer)
-        (λ st'. runOf s k (passes + 1) st' (turnOf s st room .room))
-        (done true 0 (passes + 1) st (turnOf s st room .room))
-        (λ reason. done false reason (passes + 1) st (turnOf s st room .room)))
+        (onward (afterOf s st room .answer)
+        (λ st'. runOf s k (passes + 1) st' (afterOf s st room .room))
+        (done true 0 (passes + 1) st (afterOf s st room .room))
+        (λ reason. done false reason (passes + 1) st (afterOf s st room .room)))
         (follow (Store q) (length held) passes path (traceOf s (length held) k (passes + 1)))
     store ih q true b t = rw (t, size, e, b) (ends held true 0 (passes + 1) stored pose path l e)
     store ih q false b t =
@@ -88,6 +88,6 @@ same-run s held (suc k) passes stored pose path l e = go (same-run s held k) (pa
 
     go : Claim s held k → (o : Step) → passOf s path pose ≡ o
         → Same held (runOf s (suc k) passes st room) (traceOf s (length held) (suc k) passes pose path)
-    go ih (Stop reason) h = rw (turned (Stop reason) h, h) (ends held false reason (passes + 1) stored pose path l e)
-    go ih (Stay q) h = rw (turned (Stay q) h, h) (ih (passes + 1) stored q path l e)
-    go ih (Store q) h = rw h (store ih q (ltb (length held - length path) 2) refl (turned (Store q) h))
+    go ih (Stop reason) h = rw (passed-so (Stop reason) h, h) (ends held false reason (passes + 1) stored pose path l e)
+    go ih (Stay q) h = rw (passed-so (Stay q) h, h) (ih (passes + 1) stored q path l e)
+    go ih (Store q) h = rw h (store ih q (ltb (length held - length path) 2) refl (passed-so (Store q) h))

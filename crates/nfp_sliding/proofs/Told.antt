@@ -14,7 +14,7 @@ use Rattle.ring.specs.Room.{laid}
 use Rattle.simplify.specs.Simplify.{simplified}
 use Rattle.simplify.proofs.Whole.{not-longer}
 use Rattle.nfp_sliding.specs.Path.{Trace, ended}
-use Rattle.nfp_sliding.specs.Calls.{traced, told, resultAfter}
+use Rattle.nfp_sliding.specs.Calls.{traced, cameTo, resultAfter}
 use Rattle.nfp_sliding.specs.declared.answer.Traced.{Traced}
 use Rattle.nfp_sliding.specs.declared.answer.Traced.the-variants.{Is, Refused, Full, Short}
 
@@ -40,17 +40,17 @@ module _ (full : Bool) (reason passes stored : ℕ) (tol : Float) (work held : L
   counted : count path ≡ stored
   counted = omega (arith, size stored work l)
 
-  pub told-full : full ≡ true → (traced (Full passes) ≡ told t tol) × (held ≡ resultAfter t tol held)
-  unfolding told resultAfter
+  pub told-full : full ≡ true → (traced (Full passes) ≡ cameTo t tol) × (held ≡ resultAfter t tol held)
+  unfolding cameTo resultAfter
   told-full e = (rw e refl, rw e refl)
 
-  pub told-short : full ≡ false → stored < 3 → (traced (Short passes reason) ≡ told t tol) × (held ≡ resultAfter t tol held)
-  unfolding told resultAfter
+  pub told-short : full ≡ false → stored < 3 → (traced (Short passes reason) ≡ cameTo t tol) × (held ≡ resultAfter t tol held)
+  unfolding cameTo resultAfter
   told-short e h = (rw (e, counted, lt-ltb _ _ h) refl, rw (e, counted, lt-ltb _ _ h) refl)
 
   pub told-all : full ≡ false → 3 ≤ stored → {points : ℕ} {out : List Float} → points ≡ count (simplified path tol) → out ≡ laid (simplified path tol) held
-      → (traced (Is points stored passes reason) ≡ told t tol) × (out ≡ resultAfter t tol held)
-  unfolding told resultAfter
+      → (traced (Is points stored passes reason) ≡ cameTo t tol) × (out ≡ resultAfter t tol held)
+  unfolding cameTo resultAfter
   told-all e h p o = (rw (e, counted, le-ltb _ _ h, p) refl, rw (e, counted, le-ltb _ _ h, o) refl)
 
 pub traced-only : (a b : Traced) → traced a ≡ traced b → a ≡ b

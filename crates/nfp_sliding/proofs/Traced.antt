@@ -9,26 +9,27 @@ use lib.Seq.{take-at}
 use lib.Dec.{leb}
 use lib.Ieee.{Float}
 use borrow.Author.Tests.{leb-true}
+use Rattle.laws.proofs.Both.{both}
 use Rattle.plane.specs.declared.Point.{Point}
 use Rattle.refusals.specs.Refusals.{passed, first}
-use Rattle.refusals.specs.Screens.{wrongPolygon, wrongNumber, wrongSettings, wrongWork, wrongResult}
-use Rattle.refusals.specs.Bounds.{coordinates as bounded, toleranceOk, smallestOk, settingsOk, workOk}
+use Rattle.refusals.specs.Screens.{wrongSettings, wrongWork, wrongResult}
+use Rattle.refusals.specs.Rows.{ofTwoPolygons, ofTrace}
+use Rattle.refusals.specs.Bounds.{toleranceOk, smallestOk, settingsOk, workOk}
 use Rattle.refusals.specs.declared.Refusal.{Refusal}
 use Rattle.refusals.specs.declared.Settings.{Settings}
-use Rattle.refusals.proofs.Sized.{held as holds, held-last, two-polygons}
+use Rattle.refusals.proofs.Sized.{row-parts, holds, two-polygons}
 use Rattle.ring.specs.Ring.{count}
-use Rattle.ring.specs.Room.{laid}
+use Rattle.ring.specs.Room.{laid, putAt}
 use Rattle.pairs.specs.Pairs.{Sides}
-use Rattle.moved.specs.Moved.{putAt}
 use Rattle.winding.specs.Winding.{ccwOf}
 use Rattle.winding.proofs.Order.{ccw-length, ccw-front}
 use Rattle.start_position.specs.Start.{startOf}
 use Rattle.centroid.specs.Centroid.{centroidOf}
 use Rattle.pass.specs.Pass.{Scene, scene}
-use Rattle.passes.specs.declared.run.End.{End}
-use Rattle.passes.specs.Run.{Done, runOf, state}
-use Rattle.nfp_sliding.specs.Path.{Trace, ended, endOf, coordinates, atStart, Ready, traceFrom, tracedOf}
-use Rattle.nfp_sliding.specs.Calls.{traced, told, resultAfter, traceRefusal, traceCall, traceWork, traceResult}
+use Rattle.pass_run.specs.declared.run.End.{End}
+use Rattle.pass_run.specs.Run.{Done, runOf, state}
+use Rattle.nfp_sliding.specs.Path.{Trace, ended, endOf, coordinates, atStart, marginsOf, Ready, traceFrom, tracedOf}
+use Rattle.nfp_sliding.specs.Calls.{traced, cameTo, resultAfter, traceCall, traceWork, traceResult}
 use Rattle.nfp_sliding.specs.declared.answer.Traced.{Traced}
 use Rattle.nfp_sliding.specs.declared.answer.Traced.the-variants.{Refused}
 use Rattle.nfp_sliding.proofs.Same.{Same, put-path, same-run}
@@ -47,11 +48,11 @@ put-start held p l = put-path [] held 0 p refl l
 
 module _ (st orb : List Float) (s : Settings) (held : List Float) (l : 2 ≤ length held) where
   abbrev from : Point → Point → List Float → Done
-  from middle start room = runOf (scene st orb s middle start) (s .«max_iterations») 0 (state (atStart start) 1) room
+  from middle start room = runOf (scene st orb (marginsOf s) middle start) (s .«max_iterations») 0 (state (atStart start) 1) room
 
   from-start : Same held (from (centroidOf st) (startOf st orb) (laid (coordinates (startOf st orb)) held)) (traceFrom st orb s (length held))
   unfolding traceFrom
-  from-start = same-run (scene st orb s (centroidOf st) (startOf st orb)) held (s .«max_iterations») 0 1 (atStart (startOf st orb)) (coordinates (startOf st orb)) l refl
+  from-start = same-run (scene st orb (marginsOf s) (centroidOf st) (startOf st orb)) held (s .«max_iterations») 0 1 (atStart (startOf st orb)) (coordinates (startOf st orb)) l refl
 
   -- what the run from the start leaves
   pub followed : {start middle : Point} {room out : List Float} {r : End} → start ≡ startOf st orb → middle ≡ centroidOf st → room ≡ putAt held 0 start
@@ -103,10 +104,6 @@ module _ (st orb : List Float) (s : Settings) (held : List Float) (l : 2 ≤ len
     same-trace =
         rw (q, w) (ap (λ (p : List Float). ended (it .full) (it .reason) (it .passes) p) (take-at (it .path) _ (2 * count (it .path)) (from-whole (ccwOf st) (ccwOf orb) s held l)))
 
-both : (a b : Bool) → a && b ≡ true → (a ≡ true) × (b ≡ true)
-both true b h = (refl, h)
-both false b h = (h, cc)
-
 within : (s : Settings) → settingsOk s ≡ true → s .«max_iterations» ≤ 10000
 unfolding settingsOk
 within s h =
@@ -116,16 +113,16 @@ within s h =
     (both (smallestOk (s .«min_translation»)) _ (both (toleranceOk (s .«contact_tolerance»)) (smallestOk (s .«min_translation») && leb (s .«max_iterations») 10000) h .1) .1)
 
 -- what the tests leave of what is lent
-pub lent-ready : (st orb : List Float) (s : Settings) (work result : ℕ) {n : Refusal} {p : Bool} → n ≡ traceRefusal st orb s work result → p ≡ passed n → p ≡ true
+pub lent-ready : (st orb : List Float) (s : Settings) (work result : ℕ) {n : Refusal} {p : Bool} → n ≡ ofTrace st orb s work result → p ≡ passed n → p ≡ true
     → Ready st orb s work × (work ≤ result)
-unfolding traceRefusal
+unfolding ofTrace
 lent-ready st orb s work result e h t =
-    let g : passed (traceRefusal st orb s work result) ≡ true = rw (← e, ← h) t in
-    let z = two-polygons st orb _ g in
-    let a = holds (bounded st) 2 _ refl (z .2) in
-    let b = holds (bounded orb) 2 _ refl (a .1) in
-    let d = holds (settingsOk s) 3 _ refl (b .1) in
-    let w = holds (workOk work) 4 _ refl (d .1) in (
+    let g : passed (ofTrace st orb s work result) ≡ true = rw (← e, ← h) t in
+    let rooms = first (wrongWork work) (wrongResult work result) in
+    let a = row-parts (ofTwoPolygons st orb) (first (wrongSettings s) rooms) g in
+    let b = row-parts (wrongSettings s) rooms (a .1) in
+    let d = row-parts (wrongWork work) (wrongResult work result) (b .1) in
+    let z = two-polygons st orb (a .0) in (
       record {
         st-even = z .0 .even;
         st-least = z .0 .least;
@@ -133,17 +130,17 @@ lent-ready st orb s work result e h t =
         orb-even = z .1 .even;
         orb-least = z .1 .least;
         orb-most = z .1 .most;
-        limit = within s (d .0);
-        room = leb-true _ _ (both _ _ (w .0) .0);
+        limit = within s (holds (settingsOk s) 3 0 refl (b .0));
+        room = leb-true _ _ (both _ _ (holds (workOk work) 4 0 refl (d .0)) .0);
       },
-      leb-true _ _ (held-last (leb work result) 4 refl (w .1)),
+      leb-true _ _ (holds (leb work result) 4 0 refl (d .1)),
     )
 
 -- what the call answers and leaves where no test refuses, and where one does
-module _ (st orb : List Float) (s : Settings) (work result : List Float) {n : Refusal} {p : Bool} (e : n ≡ traceRefusal st orb s (length work) (length result))
+module _ (st orb : List Float) (s : Settings) (work result : List Float) {n : Refusal} {p : Bool} (e : n ≡ ofTrace st orb s (length work) (length result))
     (h : p ≡ passed n) where
   pub goes : {x : End} (r : Traced) {w o : List Float} → p ≡ true → x ≡ endOf (tracedOf st orb s (length work)) → w ≡ laid (tracedOf st orb s (length work) .path) work
-      → traced r ≡ told (ended (x .full) (x .reason) (x .passes) (take (2 * x .stored) w)) (s .«contact_tolerance»)
+      → traced r ≡ cameTo (ended (x .full) (x .reason) (x .passes) (take (2 * x .stored) w)) (s .«contact_tolerance»)
       → o ≡ resultAfter (ended (x .full) (x .reason) (x .passes) (take (2 * x .stored) w)) (s .«contact_tolerance») result
       → (traced r ≡ traceCall st orb s (length work) (length result)) × (w ≡ traceWork st orb s work (length result)) × (o ≡ traceResult st orb s (length work) result)
   unfolding traceCall traceWork traceResult

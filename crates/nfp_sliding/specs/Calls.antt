@@ -1,12 +1,12 @@
--- What the call answers: the refusal of what is lent, or what the trace came to, with document 01's number and values. Definitions only.
+-- What the call answers: the refusal of what is lent, or what the trace came to, with docs/SCOPE.md's number and values. Definitions only.
 use Prim.Native.Nat.{ℕ}
 use mathlib.Core.Bool.{Bool, _||_, cond}
-use mathlib.Core.List.{List, [], _∷_}
+use mathlib.Core.List.{List}
 use lib.ListN.{length}
 use lib.Dec.{ltb}
 use lib.Ieee.{Float}
-use Rattle.refusals.specs.Refusals.{none, refuse, passed, firstOf}
-use Rattle.refusals.specs.Screens.{wrongPolygon, wrongNumber, wrongSettings, wrongWork, wrongResult}
+use Rattle.refusals.specs.Refusals.{refusedFit, refusedShortPath, none, refuse, passed}
+use Rattle.refusals.specs.Rows.{ofTrace}
 use Rattle.refusals.specs.Answers.{left}
 use Rattle.refusals.specs.declared.Refusal.{Refusal}
 use Rattle.refusals.specs.declared.Settings.{Settings}
@@ -21,36 +21,30 @@ use Rattle.nfp_sliding.specs.declared.answer.Traced.the-variants.{Is, Re
 -- under three points, after so many passes and for that reason
 pub data Answer : Type 0 where
   traces : (points stored passes stop : ℕ) → Answer
-  refuses : Refusal → Answer
+  denied : Refusal → Answer
   overfull : (passes : ℕ) → Answer
   tooShort : (passes stop : ℕ) → Answer
 
--- document 01's number
+-- docs/SCOPE.md's number
 unfoldable pub refusalOf : Answer → Refusal
 refusalOf (traces points stored passes stop) = none
-refusalOf (refuses r) = r
-refusalOf (overfull passes) = refuse 5
-refusalOf (tooShort passes stop) = refuse 6
+refusalOf (denied r) = r
+refusalOf (overfull passes) = refuse refusedFit 0
+refusalOf (tooShort passes stop) = refuse refusedShortPath 0
 
 abbrev pub traced : Traced → Answer
 traced (Is points stored passes stop) = traces points stored passes stop
-traced (Refused r) = refuses r
+traced (Refused r) = denied r
 traced (Full passes) = overfull passes
 traced (Short passes stop) = tooShort passes stop
-
--- 1 and 2 of the polygons, 3 of the settings, 4 of the rooms
-unfoldable pub traceRefusal : List Float → List Float → Settings → ℕ → ℕ → Refusal
-traceRefusal st orb s work result =
-    firstOf
-    (wrongPolygon st ∷ wrongPolygon orb ∷ wrongNumber st ∷ wrongNumber orb ∷ wrongSettings s ∷ wrongWork work ∷ wrongResult work result ∷ [])
 
 -- the path has under three points
 abbrev pub brief : Trace → Bool
 brief t = ltb (count (t .path)) 3
 
 -- what a trace came to
-unfoldable pub told : Trace → Float → Answer
-told t tol =
+unfoldable pub cameTo : Trace → Float → Answer
+cameTo t tol =
     cond (t .full) (overfull (t .passes))
     (cond (brief t) (tooShort (t .passes) (t .reason))
     (traces (count (simplified (t .path) tol)) (count (t .path)) (t .passes) (t .reason)))
@@ -61,14 +55,14 @@ resultAfter t tol held = cond (t .full || brief t) held (laid (simplified (t .pa
 
 unfoldable pub traceCall : List Float → List Float → Settings → ℕ → ℕ → Answer
 traceCall st orb s work result =
-    let r = traceRefusal st orb s work result in
-    cond (passed r) (told (tracedOf st orb s work) (s .«contact_tolerance»)) (refuses r)
+    let r = ofTrace st orb s work result in
+    cond (passed r) (cameTo (tracedOf st orb s work) (s .«contact_tolerance»)) (denied r)
 
 -- the work room holds the points stored, whatever the trace came to
 unfoldable pub traceWork : List Float → List Float → Settings → List Float → ℕ → List Float
 traceWork st orb s work result =
-    left (traceRefusal st orb s (length work) result) (laid (tracedOf st orb s (length work) .path) work) work
+    left (ofTrace st orb s (length work) result) (laid (tracedOf st orb s (length work) .path) work) work
 
 unfoldable pub traceResult : List Float → List Float → Settings → ℕ → List Float → List Float
 traceResult st orb s work result =
-    left (traceRefusal st orb s work (length result)) (resultAfter (tracedOf st orb s work) (s .«contact_tolerance») result) result
+    left (ofTrace st orb s work (length result)) (resultAfter (tracedOf st orb s work) (s .«contact_tolerance») result) result

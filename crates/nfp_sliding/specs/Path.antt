@@ -13,11 +13,13 @@ use Rattle.winding.specs.Winding.{ccwOf}
 use Rattle.start_position.specs.Start.{startOf}
 use Rattle.centroid.specs.Centroid.{centroidOf}
 use Rattle.selection.specs.declared.Previous.the-variants.{None}
+use Rattle.pass.specs.Stop.{passesUsed}
 use Rattle.pass.specs.Pass.{Scene, scene, passOf}
+use Rattle.pass.specs.declared.Margins.{Margins}
 use Rattle.pass.specs.declared.Pose.{Pose}
 use Rattle.pass.specs.declared.Step.{Step}
 use Rattle.pass.specs.declared.Step.the-variants.{Stop, Stay, Store}
-use Rattle.passes.specs.declared.run.End.{End}
+use Rattle.pass_run.specs.declared.run.End.{End}
 
 -- whether the room was full, the reason where it was not, the passes begun, and the points stored
 pub record Trace : Type 0 where
@@ -41,7 +43,7 @@ follow (Store pose) room passes path go =
 
 -- at most k more passes, so many having been begun: each is the pass from the pose that the one before left, over the path so far
 unfoldable pub traceOf : Scene → ℕ → ℕ → ℕ → Pose → List Float → Trace
-traceOf s room zero passes pose path = ended false 5 passes path
+traceOf s room zero passes pose path = ended false passesUsed passes path
 traceOf s room (suc k) passes pose path = follow (passOf s path pose) room passes path (traceOf s room k (passes + 1))
 
 -- a trace as a run ends it
@@ -63,11 +65,14 @@ pub record Ready (st orb : List Float) (s : Settings) (work : ℕ) : Type 0 wher
 abbrev pub atStart : Point → Pose
 atStart p = record { position = p; previous = None; stuck = 0 }
 
+abbrev pub marginsOf : Settings → Margins
+marginsOf s = record { tolerance = s .«contact_tolerance»; smallest = s .«min_translation» }
+
 -- the trace of two counter-clockwise polygons in a room for so many numbers: the path begins with the start
 unfoldable pub traceFrom : List Float → List Float → Settings → ℕ → Trace
 traceFrom st orb s room =
     let start = startOf st orb in
-    traceOf (scene st orb s (centroidOf st) start) room (s .«max_iterations») 0 (atStart start) (coordinates start)
+    traceOf (scene st orb (marginsOf s) (centroidOf st) start) room (s .«max_iterations») 0 (atStart start) (coordinates start)
 
 -- the trace of two polygons, each made counter-clockwise first
 unfoldable pub tracedOf : List Float → List Float → Settings → ℕ → Trace

@@ -1,4 +1,6 @@
 // What a trace answers: how many points the result and the path have, the passes begun and the reason it stopped; or the refusal.
+use refusals::REFUSED_FIT;
+use refusals::REFUSED_SHORT_PATH;
 use refusals::Refusal;
 ghost use mathlib.Core.Path.{_≡_};
 ghost use Rattle.nfp_sliding.specs.Calls.{traced, refusalOf};
@@ -32,7 +34,7 @@ pub fn refusal(answer: Traced) -> Refusal
             stop: _,
         } => Refusal::none(),
         Traced::Refused(no) => no,
-        Traced::Full(_) => Refusal::new(5),
-        Traced::Short { passes: _, stop: _ } => Refusal::new(6),
+        Traced::Full(_) => Refusal::new(REFUSED_FIT, 0),
+        Traced::Short { passes: _, stop: _ } => Refusal::new(REFUSED_SHORT_PATH, 0),
     }
 }

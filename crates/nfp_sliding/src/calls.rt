@@ -2,27 +2,11 @@
 use crate::answer::Traced;
 use crate::trace::finish;
 use crate::trace::trace;
-use refusals::Refusal;
 use refusals::Settings;
-use refusals::screen;
+use refusals::row;
 ghost use mathlib.Core.Path.{_≡_};
 ghost use lib.ListN.{length};
-ghost use Rattle.nfp_sliding.specs.Calls.{traced, traceRefusal, traceCall, traceWork, traceResult};
-
-// The tests of two polygons, the settings and the rooms.
-fn lent(
-    stationary: &[f64],
-    orbiting: &[f64],
-    settings: Settings,
-    work: usize,
-    result: usize,
-) -> Refusal
-    ensures { λ r. ⌜ r ≡ traceRefusal (now (stationary .entry)) (now (orbiting .entry)) settings work result ⌝ }
-{
-    let rooms = screen::first(screen::work_room(work), screen::result_room(work, result));
-    let no = screen::first(screen::settings(settings), rooms);
-    screen::first(screen::two_polygons(stationary, orbiting), no)
-}
+ghost use Rattle.nfp_sliding.specs.Calls.{traced, traceCall, traceWork, traceResult};
 
 // The path of the orbiting polygon around the stationary one: in the work room as it was traced, in the result room simplified. The path is in the work
 // room too where it does not fit it or has fewer than three points.
@@ -33,9 +17,15 @@ pub fn compute_nfp_sliding(
     work: &mut [f64],
     result: &mut [f64],
 ) -> Traced
-    ensures { λ r. ⌜ (traced r ≡ traceCall (now (stationary .entry)) (now (orbiting .entry)) settings (length (now (work .entry))) (length (now (result .entry)))) × (now (work .exit) ≡ traceWork (now (stationary .entry)) (now (orbiting .entry)) settings (now (work .entry)) (length (now (result .entry)))) × (now (result .exit) ≡ traceResult (now (stationary .entry)) (now (orbiting .entry)) settings (length (now (work .entry))) (now (result .entry))) ⌝ }
+    ensures { λ r.
+        ⌜ (traced r ≡ traceCall (now (stationary .entry)) (now (orbiting .entry)) settings (length (now (work .entry)))
+        (length (now (result .entry))))
+        × (now (work .exit) ≡ traceWork (now (stationary .entry)) (now (orbiting .entry)) settings (now (work .entry))
+        (length (now (result .entry))))
+        × (now (result .exit) ≡ traceResult (now (stationary .entry)) (now (orbiting .entry)) settings (length (now (work .entry)))
+        (now (result .entry))) ⌝ }
 {
-    let no = lent(stationary, orbiting, settings, work.len(), result.len());
+    let no = row::tracing(stationary, orbiting, settings, work.len(), result.len());
     if no.passed() {
         let end = trace(stationary, orbiting, settings, work);
         finish(end, settings.contact_tolerance, work, result)

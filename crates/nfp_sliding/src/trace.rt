@@ -1,12 +1,13 @@
 // The trace of two polygons, its path in a room that the caller lends, and the path simplified.
 use crate::answer::Traced;
 use centroid::centroid;
-use moved::put;
+use pass::Margins;
 use pass::Pose;
-use passes::run::End;
-use passes::run::State;
-use passes::run::run;
+use pass_run::run::End;
+use pass_run::run::State;
+use pass_run::run::run;
 use refusals::Settings;
+use ring::room::put;
 use selection::Previous;
 use simplify::simplify;
 use start_position::find_start_position;
@@ -16,12 +17,16 @@ ghost use Prim.Native.Nat.{_*_, _≤_};
 ghost use lib.ListN.{length, take};
 ghost use Rattle.ring.specs.Room.{laid};
 ghost use Rattle.nfp_sliding.specs.Path.{ended, endOf, Ready, traceFrom, tracedOf};
-ghost use Rattle.nfp_sliding.specs.Calls.{traced, told, resultAfter};
+ghost use Rattle.nfp_sliding.specs.Calls.{traced, cameTo, resultAfter};
 
 // The trace of two counter-clockwise polygons.
 fn follow(stationary: &[f64], orbiting: &[f64], settings: Settings, work: &mut [f64]) -> End
     requires { ⌜ Ready (now stationary) (now orbiting) settings (length (now work)) ⌝ }
-    ensures { λ r. ⌜ (r ≡ endOf (traceFrom (now (stationary .entry)) (now (orbiting .entry)) settings (length (now (work .entry))))) × (now (work .exit) ≡ laid (traceFrom (now (stationary .entry)) (now (orbiting .entry)) settings (length (now (work .entry))) .path) (now (work .entry))) ⌝ }
+    ensures { λ r.
+        ⌜ r ≡ endOf (traceFrom (now (stationary .entry)) (now (orbiting .entry)) settings (length (now (work .entry)))) ⌝ }
+    ensures { λ _.
+        ⌜ now (work .exit) ≡ laid
+        (traceFrom (now (stationary .entry)) (now (orbiting .entry)) settings (length (now (work .entry))) .path) (now (work .entry)) ⌝ }
 {
     let start = find_start_position(stationary, orbiting);
     let middle = centroid(stationary);
@@ -34,13 +39,31 @@ fn follow(stationary: &[f64], orbiting: &[f64], settings: Settings, work: &mut [
         },
         stored: 1,
     };
-    run(stationary, orbiting, settings, middle, start, first, work)
+    let margins = Margins {
+        tolerance: settings.contact_tolerance,
+        smallest: settings.min_translation,
+    };
+    let limit = settings.max_iterations;
+    run(
+        stationary,
+        orbiting,
+        margins,
+        middle,
+        start,
+        limit,
+        first,
+        work,
+    )
 }
 
 // The trace of two polygons, each made counter-clockwise.
 pub fn trace(stationary: &[f64], orbiting: &[f64], settings: Settings, work: &mut [f64]) -> End
     requires { ⌜ Ready (now stationary) (now orbiting) settings (length (now work)) ⌝ }
-    ensures { λ r. ⌜ (r ≡ endOf (tracedOf (now (stationary .entry)) (now (orbiting .entry)) settings (length (now (work .entry))))) × (now (work .exit) ≡ laid (tracedOf (now (stationary .entry)) (now (orbiting .entry)) settings (length (now (work .entry))) .path) (now (work .entry))) ⌝ }
+    ensures { λ r.
+        ⌜ r ≡ endOf (tracedOf (now (stationary .entry)) (now (orbiting .entry)) settings (length (now (work .entry)))) ⌝ }
+    ensures { λ _.
+        ⌜ now (work .exit) ≡ laid
+        (tracedOf (now (stationary .entry)) (now (orbiting .entry)) settings (length (now (work .entry))) .path) (now (work .entry)) ⌝ }
 {
     let mut s = [0.0; 512];
     let mut o = [0.0; 512];
@@ -55,7 +78,11 @@ pub fn trace(stationary: &[f64], orbiting: &[f64], settings: Settings, work: &mu
 pub fn finish(end: End, tol: f64, work: &[f64], result: &mut [f64]) -> Traced
     requires { ⌜ 2 * end .stored ≤ length (now work) ⌝ }
     requires { ⌜ length (now work) ≤ length (now result) ⌝ }
-    ensures { λ r. ⌜ (traced r ≡ told (ended (end .full) (end .reason) (end .passes) (take (2 * end .stored) (now (work .entry)))) tol) × (now (result .exit) ≡ resultAfter (ended (end .full) (end .reason) (end .passes) (take (2 * end .stored) (now (work .entry)))) tol (now (result .entry))) ⌝ }
+    ensures { λ r.
+        ⌜ traced r ≡ cameTo (ended (end .full) (end .reason) (end .passes) (take (2 * end .stored) (now (work .entry)))) tol ⌝ }
+    ensures { λ _.
+        ⌜ now (result .exit) ≡ resultAfter (ended (end .full) (end .reason) (end .passes) (take (2 * end .stored) (now (work .entry))))
+        tol (now (result .entry)) ⌝ }
 {
     let stored = end.stored;
     if end.full {

@@ -10,14 +10,14 @@ use Rattle.square_root.specs.Root.{sqrtOf}
 use Rattle.plane.specs.Vector.{minusOf, dotOf, lengthOf, normalizeOf}
 use Rattle.ring.specs.Ring.{pointAt}
 use Rattle.ring.specs.Each.{each}
+use Rattle.refusals.specs.Rows.{ofTwoPolygons, ofTouching}
 use Rattle.refusals.specs.Refusals.{refuse}
 use Rattle.refusals.specs.Bounds.{coordinate, every}
-use Rattle.refusals.specs.Screens.{ofTwoPolygons}
 use Rattle.refusals.specs.Answers.{answers, refuses}
-use Rattle.moved.proofs.Worked.{f2, f3, f4, S}
+use Rattle.ring.proofs.Worked.{f2, f3, f4, S}
 use Rattle.overlap.specs.Extent.{widerOf, extentTo, apartOf, boxOf, shadowOf}
 use Rattle.overlap.specs.Overlap.{edgeOf, axisOf, noAxis, meetsOn, meetsAlong, boxesApart, overlapOf, f1e-6}
-use Rattle.overlap.specs.Calls.{overlapRefusal, overlapCall, overlapWithCall}
+use Rattle.overlap.specs.Calls.{overlapCall, overlapWithCall}
 
 abbrev minus2 : Float
 minus2 = float 0xc000_0000_0000_0000
@@ -45,7 +45,7 @@ boxes-apart = refl
 
 -- a tolerance of one reaches over the gap
 within-one : overlapWithCall S beside f1 ≡ answers true
-unfolding overlapRefusal every coordinate overlapOf boxesApart meetsAlong each meetsOn noAxis axisOf edgeOf boxOf shadowOf apartOf extentTo widerOf pointAt minusOf dotOf lengthOf normalizeOf smallerOf largerOf orNumber ahead minusZero absOf sqrtOf add sub mul div lt le eq neg ofBits
+unfolding ofTouching ofTwoPolygons every coordinate overlapOf boxesApart meetsAlong each meetsOn noAxis axisOf edgeOf boxOf shadowOf apartOf extentTo widerOf pointAt minusOf dotOf lengthOf normalizeOf smallerOf largerOf orNumber ahead minusZero absOf sqrtOf add sub mul div lt le eq neg ofBits
 within-one = refl
 
 long-side : overlapCall triangle beyond ≡ answers false
@@ -56,10 +56,10 @@ boxes-meet : boxesApart triangle beyond f1e-6 ≡ false
 unfolding boxesApart boxOf apartOf extentTo widerOf pointAt smallerOf largerOf orNumber ahead minusZero add lt eq neg ofBits
 boxes-meet = refl
 
-two-vertices : overlapCall S (f0 ∷ f0 ∷ f1 ∷ f1 ∷ []) ≡ refuses (refuse 1)
+two-vertices : overlapCall S (f0 ∷ f0 ∷ f1 ∷ f1 ∷ []) ≡ refuses (refuse 1 0)
 unfolding ofTwoPolygons
 two-vertices = refl
 
-no-tolerance : overlapWithCall S below f0 ≡ refuses (refuse 3)
-unfolding overlapRefusal every coordinate lt ofBits
+no-tolerance : overlapWithCall S below f0 ≡ refuses (refuse 3 0)
+unfolding ofTouching ofTwoPolygons every coordinate lt ofBits
 no-tolerance = refl

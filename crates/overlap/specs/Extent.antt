@@ -34,10 +34,10 @@ yAt r i = pointAt r i .y
 abbrev pub dotAt : List Float → Point → ℕ → Float
 dotAt r axis i = dotOf (pointAt r i) axis
 
--- the bounding box
+-- `compute_bbox`: the bounding box
 unfoldable pub boxOf : List Float → Bounds
 boxOf r = record { x = extentTo (xAt r) (count r); y = extentTo (yAt r) (count r) }
 
--- the extent along an axis
+-- `project_polygon_on_axis`: the extent along an axis
 unfoldable pub shadowOf : List Float → Point → Extent
 shadowOf r axis = extentTo (dotAt r axis) (count r)

@@ -11,7 +11,7 @@ use Rattle.ring.specs.Each.{each}
 use Rattle.ring.specs.Ring.{count, pointAt, nextOf}
 use Rattle.overlap.specs.Extent.{apartOf, boxOf, shadowOf}
 
--- the edge from vertex i
+-- `edge_vector`: the edge from vertex i
 unfoldable pub edgeOf : List Float → ℕ → Point
 edgeOf r i = minusOf (pointAt r (nextOf i (count r))) (pointAt r i)
 
@@ -42,7 +42,7 @@ boxesApart a b tol =
     let q = boxOf b in
     apartOf (p .x) (q .x) tol || apartOf (p .y) (q .y) tol
 
--- the boxes are not apart, and no edge of a and then none of b gives an axis with a gap
+-- `polygons_overlap_with_tolerance`: the boxes are not apart, and no edge of a and then none of b gives an axis with a gap
 unfoldable pub overlapOf : List Float → List Float → Float → Bool
 overlapOf a b tol = not (boxesApart a b tol) && (meetsAlong a b a tol && meetsAlong a b b tol)
 

@@ -1,6 +1,6 @@
 // The public calls: polygons_overlap, polygons_overlap_with_tolerance.
 use refusals::answer::Truth;
-use refusals::screen;
+use refusals::row;
 ghost use mathlib.Core.Path.{_≡_};
 ghost use Rattle.refusals.specs.Answers.{truth};
 ghost use Rattle.overlap.specs.Calls.{overlapCall, overlapWithCall};
@@ -9,7 +9,7 @@ ghost use Rattle.overlap.specs.Calls.{overlapCall, overlapWithCall};
 pub fn polygons_overlap(a: &[f64], b: &[f64]) -> Truth
     ensures { λ r. ⌜ truth r ≡ overlapCall (now (a .entry)) (now (b .entry)) ⌝ }
 {
-    let no = screen::two_polygons(a, b);
+    let no = row::two_polygons(a, b);
     if no.passed() {
         Truth::Is(crate::polygons_overlap(a, b, 1e-6))
     } else {
@@ -21,7 +21,7 @@ pub fn polygons_overlap(a: &[f64], b: &[f64]) -> Truth
 pub fn polygons_overlap_with_tolerance(a: &[f64], b: &[f64], tolerance: f64) -> Truth
     ensures { λ r. ⌜ truth r ≡ overlapWithCall (now (a .entry)) (now (b .entry)) tolerance ⌝ }
 {
-    let no = screen::first(screen::two_polygons(a, b), screen::tolerance(tolerance));
+    let no = row::touching(a, b, tolerance);
     if no.passed() {
         Truth::Is(crate::polygons_overlap(a, b, tolerance))
     } else {

@@ -19,6 +19,17 @@ mod-of q n b h = mul-add-mod-self-right q n b ∙ mod-eq-of-lt h
 pub below : (a b q r : ℕ) → q < a → r < b → q * b + r < a * b
 below a b q r h k = let m : (q + 1) * b ≤ a * b = mul-le-mul-right b (omega arith) in omega arith
 
+-- the pairs of kind 0, and then those of kind 1
+pub first-pairs : (sn on k : ℕ) → k < sn * on → pairOf sn on k ≡ pair 0 (k % sn) (k / sn)
+unfolding pairOf
+first-pairs sn on k h = rw (div-eq-of-lt h, mod-eq-of-lt h)
+
+pub second-pairs : (sn on k : ℕ) → k < sn * on → pairOf sn on (sn * on + k) ≡ pair 1 (k / on) (k % on)
+unfolding pairOf
+second-pairs sn on k h =
+    let e : sn * on + k ≡ 1 * (sn * on) + k = omega arith in
+    rw (e, div-of 1 (sn * on) k h, mod-of 1 (sn * on) k h)
+
 -- the pair with a number, of rings with vertices
 module _ (sn on : ℕ) (d : Sides sn on) where
   pub some : 0 < sn * on

@@ -1,4 +1,4 @@
--- The pairs of two rings' elements, by their numbers in document 01's scan order. Definitions only.
+-- The pairs of two rings' elements, by their numbers in docs/SCOPE.md's scan order. Definitions only.
 use Prim.Native.Nat.{ℕ, _*_, _/_, _%_, _≤_, _<_}
 use mathlib.Core.Bool.{cond}
 use lib.Dec.{eqb}
@@ -24,8 +24,12 @@ pair kd s o = record { kind = kd; stationary = s; orbiting = o }
 abbrev pub pairCount : ℕ → ℕ → ℕ
 pairCount sn on = 3 * (sn * on)
 
--- pair k: of kind 0 the stationary edges of one orbiting vertex after the other, of kinds 1 and 2 the orbiting edges of one stationary vertex
--- or edge after the other
+-- those of a vertex and an edge, kinds 0 and 1, come first
+abbrev pub vertexPairs : ℕ → ℕ → ℕ
+vertexPairs sn on = 2 * (sn * on)
+
+-- pair k: of kind 0 the stationary edges of one orbiting vertex after the other, of kinds 1 and 2 the orbiting edges of one stationary
+-- vertex or edge after the other
 unfoldable pub pairOf : ℕ → ℕ → ℕ → Pair
 pairOf sn on k =
     let kd = k / (sn * on) in

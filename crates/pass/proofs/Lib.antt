@@ -1,2 +1,4 @@
 -- The modules that belong to no one function.
 pub mod Cases
+pub mod Reasons
+pub mod Worked

@@ -1,5 +1,4 @@
 -- The slide along a vector, in the order of operations of `nfp_sliding.rs`. Definitions only.
-use Prim.Native.Nat.{ℕ}
 use mathlib.Core.Bool.{Bool, _&&_, cond}
 use mathlib.Core.List.{List}
 use lib.Dec.{ltb}
@@ -8,7 +7,6 @@ use Rattle.scalar.specs.Float.{_⊖_, _⊗_, float, f0}
 use Rattle.scalar.specs.Scalar.{smallerOf, largerOf}
 use Rattle.plane.specs.Vector.{point, plusOf, distanceOf}
 use Rattle.plane.specs.declared.Point.{Point}
-use Rattle.refusals.specs.declared.Settings.{Settings}
 use Rattle.ring.specs.Ring.{count}
 use Rattle.vectors.specs.Fit.{f10}
 use Rattle.vectors.specs.declared.TranslationVector.{TranslationVector}
@@ -16,6 +14,8 @@ use Rattle.selection.specs.declared.Previous.the-variants.{Direction}
 use Rattle.collision.specs.Check.{collisionOf}
 use Rattle.collision.specs.declared.Collision.{Collision}
 use Rattle.collision.specs.declared.Collision.the-variants.{Nothing, Hit}
+use Rattle.pass.specs.Stop.{shortMove, pathClosed}
+use Rattle.pass.specs.declared.Margins.{Margins}
 use Rattle.pass.specs.declared.Pose.{Pose}
 use Rattle.pass.specs.declared.Step.{Step}
 use Rattle.pass.specs.declared.Step.the-variants.{Stop, Stay, Store}
@@ -40,17 +40,17 @@ blockedOf st moved dir far tol = madeOf (collisionOf st moved (timesOf dir far) 
 unfoldable pub closesOf : List Float → Point → Point → Float → Bool
 closesOf path at start tol = ltb 2 (count path) && lt (distanceOf at start) (tol ⊗ f10)
 
--- a slide in the direction dir ends at a point: 4 where that closes the path
-unfoldable pub landOf : Settings → Point → List Float → Pose → Point → Point → Step
-landOf s start path pose dir at =
-    cond (closesOf path at start (s .«contact_tolerance»)) (Stop 4)
-    (cond (lt (s .«min_translation») (distanceOf at (pose .position)))
+-- a slide in the direction dir ends at a point: the trace ends where that closes the path
+unfoldable pub landOf : Margins → Point → List Float → Pose → Point → Point → Step
+landOf m start path pose dir at =
+    cond (closesOf path at start (m .tolerance)) (Stop pathClosed)
+    (cond (lt (m .smallest) (distanceOf at (pose .position)))
     (Store (record { position = at; previous = Direction dir; stuck = 0 }))
     (Stay (record { position = at; previous = pose .previous; stuck = 0 })))
 
--- 3 where the vector, capped at 1000, is shorter than the smallest move
-unfoldable pub slideOf : List Float → List Float → Settings → Point → List Float → Pose → TranslationVector → Step
-slideOf st moved s start path pose v =
+-- the trace ends where the vector, capped at 1000, is shorter than the smallest move
+unfoldable pub slideOf : List Float → List Float → Margins → Point → List Float → Pose → TranslationVector → Step
+slideOf st moved m start path pose v =
     let far = smallerOf (v .distance) f1000 in
-    cond (lt far (s .«min_translation»)) (Stop 3)
-    (landOf s start path pose (v .direction) (plusOf (pose .position) (blockedOf st moved (v .direction) far (s .«contact_tolerance»))))
+    cond (lt far (m .smallest)) (Stop shortMove)
+    (landOf m start path pose (v .direction) (plusOf (pose .position) (blockedOf st moved (v .direction) far (m .tolerance))))

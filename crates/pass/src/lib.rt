@@ -1,17 +1,16 @@
 // One pass of the trace: the loop's body in `trace_nfp_boundary` of `nfp_sliding.rs`.
 pub mod slide;
+pub mod stop;
 
 use choose::Choice;
 use choose::choose;
-use contacts::Next;
-use contacts::next_contact;
+use contacts::has_contact;
 use interlocking::detect_interlocking_opportunity;
-use moved::answer::Found;
-use moved::move_ring;
 use plane::Point;
 use plane::vector::distance;
 use recovery::recover_contact;
-use refusals::Settings;
+use refusals::answer::Found;
+use ring::moving::move_ring;
 use selection::Previous;
 use selection::preferred;
 use slide::slide;
@@ -21,6 +20,12 @@ ghost use lib.ListN.{length};
 ghost use Rattle.ring.specs.Ring.{count};
 ghost use Rattle.pairs.specs.Pairs.{Sides};
 ghost use Rattle.pass.specs.Pass.{scene, regainOf, unstickOf, passAt, passOf};
+
+// What a pass measures by: the contact tolerance, and the smallest move that is made and stored.
+pub struct Margins {
+    pub tolerance: f64,
+    pub smallest: f64,
+}
 
 // Where the orbiting polygon is, the direction of the slide before, and how often in a row no vector was left.
 pub struct Pose {
@@ -42,7 +47,7 @@ fn regain(stationary: &[f64], moved: &[f64], tol: f64, pose: Pose) -> Step
 {
     let previous = pose.previous;
     match recover_contact(stationary, moved, pose.position, tol) {
-        Found::Nothing => Step::Stop(1),
+        Found::Nothing => Step::Stop(stop::NO_CONTACT),
         Found::At(position) => Step::Stay(Pose {
             position,
             previous,
@@ -52,32 +57,32 @@ fn regain(stationary: &[f64], moved: &[f64], tol: f64, pose: Pose) -> Step
 }
 
 // Without a vector: to an interlocking position, three times in a row at most.
-fn unstick(stationary: &[f64], orbiting: &[f64], settings: Settings, pose: Pose) -> Step
+fn unstick(stationary: &[f64], orbiting: &[f64], margins: Margins, pose: Pose) -> Step
     requires { ⌜ length (now orbiting) % 2 ≡ 0 ⌝ }
     requires { ⌜ length (now orbiting) ≤ 512 ⌝ }
-    ensures { λ r. ⌜ r ≡ unstickOf (now (stationary .entry)) (now (orbiting .entry)) settings pose ⌝ }
+    ensures { λ r. ⌜ r ≡ unstickOf (now (stationary .entry)) (now (orbiting .entry)) margins pose ⌝ }
 {
     let stuck = pose.stuck;
     if stuck < 3 {
         let from = pose.position;
         let previous = pose.previous;
-        let tol = settings.contact_tolerance;
+        let tol = margins.tolerance;
         match detect_interlocking_opportunity(stationary, orbiting, from, tol) {
-            Found::Nothing => Step::Stop(2),
+            Found::Nothing => Step::Stop(stop::NO_VECTOR),
             Found::At(position) => {
-                if distance(position, from) > settings.min_translation {
+                if distance(position, from) > margins.smallest {
                     Step::Store(Pose {
                         position,
                         previous,
                         stuck: stuck + 1,
                     })
                 } else {
-                    Step::Stop(2)
+                    Step::Stop(stop::NO_VECTOR)
                 }
             }
         }
     } else {
-        Step::Stop(2)
+        Step::Stop(stop::NO_VECTOR)
     }
 }
 
@@ -86,7 +91,7 @@ fn pass_at(
     stationary: &[f64],
     orbiting: &[f64],
     moved: &[f64],
-    settings: Settings,
+    margins: Margins,
     centroid: Point,
     start: Point,
     path: &[f64],
@@ -95,18 +100,23 @@ fn pass_at(
     requires { ⌜ length (now orbiting) % 2 ≡ 0 ⌝ }
     requires { ⌜ length (now orbiting) ≤ 512 ⌝ }
     requires { ⌜ Sides (count (now stationary)) (count (now moved)) ⌝ }
-    ensures { λ r. ⌜ r ≡ passAt (scene (now (stationary .entry)) (now (orbiting .entry)) settings centroid start) (now (moved .entry)) (now (path .entry)) pose ⌝ }
+    ensures { λ r.
+        ⌜ r ≡ passAt (scene (now (stationary .entry)) (now (orbiting .entry)) margins centroid start)
+        (now (moved .entry)) (now (path .entry)) pose ⌝ }
 {
-    let tol = settings.contact_tolerance;
+    let tol = margins.tolerance;
     let from = pose.position;
     let previous = pose.previous;
     let ccw = preferred(centroid, from);
     match choose(stationary, moved, tol, from, path, previous, ccw) {
-        Choice::Nothing => match next_contact(stationary, moved, tol, 0) {
-            Next::Nothing => regain(stationary, moved, tol, pose),
-            Next::At(_) => unstick(stationary, orbiting, settings, pose),
-        },
-        Choice::Vector(v) => slide(stationary, moved, settings, start, path, pose, v),
+        Choice::Nothing => {
+            if has_contact(stationary, moved, tol) {
+                unstick(stationary, orbiting, margins, pose)
+            } else {
+                regain(stationary, moved, tol, pose)
+            }
+        }
+        Choice::Vector(v) => slide(stationary, moved, margins, start, path, pose, v),
     }
 }
 
@@ -114,7 +124,7 @@ fn pass_at(
 pub fn pass(
     stationary: &[f64],
     orbiting: &[f64],
-    settings: Settings,
+    margins: Margins,
     centroid: Point,
     start: Point,
     path: &[f64],
@@ -123,7 +133,8 @@ pub fn pass(
     requires { ⌜ length (now orbiting) % 2 ≡ 0 ⌝ }
     requires { ⌜ length (now orbiting) ≤ 512 ⌝ }
     requires { ⌜ Sides (count (now stationary)) (count (now orbiting)) ⌝ }
-    ensures { λ r. ⌜ r ≡ passOf (scene (now (stationary .entry)) (now (orbiting .entry)) settings centroid start) (now (path .entry)) pose ⌝ }
+    ensures { λ r.
+        ⌜ r ≡ passOf (scene (now (stationary .entry)) (now (orbiting .entry)) margins centroid start) (now (path .entry)) pose ⌝ }
 {
     let mut room = [0.0; 512];
     move_ring(orbiting, pose.position, &mut room);
@@ -132,7 +143,7 @@ pub fn pass(
         stationary,
         orbiting,
         &room[..len],
-        settings,
+        margins,
         centroid,
         start,
         path,

@@ -1,13 +1,14 @@
 // The slide along a vector, as far as nothing is in the way, and where it ends.
+use crate::Margins;
 use crate::Pose;
 use crate::Step;
+use crate::stop;
 use collision::Collision;
 use collision::check_translation_collision;
 use near::is_near;
 use plane::Point;
 use plane::vector::distance;
 use plane::vector::plus;
-use refusals::Settings;
 use scalar::larger;
 use scalar::smaller;
 use selection::Previous;
@@ -54,13 +55,13 @@ fn closes(path: &[f64], at: Point, start: Point, tol: f64) -> bool
 }
 
 // The end of a slide: it is stored where it is farther than the smallest move from where the slide began.
-fn land(settings: Settings, start: Point, path: &[f64], pose: Pose, dir: Point, at: Point) -> Step
-    ensures { λ r. ⌜ r ≡ landOf settings start (now (path .entry)) pose dir at ⌝ }
+fn land(margins: Margins, start: Point, path: &[f64], pose: Pose, dir: Point, at: Point) -> Step
+    ensures { λ r. ⌜ r ≡ landOf margins start (now (path .entry)) pose dir at ⌝ }
 {
-    if closes(path, at, start, settings.contact_tolerance) {
-        return Step::Stop(4);
+    if closes(path, at, start, margins.tolerance) {
+        return Step::Stop(stop::CLOSED);
     }
-    if distance(at, pose.position) > settings.min_translation {
+    if distance(at, pose.position) > margins.smallest {
         Step::Store(Pose {
             position: at,
             previous: Previous::Direction(dir),
@@ -80,19 +81,19 @@ fn land(settings: Settings, start: Point, path: &[f64], pose: Pose, dir: Point, 
 pub fn slide(
     stationary: &[f64],
     moved: &[f64],
-    settings: Settings,
+    margins: Margins,
     start: Point,
     path: &[f64],
     pose: Pose,
     vector: TranslationVector,
 ) -> Step
-    ensures { λ r. ⌜ r ≡ slideOf (now (stationary .entry)) (now (moved .entry)) settings start (now (path .entry)) pose vector ⌝ }
+    ensures { λ r. ⌜ r ≡ slideOf (now (stationary .entry)) (now (moved .entry)) margins start (now (path .entry)) pose vector ⌝ }
 {
     let far = smaller(vector.distance, 1000.0);
-    if far < settings.min_translation {
-        return Step::Stop(3);
+    if far < margins.smallest {
+        return Step::Stop(stop::SHORT_MOVE);
     }
     let dir = vector.direction;
-    let by = blocked(stationary, moved, dir, far, settings.contact_tolerance);
-    land(settings, start, path, pose, dir, plus(pose.position, by))
+    let by = blocked(stationary, moved, dir, far, margins.tolerance);
+    land(margins, start, path, pose, dir, plus(pose.position, by))
 }

@@ -19,9 +19,11 @@ plusOf a b = point (a .x ⊕ b .x) (a .y ⊕ b .y)
 unfoldable pub sameOf : Point → Point → Bool
 sameOf a b = eq (a .x) (b .x) && eq (a .y) (b .y)
 
+-- `dot`
 unfoldable pub dotOf : Point → Point → Float
 dotOf a b = a .x ⊗ b .x ⊕ a .y ⊗ b .y
 
+-- `cross`
 unfoldable pub crossOf : Point → Point → Float
 crossOf a b = a .x ⊗ b .y ⊖ a .y ⊗ b .x
 
@@ -31,6 +33,7 @@ root x = sqrtOf binary64 x
 unfoldable pub lengthOf : Point → Float
 lengthOf v = root (dotOf v v)
 
+-- `distance`
 unfoldable pub distanceOf : Point → Point → Float
 distanceOf a b = lengthOf (minusOf b a)
 
@@ -38,15 +41,24 @@ distanceOf a b = lengthOf (minusOf b a)
 abbrev pub f1e-10 : Float
 f1e-10 = float 0x3ddb_7cdf_d9d7_bdbb
 
+-- `normalize`
 unfoldable pub normalizeOf : Point → Point
 normalizeOf v =
     let len = lengthOf v in
     cond (lt len f1e-10) (point f0 f0) (point (v .x ⊘ len) (v .y ⊘ len))
 
--- |cross| < (1e-10 * len1) * len2
+-- `edges_parallel`: |cross| < (1e-10 * len1) * len2
 unfoldable pub parallelOf : Point → Point → Bool
 parallelOf e1 e2 = lt (absOf (crossOf e1 e2)) (f1e-10 ⊗ lengthOf e1 ⊗ lengthOf e2)
 
 -- (bx-ax)*(cy-ay) - (by-ay)*(cx-ax)
 unfoldable pub turnOf : Point → Point → Point → Float
 turnOf a b c = crossOf (minusOf b a) (minusOf c a)
+
+-- so far from a point in a direction
+unfoldable pub aheadOf : Point → Point → Float → Point
+aheadOf at dir far = point (at .x ⊕ dir .x ⊗ far) (at .y ⊕ dir .y ⊗ far)
+
+-- 0.5
+abbrev pub half : Float
+half = float 0x3fe0_0000_0000_0000

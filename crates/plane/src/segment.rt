@@ -1,10 +1,10 @@
-// A point against a segment: the foot's parameter, the two distances, nearness.
+// A point against a segment: the foot's parameter and the two distances.
 use crate::Point;
 use crate::vector::distance;
 use crate::vector::dot;
 use crate::vector::minus;
 ghost use mathlib.Core.Path.{_≡_};
-ghost use Rattle.plane.specs.Segment.{clampedFoot, projectOf, alongOf, toSegmentOf, onSegmentOf, segmentDistanceOf, footOf};
+ghost use Rattle.plane.specs.Segment.{clampedFoot, projectOf, alongOf, toSegmentOf, segmentDistanceOf, ringFootOf};
 
 // The parameter of the foot of p on the line from a along d, whose squared length is len2, cut to 0 .. 1.
 fn clamped_foot(p: Point, a: Point, d: Point, len2: f64) -> f64
@@ -44,16 +44,9 @@ pub fn point_to_segment_distance(point: Point, p1: Point, p2: Point) -> f64
     distance(point, along(p1, p2, t))
 }
 
-// Whether a point is nearer to a segment than tol.
-pub fn point_on_segment(point: Point, p1: Point, p2: Point, tol: f64) -> bool
-    ensures { λ r. ⌜ r ≡ onSegmentOf point p1 p2 tol ⌝ }
-{
-    point_to_segment_distance(point, p1, p2) < tol
-}
-
 // The parameter of the foot of p on the segment a b, 0 where the segment has no length: the ring predicates' own form.
 fn foot(p: Point, a: Point, b: Point) -> f64
-    ensures { λ r. ⌜ r ≡ footOf p a b ⌝ }
+    ensures { λ r. ⌜ r ≡ ringFootOf p a b ⌝ }
 {
     let d = minus(b, a);
     let len2 = dot(d, d);

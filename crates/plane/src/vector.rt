@@ -1,7 +1,8 @@
-// Vectors: dot and cross product, length, distance, unit vector, the turn of three points.
+// Vectors: dot and cross product, length, distance, unit vector, the turn of three points, a point moved in a direction.
 use crate::Point;
 ghost use mathlib.Core.Path.{_≡_};
-ghost use Rattle.plane.specs.Vector.{minusOf, plusOf, sameOf, dotOf, crossOf, lengthOf, distanceOf, normalizeOf, parallelOf, turnOf};
+ghost use Rattle.plane.specs.Vector.{minusOf, plusOf, sameOf, dotOf, crossOf, lengthOf, distanceOf, normalizeOf};
+ghost use Rattle.plane.specs.Vector.{parallelOf, turnOf, aheadOf};
 
 // a - b
 pub fn minus(a: Point, b: Point) -> Point
@@ -85,4 +86,14 @@ pub fn turn(a: Point, b: Point, c: Point) -> f64
     ensures { λ r. ⌜ r ≡ turnOf a b c ⌝ }
 {
     cross(minus(b, a), minus(c, a))
+}
+
+// So far from a point in a direction.
+pub fn ahead(at: Point, dir: Point, far: f64) -> Point
+    ensures { λ r. ⌜ r ≡ aheadOf at dir far ⌝ }
+{
+    Point {
+        x: at.x + dir.x * far,
+        y: at.y + dir.y * far,
+    }
 }

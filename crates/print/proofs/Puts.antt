@@ -18,6 +18,10 @@ one l n b h = ap (λ (k : ℕ). take k (set l n b)) (add-one n) ∙ take-suc-set
 pub nothing : (l : List ℕ) (at : ℕ) → take (at + 0) l ≡ take at l ++ []
 nothing l at = ap (λ (n : ℕ). take n l) (add-zero at) ∙ sym (append-nil (take at l))
 
+-- no text
+pub empty : (room : List ℕ) (at : ℕ) → Put room at [] room at
+empty room at = record { ends = sym (add-zero at); holds = sym (append-nil (take at room)) }
+
 -- a text after a text
 pub then : {a b c t u : List ℕ} {at m r : ℕ} → Put a at t b m → Put b m u c r → Put a at (t ++ u) c r
 then {a} {b} {c} {t} {u} {at} p q = record {

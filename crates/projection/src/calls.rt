@@ -3,7 +3,7 @@ use plane::Point;
 use plane::segment;
 use refusals::answer::Number;
 use refusals::answer::Truth;
-use refusals::screen;
+use refusals::row;
 ghost use mathlib.Core.Path.{_≡_};
 ghost use Rattle.refusals.specs.Answers.{number, truth};
 ghost use Rattle.projection.specs.Calls.{projectCall, distanceCall, nearCall};
@@ -12,7 +12,7 @@ ghost use Rattle.projection.specs.Calls.{projectCall, distanceCall, near
 pub fn project_point_to_segment(point: Point, p1: Point, p2: Point) -> Number
     ensures { λ r. ⌜ number r ≡ projectCall point p1 p2 ⌝ }
 {
-    let no = screen::points3(point, p1, p2);
+    let no = row::points3(point, p1, p2);
     if no.passed() {
         Number::Is(segment::project_point_to_segment(point, p1, p2))
     } else {
@@ -24,7 +24,7 @@ pub fn project_point_to_segment(point: Point, p1: Point, p2: Point) -> Number
 pub fn point_to_segment_distance(point: Point, p1: Point, p2: Point) -> Number
     ensures { λ r. ⌜ number r ≡ distanceCall point p1 p2 ⌝ }
 {
-    let no = screen::points3(point, p1, p2);
+    let no = row::points3(point, p1, p2);
     if no.passed() {
         Number::Is(segment::point_to_segment_distance(point, p1, p2))
     } else {
@@ -36,9 +36,9 @@ pub fn point_to_segment_distance(point: Point, p1: Point, p2: Point) -> Number
 pub fn point_on_segment(point: Point, p1: Point, p2: Point, tol: f64) -> Truth
     ensures { λ r. ⌜ truth r ≡ nearCall point p1 p2 tol ⌝ }
 {
-    let no = screen::near(point, p1, p2, tol);
+    let no = row::near(point, p1, p2, tol);
     if no.passed() {
-        Truth::Is(segment::point_on_segment(point, p1, p2, tol))
+        Truth::Is(segment::point_to_segment_distance(point, p1, p2) < tol)
     } else {
         Truth::Refused(no)
     }

@@ -103,7 +103,7 @@ pub length-flat : (r : List Vertex) → length (flat r) ≡ 2 * length r
 length-flat [] = refl
 length-flat (v ∷ r) = let e = length-flat r in omega arith
 
-flat-inj : (p q : List Vertex) → flat p ≡ flat q → p ≡ q
+pub flat-inj : (p q : List Vertex) → flat p ≡ flat q → p ≡ q
 flat-inj p q e = sym (vertices-flat p) ∙ ap vertices e ∙ vertices-flat q
 
 pub length-least : (r : List Vertex) → 0 < length r → length (leastReading r) ≡ length r

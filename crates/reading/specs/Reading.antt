@@ -1,5 +1,6 @@
 -- A ring's readings, their order and the least of them. Definitions only.
--- A coordinate is the bit pattern of an f64, a number below 2 ^ 64: two coordinates are the same bit for bit exactly if they are equal here.
+-- A coordinate is the bit pattern of an f64, a number below 2 ^ 64: two coordinates are the same bit for bit exactly if they are equal
+-- here.
 use Prim.Native.Nat.{ℕ, zero, suc, _+_, _-_, _*_, _^_, _<_}
 use mathlib.Core.Path.{_≡_}
 use mathlib.Core.Bool.{Bool, true, false, not, cond}
@@ -41,10 +42,28 @@ vertices [] = []
 vertices (a ∷ []) = []
 vertices (a ∷ b ∷ r) = record { x = a; y = b } ∷ vertices r
 
+-- equally long, and place by place related
+abbrev pub Alike : {A : Type 0} → (A → A → Type 0) → List A → List A → Type 0
+Alike R [] [] = Unit {0}
+Alike R [] (b ∷ q) = ⊥
+Alike R (a ∷ p) [] = ⊥
+Alike R (a ∷ p) (b ∷ q) = R a b × Alike R p q
+
+-- x is a reading of r, where coordinates are compared by a relation
+pub record ReadsUpTo (R : ℕ → ℕ → Type 0) (r x : List Vertex) : Type 0 where
+  pub read : List Vertex
+  pub reads : Reads r read
+  pub alike : Alike R (flat read) (flat x)
+
+-- the relation of coordinates that are the same bit for bit
+abbrev pub BitForBit : ℕ → ℕ → Type 0
+BitForBit a b = a ≡ b
+
 -- ---- "Numbers are ordered by size, -0.0 before +0.0; points by x, then y; readings by the first difference."
 
--- The place of a bit pattern in the order of numbers. The patterns below 2 ^ 63 have no sign, and grow with the number. Those from 2 ^ 63 on are
--- negative, and grow as the number falls. No pattern is 2 ^ 64 or more: such a number is its own place, so that no two numbers share one.
+-- The place of a bit pattern in the order of numbers. The patterns below 2 ^ 63 have no sign, and grow with the number. Those from 2 ^ 63
+-- on are negative, and grow as the number falls. No pattern is 2 ^ 64 or more: such a number is its own place, so that no two numbers
+-- share one.
 unfoldable pub ord : ℕ → ℕ
 ord b = cond (ltb b (2 ^ 63)) (2 ^ 63 + b) (cond (ltb b (2 ^ 64)) (2 ^ 64 - suc b) b)
 

@@ -7,18 +7,17 @@ use lib.Ieee.{Float, add, sub, mul, div, lt, le, eq, neg, ofBits}
 use Rattle.scalar.specs.Float.{_⊘_, float, f0, f1}
 use Rattle.scalar.specs.Scalar.{absOf, clampOf}
 use Rattle.square_root.specs.Root.{sqrtOf}
-use Rattle.plane.specs.Vector.{point, minusOf, dotOf, lengthOf, distanceOf, normalizeOf}
+use Rattle.plane.specs.Vector.{point, minusOf, dotOf, lengthOf, distanceOf, normalizeOf, aheadOf}
 use Rattle.plane.specs.Segment.{clampedFoot, projectOf, alongOf}
 use Rattle.ring.specs.Ring.{pointAt}
 use Rattle.refusals.specs.Refusals.{refuse}
 use Rattle.refusals.specs.Bounds.{coordinate, finite, every}
 use Rattle.refusals.specs.Answers.{answers, refuses}
-use Rattle.first_best.specs.Best.{better, over, nest}
-use Rattle.moved.specs.Moved.{aheadOf}
-use Rattle.moved.specs.Answers.{positionRefusal}
-use Rattle.moved.proofs.Worked.{f2, f3, f4, f6, f8, S}
+use Rattle.laws.specs.FirstBest.{better, over, nest}
+use Rattle.refusals.specs.Rows.{ofTwoPolygons, ofMoving}
+use Rattle.ring.proofs.Worked.{f2, f3, f4, f6, f8, S}
 use Rattle.centroid.specs.Centroid.{grownOf, momentsTo, centroidOf}
-use Rattle.recovery.specs.Recovery.{footAt, closestOf, towardOf, moveTo, recoverOf}
+use Rattle.recovery.specs.Recovery.{closestOn, closestOf, towardOf, moveTo, recoverOf}
 use Rattle.recovery.specs.Calls.{recoverCall}
 
 -- 1e-6
@@ -33,18 +32,18 @@ abbrev beside : List Float
 beside = f4 ∷ f1 ∷ f6 ∷ f1 ∷ f6 ∷ f3 ∷ f4 ∷ f3 ∷ []
 
 drawn : recoverCall S away (point f6 f1) tolerance ≡ answers (some (point (float 0x4010_6918_dafa_053d) (float 0x3fd7_85d9_e535_7144)))
-unfolding positionRefusal every coordinate finite recoverOf moveTo towardOf closestOf nest over better footAt centroidOf momentsTo grownOf aheadOf projectOf clampedFoot alongOf clampOf pointAt minusOf dotOf lengthOf distanceOf normalizeOf absOf sqrtOf add sub mul div lt le eq neg ofBits
+unfolding ofMoving ofTwoPolygons every coordinate finite recoverOf moveTo towardOf closestOf nest over better closestOn centroidOf momentsTo grownOf aheadOf projectOf clampedFoot alongOf clampOf pointAt minusOf dotOf lengthOf distanceOf normalizeOf absOf sqrtOf add sub mul div lt le eq neg ofBits
 drawn = refl
 
 stays : recoverCall S beside (point f4 f1) tolerance ≡ answers none
-unfolding positionRefusal every coordinate finite recoverOf moveTo closestOf nest over better footAt projectOf clampedFoot alongOf clampOf pointAt minusOf dotOf lengthOf distanceOf absOf sqrtOf add sub mul div lt le eq neg ofBits
+unfolding ofMoving ofTwoPolygons every coordinate finite recoverOf moveTo closestOf nest over better closestOn projectOf clampedFoot alongOf clampOf pointAt minusOf dotOf lengthOf distanceOf absOf sqrtOf add sub mul div lt le eq neg ofBits
 stays = refl
 
 -- 2 of the position comes before 3
-nowhere : recoverCall S away (point (f1 ⊘ f0) f0) f0 ≡ refuses (refuse 2)
-unfolding positionRefusal every coordinate finite div ofBits
+nowhere : recoverCall S away (point (f1 ⊘ f0) f0) f0 ≡ refuses (refuse 2 0)
+unfolding ofMoving ofTwoPolygons every coordinate finite div ofBits
 nowhere = refl
 
-no-tolerance : recoverCall S away (point f6 f1) f2 ≡ refuses (refuse 3)
-unfolding positionRefusal every coordinate finite lt le eq ofBits
+no-tolerance : recoverCall S away (point f6 f1) f2 ≡ refuses (refuse 3 0)
+unfolding ofMoving ofTwoPolygons every coordinate finite lt le eq ofBits
 no-tolerance = refl

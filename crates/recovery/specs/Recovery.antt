@@ -4,28 +4,27 @@ use mathlib.Core.Bool.{Bool, false, cond}
 use mathlib.Core.List.{List}
 use lib.Ieee.{Float, inf, lt}
 use Rattle.scalar.specs.Float.{_⊖_, _⊗_}
-use Rattle.plane.specs.Vector.{minusOf, distanceOf, normalizeOf}
+use Rattle.plane.specs.Vector.{minusOf, distanceOf, normalizeOf, aheadOf, half}
 use Rattle.plane.specs.Segment.{projectOf, alongOf}
 use Rattle.plane.specs.declared.Point.{Point}
 use Rattle.ring.specs.Ring.{count, pointAt, nextOf}
-use Rattle.first_best.specs.Best.{nest}
-use Rattle.moved.specs.Moved.{aheadOf, half}
-use Rattle.moved.specs.declared.answer.Found.{Found}
-use Rattle.moved.specs.declared.answer.Found.the-variants.{Nothing, At}
+use Rattle.laws.specs.FirstBest.{nest}
+use Rattle.refusals.specs.declared.answer.Found.{Found}
+use Rattle.refusals.specs.declared.answer.Found.the-variants.{Nothing, At}
 use Rattle.centroid.specs.Centroid.{centroidOf}
 use Rattle.recovery.specs.declared.Closest.{Closest}
 
 -- the point of the edge i that is nearest to v
-unfoldable pub footAt : Point → List Float → ℕ → Closest
-footAt v r i =
+unfoldable pub closestOn : Point → List Float → ℕ → Closest
+closestOn v r i =
     let a = pointAt r i in
     let b = pointAt r (nextOf i (count r)) in
     let p = alongOf a b (projectOf v a b) in
     record { distance = distanceOf v p; target = At p }
 
 -- that of vertex k of the orbiting polygon and edge i of the stationary one
-abbrev pub footOf : List Float → List Float → ℕ → ℕ → Closest
-footOf s o k i = footAt (pointAt o k) s i
+abbrev pub closestAt : List Float → List Float → ℕ → ℕ → Closest
+closestAt s o k i = closestOn (pointAt o k) s i
 
 abbrev pub nearer : Closest → Closest → Bool
 nearer new best = lt (new .distance) (best .distance)
@@ -36,7 +35,7 @@ afar = record { distance = inf false; target = Nothing }
 
 -- the vertices of the orbiting polygon in turn, each against every edge of the stationary one
 unfoldable pub closestOf : List Float → List Float → Closest
-closestOf s o = nest nearer (footOf s o) (count s) afar (count o)
+closestOf s o = nest nearer (closestAt s o) (count s) afar (count o)
 
 -- so far in the direction from the orbiting polygon's centroid to a target
 unfoldable pub towardOf : Point → List Float → Point → Float → Point
@@ -47,5 +46,6 @@ unfoldable pub moveTo : Found → Float → List Float → Point → Float → F
 moveTo Nothing d o current tol = Nothing
 moveTo (At p) d o current tol = cond (lt tol d) (At (towardOf p o current (d ⊖ tol ⊗ half))) Nothing
 
+-- `recover_contact`
 unfoldable pub recoverOf : List Float → List Float → Point → Float → Found
 recoverOf s o current tol = let c = closestOf s o in moveTo (c .target) (c .distance) o current tol

@@ -1,9 +1,9 @@
 // The public call: recover_contact.
-use moved::answer::Position;
-use moved::answer::lent;
 use plane::Point;
+use refusals::answer::Position;
+use refusals::row;
 ghost use mathlib.Core.Path.{_≡_};
-ghost use Rattle.moved.specs.Answers.{position};
+ghost use Rattle.refusals.specs.Answers.{position};
 ghost use Rattle.recovery.specs.Calls.{recoverCall};
 
 // Where the orbiting polygon, lent where it is, is moved to from its current position to touch the stationary one again, or nothing.
@@ -15,7 +15,7 @@ pub fn recover_contact(
 ) -> Position
     ensures { λ r. ⌜ position r ≡ recoverCall (now (stationary .entry)) (now (orbiting .entry)) current tolerance ⌝ }
 {
-    let no = lent(stationary, orbiting, current, tolerance);
+    let no = row::moving(stationary, orbiting, current, tolerance);
     if no.passed() {
         Position::Is(crate::recover_contact(stationary, orbiting, current, tolerance))
     } else {

@@ -2,21 +2,21 @@
 pub mod calls;
 
 use centroid::centroid;
-use moved::ahead;
-use moved::answer::Found;
 use plane::Point;
 use plane::segment::along;
 use plane::segment::project_point_to_segment;
+use plane::vector::ahead;
 use plane::vector::distance;
 use plane::vector::minus;
 use plane::vector::normalize;
+use refusals::answer::Found;
 use ring::next;
 use ring::point_at;
 ghost use mathlib.Core.Path.{_≡_};
 ghost use Prim.Native.Nat.{_<_};
 ghost use Rattle.ring.specs.Ring.{count};
-ghost use Rattle.first_best.specs.Best.{better, over};
-ghost use Rattle.recovery.specs.Recovery.{footAt, nearer, closestOf, towardOf, recoverOf};
+ghost use Rattle.laws.specs.FirstBest.{better, over};
+ghost use Rattle.recovery.specs.Recovery.{closestOn, nearer, closestOf, towardOf, recoverOf};
 
 // A point and its distance, or +infinity and nothing.
 pub struct Closest {
@@ -27,7 +27,7 @@ pub struct Closest {
 // The point of the edge i that is nearest to v.
 fn foot(v: Point, ring: &[f64], i: usize) -> Closest
     requires { ⌜ i < count (now ring) ⌝ }
-    ensures { λ r. ⌜ r ≡ footAt v (now (ring .entry)) i ⌝ }
+    ensures { λ r. ⌜ r ≡ closestOn v (now (ring .entry)) i ⌝ }
 {
     let a = point_at(ring, i);
     let b = point_at(ring, next(i, ring.len() / 2));
@@ -51,7 +51,7 @@ fn keep(best: Closest, new: Closest) -> Closest
 
 // The nearest so far, and those of the edges of a ring.
 fn row(best: Closest, v: Point, ring: &[f64]) -> Closest
-    ensures { λ r. ⌜ r ≡ over nearer (footAt v (now (ring .entry))) best (count (now (ring .entry))) ⌝ }
+    ensures { λ r. ⌜ r ≡ over nearer (closestOn v (now (ring .entry))) best (count (now (ring .entry))) ⌝ }
 {
     let n = ring.len() / 2;
     let mut near = best;

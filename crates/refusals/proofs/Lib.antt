@@ -6,4 +6,6 @@ pub mod First
 pub mod Room
 pub mod Calls
 pub mod Sized
+pub mod Counts
+pub mod RingRow
 pub mod Worked

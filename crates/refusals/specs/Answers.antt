@@ -1,9 +1,11 @@
--- What a call answers, in document 01's terms: its value, or the refusal's number with what it returns. Definitions only.
+-- What a call answers, in docs/SCOPE.md's terms: its value, or the refusal's number with what it returns. Definitions only.
 use Prim.Native.Nat.{ℕ}
 use mathlib.Core.Bool.{Bool, cond}
+use mathlib.Core.Option.{Option, none, some}
 use lib.IntN.{ℤ}
 use lib.Ieee.{Float}
 use Rattle.plane.specs.Orientation.{turnNumber}
+use Rattle.plane.specs.declared.Point.{Point}
 use Rattle.refusals.specs.Refusals.{passed}
 use Rattle.refusals.specs.declared.Refusal.{Refusal}
 use Rattle.refusals.specs.declared.answer.Truth.{Truth}
@@ -14,6 +16,10 @@ use Rattle.refusals.specs.declared.answer.Number.{Number}
 use Rattle.refusals.specs.declared.answer.Number.the-variants as number-is
 use Rattle.refusals.specs.declared.answer.Count.{Count}
 use Rattle.refusals.specs.declared.answer.Count.the-variants as count-is
+use Rattle.refusals.specs.declared.answer.Found.{Found}
+use Rattle.refusals.specs.declared.answer.Found.the-variants.{Nothing, At}
+use Rattle.refusals.specs.declared.answer.Position.{Position}
+use Rattle.refusals.specs.declared.answer.Position.the-variants as position-is
 
 pub data Outcome (A : Type 0) : Type 0 where
   answers : A → Outcome A
@@ -35,9 +41,17 @@ abbrev pub number : Number → Outcome Float
 number (number-is.Is x) = answers x
 number (number-is.Refused r) = refuses r
 
-abbrev pub count : Count → Outcome ℕ
-count (count-is.Is x) = answers x
-count (count-is.Refused r) = refuses r
+abbrev pub counted : Count → Outcome ℕ
+counted (count-is.Is x) = answers x
+counted (count-is.Refused r) = refuses r
+
+abbrev pub found : Found → Option Point
+found Nothing = none
+found (At p) = some p
+
+abbrev pub position : Position → Outcome (Option Point)
+position (position-is.Is f) = answers (found f)
+position (position-is.Refused r) = refuses r
 
 -- what a lent list holds afterwards: what the call wrote where no test refuses, and else what it held before
 abbrev pub left : {A : Type 0} → Refusal → A → A → A

@@ -1,4 +1,4 @@
--- Document 01's bounds of what is lent. Definitions only.
+-- docs/SCOPE.md's bounds of what is lent. Definitions only.
 use Prim.Native.Nat.{ℕ, _*_, _%_}
 use mathlib.Core.Bool.{Bool, true, false, _&&_}
 use mathlib.Core.List.{List, [], _∷_}
@@ -48,6 +48,10 @@ polygonLength r = leb 6 (length r) && ringLength r
 -- an even number of numbers, of at most 10,001 points
 abbrev pub listLength : List Float → Bool
 listLength r = eqb (length r % 2) 0 && leb (length r) 20002
+
+-- three numbers for each vector
+abbrev pub vectorsLength : List Float → Bool
+vectorsLength vs = eqb (length vs % 3) 0
 
 -- above 0, at most 1
 abbrev pub toleranceOk : Float → Bool

@@ -1,24 +1,56 @@
--- A refusal, and the first of several. Definitions only.
+-- A refusal, its numbers, and the first of several. Definitions only.
 use Prim.Native.Nat.{ℕ}
 use mathlib.Core.Bool.{Bool, cond}
 use mathlib.Core.List.{List, [], _∷_}
 use lib.Dec.{eqb}
 use Rattle.refusals.specs.declared.Refusal.{Refusal}
 
+-- ---- docs/SCOPE.md's numbers
+
+-- a lent list has a wrong length
+abbrev pub refusedLength : ℕ
+refusedLength = 1
+
+-- a lent number is outside its bounds
+abbrev pub refusedNumber : ℕ
+refusedNumber = 2
+
+-- a setting is outside its bounds
+abbrev pub refusedSetting : ℕ
+refusedSetting = 3
+
+-- the rooms of a trace or of a book are too short, or not of the form asked
+abbrev pub refusedRoom : ℕ
+refusedRoom = 4
+
+-- an answer list, or the path before simplification, has more entries than its room
+abbrev pub refusedFit : ℕ
+refusedFit = 5
+
+-- that path has under three points at the end
+abbrev pub refusedShortPath : ℕ
+refusedShortPath = 6
+
+-- a book is wrong
+abbrev pub refusedBook : ℕ
+refusedBook = 7
+
+-- ---- refusals
+
 -- no refusal
 abbrev pub none : Refusal
 none = record { number = 0; place = 0 }
 
--- document 01's refusal with a number
-abbrev pub refuse : ℕ → Refusal
-refuse num = record { number = num; place = 0 }
+-- the refusal with a number and a place
+abbrev pub refuse : ℕ → ℕ → Refusal
+refuse num at = record { number = num; place = at }
 
 abbrev pub passed : Refusal → Bool
 passed r = eqb (r .number) 0
 
--- what a test gives: the refusal with its number exactly if it does not hold
-abbrev pub unless : Bool → ℕ → Refusal
-unless ok num = cond ok none (refuse num)
+-- what a test gives: the refusal with its number and place exactly if it does not hold
+abbrev pub unless : Bool → ℕ → ℕ → Refusal
+unless ok num at = cond ok none (refuse num at)
 
 abbrev pub first : Refusal → Refusal → Refusal
 first a b = cond (passed a) b a

@@ -1,10 +1,40 @@
-// The refusals of the public calls: the record, the tests of what a call is lent, and the order in which they speak.
+// The refusals of the public calls: the record and its numbers, the tests of what a call is lent, and the rows in which they speak.
 pub mod answer;
+pub mod rings;
+pub mod row;
 pub mod screen;
 pub mod test;
 
 ghost use mathlib.Core.Path.{_≡_};
 ghost use Rattle.refusals.specs.Refusals.{none, refuse, passed};
+
+// A list's length is wrong.
+pub const REFUSED_LENGTH: u32 = 1;
+
+// A lent number is out of its bounds.
+pub const REFUSED_NUMBER: u32 = 2;
+
+// A setting is out of its bounds.
+pub const REFUSED_SETTING: u32 = 3;
+
+// The rooms of a trace or of a book are too short, or not of the form asked.
+pub const REFUSED_ROOM: u32 = 4;
+
+// The answer has more entries than its room.
+pub const REFUSED_FIT: u32 = 5;
+
+// The path of a trace has under three points.
+pub const REFUSED_SHORT_PATH: u32 = 6;
+
+// A book is wrong.
+pub const REFUSED_BOOK: u32 = 7;
+
+// A ring of a book has 3 to 256 vertices, and a book 1 to 8 rings.
+pub const VERTICES_LEAST: usize = 3;
+
+pub const VERTICES_MOST: usize = 256;
+
+pub const RINGS_MOST: usize = 8;
 
 // A refusal's number and the place it tells, 0 where it tells none. The number 0 is no refusal.
 pub struct Refusal {
@@ -23,11 +53,11 @@ impl Refusal {
         }
     }
 
-    // The refusal with a number.
-    pub fn new(number: u32) -> Self
-        ensures { λ r. ⌜ r ≡ refuse number ⌝ }
+    // The refusal with a number and a place.
+    pub fn new(number: u32, place: u64) -> Self
+        ensures { λ r. ⌜ r ≡ refuse number place ⌝ }
     {
-        Refusal { number, place: 0 }
+        Refusal { number, place }
     }
 
     // Whether it is no refusal.

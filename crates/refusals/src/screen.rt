@@ -1,5 +1,9 @@
-// The tests of what calls are lent, as refusals: 1 for a list's length, 2 for a number, 3 for a setting, 5 for a room. A call
-// takes the first that refuses, in document 01's order.
+// The single tests of what calls are lent, as refusals.
+use crate::REFUSED_FIT;
+use crate::REFUSED_LENGTH;
+use crate::REFUSED_NUMBER;
+use crate::REFUSED_ROOM;
+use crate::REFUSED_SETTING;
 use crate::Refusal;
 use crate::Settings;
 use crate::test::are_coordinates;
@@ -11,20 +15,26 @@ use crate::test::is_polygon_length;
 use crate::test::is_ring_length;
 use crate::test::is_settings;
 use crate::test::is_tolerance;
+use crate::test::is_vectors_length;
 use crate::test::is_work_room;
 use plane::Point;
 ghost use mathlib.Core.Path.{_≡_};
 ghost use Rattle.refusals.specs.Refusals.{unless, first};
-ghost use Rattle.refusals.specs.Screens.{wrongLength, wrongPolygon, wrongList, wrongNumber, wrongInfinite, wrongPoint, wrongPosition, wrongTolerance, wrongSettings, wrongWork, wrongResult, wrongRoom, ofPoints3, ofPoints4, ofNear, ofRing, ofTwoRings, ofTwoPolygons};
+ghost use Rattle.refusals.specs.Screens.{wrongLength, wrongPolygon, wrongList, wrongVectors};
+ghost use Rattle.refusals.specs.Screens.{wrongNumber, wrongInfinite, wrongPoint, wrongPosition, wrongTolerance, wrongSettings};
+ghost use Rattle.refusals.specs.Screens.{wrongWork, wrongResult, wrongBook, wrongBookRooms, wrongFit, wrongRoom};
 
-// The refusal with a number where a test does not hold.
-pub fn unless(ok: bool, number: u32) -> Refusal
-    ensures { λ r. ⌜ r ≡ unless ok number ⌝ }
+// The refusal with a number and a place where a test does not hold.
+pub fn unless(ok: bool, number: u32, place: u64) -> Refusal
+    ensures { λ r. ⌜ r ≡ unless ok number place ⌝ }
 {
     if ok {
-        Refusal::none()
+        Refusal {
+            number: 0,
+            place: 0,
+        }
     } else {
-        Refusal::new(number)
+        Refusal { number, place }
     }
 }
 
@@ -36,139 +46,117 @@ pub fn first(a: Refusal, b: Refusal) -> Refusal
 }
 
 // The length of a ring.
-fn ring_length(ring: &[f64]) -> Refusal
+pub fn ring_length(ring: &[f64]) -> Refusal
     ensures { λ r. ⌜ r ≡ wrongLength (now (ring .entry)) ⌝ }
 {
-    unless(is_ring_length(ring), 1)
+    unless(is_ring_length(ring), REFUSED_LENGTH, 0)
 }
 
 // The length of a polygon.
 pub fn polygon_length(polygon: &[f64]) -> Refusal
     ensures { λ r. ⌜ r ≡ wrongPolygon (now (polygon .entry)) ⌝ }
 {
-    unless(is_polygon_length(polygon), 1)
+    unless(is_polygon_length(polygon), REFUSED_LENGTH, 0)
 }
 
 // The length of a list of points.
 pub fn list_length(list: &[f64]) -> Refusal
     ensures { λ r. ⌜ r ≡ wrongList (now (list .entry)) ⌝ }
 {
-    unless(is_list_length(list), 1)
+    unless(is_list_length(list), REFUSED_LENGTH, 0)
+}
+
+// The length of a list of vectors.
+pub fn vectors_length(vectors: &[f64]) -> Refusal
+    ensures { λ r. ⌜ r ≡ wrongVectors (now (vectors .entry)) ⌝ }
+{
+    unless(is_vectors_length(vectors), REFUSED_LENGTH, 0)
 }
 
 // The coordinates of a list.
 pub fn numbers(list: &[f64]) -> Refusal
     ensures { λ r. ⌜ r ≡ wrongNumber (now (list .entry)) ⌝ }
 {
-    unless(are_coordinates(list), 2)
+    unless(are_coordinates(list), REFUSED_NUMBER, 0)
 }
 
 // The numbers of a list that need only be finite.
 pub fn finite_numbers(list: &[f64]) -> Refusal
     ensures { λ r. ⌜ r ≡ wrongInfinite (now (list .entry)) ⌝ }
 {
-    unless(are_finite(list), 2)
+    unless(are_finite(list), REFUSED_NUMBER, 0)
 }
 
 // A move or a position, which need only be finite.
 pub fn position(p: Point) -> Refusal
     ensures { λ r. ⌜ r ≡ wrongPosition p ⌝ }
 {
-    unless(is_finite_point(p), 2)
+    unless(is_finite_point(p), REFUSED_NUMBER, 0)
 }
 
 // A single point.
 pub fn point(p: Point) -> Refusal
     ensures { λ r. ⌜ r ≡ wrongPoint p ⌝ }
 {
-    unless(is_point(p), 2)
+    unless(is_point(p), REFUSED_NUMBER, 0)
 }
 
 // A tolerance.
 pub fn tolerance(tol: f64) -> Refusal
     ensures { λ r. ⌜ r ≡ wrongTolerance tol ⌝ }
 {
-    unless(is_tolerance(tol), 3)
+    unless(is_tolerance(tol), REFUSED_SETTING, 0)
 }
 
 // The settings of a trace.
 pub fn settings(s: Settings) -> Refusal
     ensures { λ r. ⌜ r ≡ wrongSettings s ⌝ }
 {
-    unless(is_settings(s), 3)
+    unless(is_settings(s), REFUSED_SETTING, 0)
 }
 
 // A work room of so many numbers.
 pub fn work_room(size: usize) -> Refusal
     ensures { λ r. ⌜ r ≡ wrongWork size ⌝ }
 {
-    unless(is_work_room(size), 4)
+    unless(is_work_room(size), REFUSED_ROOM, 0)
 }
 
 // A result room beside a work room.
 pub fn result_room(work: usize, result: usize) -> Refusal
     ensures { λ r. ⌜ r ≡ wrongResult work result ⌝ }
 {
-    unless(work <= result, 4)
+    unless(work <= result, REFUSED_ROOM, 0)
+}
+
+// A room of size bytes for a book of so many.
+pub fn book(needed: usize, size: usize) -> Refusal
+    ensures { λ r. ⌜ r ≡ wrongBook needed size ⌝ }
+{
+    unless(needed <= size, REFUSED_ROOM, 0)
+}
+
+// Two rooms for what a book holds: its numbers and its counts.
+pub fn book_rooms(needed: usize, size: usize, needed2: usize, size2: usize) -> Refusal
+    ensures { λ r. ⌜ r ≡ wrongBookRooms needed size needed2 size2 ⌝ }
+{
+    if needed <= size {
+        unless(needed2 <= size2, REFUSED_ROOM, 0)
+    } else {
+        Refusal::new(REFUSED_ROOM, 0)
+    }
+}
+
+// A room of size numbers, of which so many are needed.
+pub fn fit(needed: usize, size: usize) -> Refusal
+    ensures { λ r. ⌜ r ≡ wrongFit needed size ⌝ }
+{
+    unless(needed <= size, REFUSED_FIT, 0)
 }
 
 // A room of size numbers for an answer of so many points.
 pub fn room(points: usize, size: usize) -> Refusal
     ensures { λ r. ⌜ r ≡ wrongRoom points size ⌝ }
 {
-    unless(points <= size / 2, 5)
-}
-
-// Three single points.
-pub fn points3(a: Point, b: Point, c: Point) -> Refusal
-    ensures { λ r. ⌜ r ≡ ofPoints3 a b c ⌝ }
-{
-    first(point(a), first(point(b), point(c)))
-}
-
-// Four single points.
-pub fn points4(a: Point, b: Point, c: Point, d: Point) -> Refusal
-    ensures { λ r. ⌜ r ≡ ofPoints4 a b c d ⌝ }
-{
-    first(point(a), points3(b, c, d))
-}
-
-// A point, a segment and a tolerance.
-pub fn near(p: Point, a: Point, b: Point, tol: f64) -> Refusal
-    ensures { λ r. ⌜ r ≡ ofNear p a b tol ⌝ }
-{
-    first(points3(p, a, b), tolerance(tol))
-}
-
-// A ring of 0 to 256 vertices. The numbers of one with a wrong length are not read.
-pub fn ring(ring: &[f64]) -> Refusal
-    ensures { λ r. ⌜ r ≡ ofRing (now (ring .entry)) ⌝ }
-{
-    let no = ring_length(ring);
-    if no.passed() { numbers(ring) } else { no }
-}
-
-// The numbers of two lists, which are not read where their lengths are refused.
-fn both(lengths: Refusal, a: &[f64], b: &[f64]) -> Refusal
-    ensures { λ r. ⌜ r ≡ first lengths (first (wrongNumber (now (a .entry))) (wrongNumber (now (b .entry)))) ⌝ }
-{
-    if lengths.passed() {
-        first(numbers(a), numbers(b))
-    } else {
-        lengths
-    }
-}
-
-// Two rings: the lengths of both come before the numbers of either.
-pub fn two_rings(a: &[f64], b: &[f64]) -> Refusal
-    ensures { λ r. ⌜ r ≡ ofTwoRings (now (a .entry)) (now (b .entry)) ⌝ }
-{
-    both(first(ring_length(a), ring_length(b)), a, b)
-}
-
-// Two polygons of 3 to 256 vertices, in the same order.
-pub fn two_polygons(a: &[f64], b: &[f64]) -> Refusal
-    ensures { λ r. ⌜ r ≡ ofTwoPolygons (now (a .entry)) (now (b .entry)) ⌝ }
-{
-    both(first(polygon_length(a), polygon_length(b)), a, b)
+    unless(points <= size / 2, REFUSED_FIT, 0)
 }

@@ -3,7 +3,7 @@ use crate::Settings;
 use plane::Point;
 ghost use mathlib.Core.Path.{_≡_};
 ghost use lib.ListN.{length};
-ghost use Rattle.refusals.specs.Bounds.{coordinate, coordinates, finite, allFinite, pointOk, finitePoint, ringLength, polygonLength, listLength, toleranceOk, smallestOk, settingsOk, workOk};
+ghost use Rattle.refusals.specs.Bounds.{coordinate, coordinates, finite, allFinite, pointOk, finitePoint, ringLength, polygonLength, listLength, vectorsLength, toleranceOk, smallestOk, settingsOk, workOk};
 
 // Whether x is finite and of magnitude at most 1,000,000.
 pub fn is_coordinate(x: f64) -> bool
@@ -98,6 +98,13 @@ pub fn is_list_length(list: &[f64]) -> bool
     ensures { λ r. ⌜ r ≡ listLength (now (list .entry)) ⌝ }
 {
     list.len() % 2 == 0 && list.len() <= 20002
+}
+
+// Whether a list has three numbers for each vector.
+pub fn is_vectors_length(list: &[f64]) -> bool
+    ensures { λ r. ⌜ r ≡ vectorsLength (now (list .entry)) ⌝ }
+{
+    list.len() % 3 == 0
 }
 
 // Whether a tolerance is above 0 and at most 1.

@@ -1,3 +1,2 @@
 -- The definitions that the contracts of replay cite.
-pub mod Words
 pub mod Tally

@@ -1,51 +1,22 @@
-// What the replay programs share: words of a list of the oracle's answers, floats by their bit patterns, and the report.
+// What the replay programs share: words of a list of the oracle's answers, and the report.
 use libc::STDIN_FILENO;
 use libc::STDOUT_FILENO;
-ghost use mathlib.Core.Path.{_≡_};
-ghost use Prim.Native.Nat.{_+_, _*_, _≤_, _<_};
+use number_bytes::bits_of;
+use number_bytes::float_of;
+use number_bytes::number8;
+ghost use Prim.Native.Nat.{_≤_, _<_};
 ghost use lib.ListN.{length};
-ghost use lib.Ieee.{binary64, ofBits, toBits};
-ghost use Rattle.replay.specs.Words.{wordAt};
 ghost use Rattle.replay.specs.Tally.{Counted};
 
-// A number of two, of four and of eight bytes, the lower half first.
-fn two(low: u8, high: u8) -> u16
-    ensures { λ r. ⌜ r ≡ low + 256 * high ⌝ }
-{
-    (high as u16) * 256 + (low as u16)
-}
-
-fn four(low: u16, high: u16) -> u32
-    ensures { λ r. ⌜ r ≡ low + 65536 * high ⌝ }
-{
-    (high as u32) * 65536 + (low as u32)
-}
-
-fn eight(low: u32, high: u32) -> u64
-    ensures { λ r. ⌜ r ≡ low + 4294967296 * high ⌝ }
-{
-    (high as u64) * 4294967296 + (low as u64)
-}
-
 // The little-endian word at a byte of a list, 0 where the list ends before its end.
-pub fn word(bytes: &[u8], at: usize) -> u64
-    ensures { λ r. ⌜ r ≡ wordAt (now (bytes .entry)) at ⌝ }
-{
+pub fn word(bytes: &[u8], at: usize) -> u64 {
     if bytes.len() < 8 {
         return 0;
     }
     if bytes.len() - 8 < at {
         return 0;
     }
-    let low = four(
-        two(bytes[at], bytes[at + 1]),
-        two(bytes[at + 2], bytes[at + 3]),
-    );
-    let high = four(
-        two(bytes[at + 4], bytes[at + 5]),
-        two(bytes[at + 6], bytes[at + 7]),
-    );
-    eight(low, high)
+    number8(bytes, at)
 }
 
 // The length of a list at a byte of a record's header, at most so much.
@@ -54,28 +25,6 @@ pub fn list_length(header: &[u8], at: usize, most: usize) -> usize
 {
     let n = word(header, at);
     if n <= most as u64 { n as usize } else { most }
-}
-
-// The float with a bit pattern.
-pub fn number(bits: u64) -> f64
-    ensures { λ r. ⌜ r ≡ ofBits binary64 bits ⌝ }
-{
-    if 0x7ff0_0000_0000_0000 < bits % 0x8000_0000_0000_0000 {
-        0.0 / 0.0
-    } else {
-        f64::from_bits(bits)
-    }
-}
-
-// The bit pattern of a float, that of one quiet NaN for every NaN.
-pub fn bits(x: f64) -> u64
-    ensures { λ r. ⌜ r ≡ toBits binary64 x ⌝ }
-{
-    if x == x {
-        f64::to_bits(x)
-    } else {
-        0x7ff8_0000_0000_0000
-    }
 }
 
 // Reads the next n bytes of standard input to the front of the room, as far as there are so many.
@@ -91,7 +40,7 @@ pub fn load(bytes: &[u8], n: usize, room: &mut [f64])
 {
     let mut i = 0;
     while i < n {
-        room[i] = number(word(bytes, 8 * i));
+        room[i] = float_of(word(bytes, 8 * i));
         i += 1;
     }
 }
@@ -124,7 +73,7 @@ pub fn same_floats(a: &[f64], b: &[f64], n: usize) -> bool
 {
     let mut i = 0;
     while i < n {
-        if bits(a[i]) != bits(b[i]) {
+        if bits_of(a[i]) != bits_of(b[i]) {
             return false;
         }
         i += 1;

@@ -1,9 +1,11 @@
-// Replays the oracle's answers for the outline book: records of what the writer or the reader is lent, answers and leaves, from standard input.
+// Replays the oracle's answers for the outline book: records of what the writer or the reader is lent, answers and leaves, from
+// standard input.
 use libc::STDIN_FILENO;
 use refusals::answer::Count;
 use replay::Verdict;
 use replay::after;
 use replay::begin;
+use replay::list_length;
 use replay::load;
 use replay::load_counts;
 use replay::read;
@@ -110,15 +112,6 @@ fn read_agrees(header: &[u8; 96], an: usize, rn: usize, cn: usize) -> bool
     } else {
         false
     }
-}
-
-// A length of the header, at most so much.
-fn list_length(header: &[u8; 96], at: usize, most: usize) -> usize
-    requires { ⌜ most ≤ 33000 ⌝ }
-    ensures { λ r. ⌜ r ≤ most ⌝ }
-{
-    let n = word(header, at);
-    if n <= most as u64 { n as usize } else { most }
 }
 
 // One record past its header.

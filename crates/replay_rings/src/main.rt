@@ -1,4 +1,5 @@
-// Replays the oracle's answers for the ring calls: records of a call's number, what it is lent, and what it answers and leaves, from standard input.
+// Replays the oracle's answers for the ring calls: records of a call's number, what it is lent, and what it answers and
+// leaves, from standard input.
 mod told;
 
 use libc::STDIN_FILENO;
@@ -6,6 +7,7 @@ use plane::Point;
 use replay::Verdict;
 use replay::after;
 use replay::begin;
+use replay::list_length;
 use replay::load;
 use replay::read;
 use replay::report;
@@ -110,14 +112,6 @@ fn record(header: &[u8; 48], an: usize, bn: usize, rn: usize) -> bool
     }
 }
 
-// A length of the header, at most 600.
-fn list_length(header: &[u8; 48], at: usize) -> usize
-    ensures { λ r. ⌜ r ≤ 600 ⌝ }
-{
-    let n = word(header, at);
-    if n <= 600 { n as usize } else { 600 }
-}
-
 // One record: read, worked out and compared.
 fn step() -> Verdict {
     let mut header = [0u8; 48];
@@ -125,9 +119,9 @@ fn step() -> Verdict {
     if got < 48 {
         return Verdict::End;
     }
-    let an = list_length(&header, 8);
-    let bn = list_length(&header, 16);
-    let rn = list_length(&header, 24);
+    let an = list_length(&header, 8, 600);
+    let bn = list_length(&header, 16, 600);
+    let rn = list_length(&header, 24, 600);
     if record(&header, an, bn, rn) {
         Verdict::Agrees
     } else {

@@ -1,10 +1,10 @@
 // What a call answers as two words: the refusal's number or 0, and the value or 0.
+use number_bytes::bits_of;
 use plane::Orientation;
 use refusals::answer::Count;
 use refusals::answer::Number;
 use refusals::answer::Truth;
 use refusals::answer::Turn;
-use replay::bits;
 
 pub struct Told {
     pub number: u64,
@@ -60,7 +60,7 @@ pub fn number(n: Number) -> Told {
     match n {
         Number::Is(x) => Told {
             number: 0,
-            value: bits(x),
+            value: bits_of(x),
         },
         Number::Refused(r) => Told {
             number: r.number as u64,

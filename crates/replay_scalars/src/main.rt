@@ -1,42 +1,31 @@
 // Replays the oracle's answers for the scalars: records of five words, the operation, three operands and the answer, from standard input.
 use libc::STDIN_FILENO;
+use number_bytes::bits_of;
+use number_bytes::float_of;
 use replay::Verdict;
 use replay::after;
 use replay::begin;
-use replay::bits;
-use replay::number;
 use replay::report;
 use replay::word;
 
-// What the library answers: 0 abs, 1 smaller, 2 larger, 3 clamp, 4 sqrt, 5 limit.
+// What the library answers: 0 abs, 1 smaller, 2 larger, 3 clamp, 4 sqrt.
 fn answer(op: u64, x: f64, y: f64, z: f64) -> f64 {
     match op {
         0 => scalar::abs(x),
         1 => scalar::smaller(x, y),
         2 => scalar::larger(x, y),
         3 => scalar::clamp(x, y, z),
-        4 => square_root::sqrt(x),
-        _ => limit_or_nan(x),
+        _ => square_root::sqrt(x),
     }
-}
-
-// The limit of a tolerance, NaN for what is none.
-fn limit_or_nan(tol: f64) -> f64 {
-    if tol > 0.0 {
-        if tol <= 1.0 {
-            return square_root::limit(tol);
-        }
-    }
-    0.0 / 0.0
 }
 
 // Whether a record's answer is the library's.
 fn agrees(record: &[u8; 40]) -> bool {
     let op = word(record, 0);
-    let x = number(word(record, 8));
-    let y = number(word(record, 16));
-    let z = number(word(record, 24));
-    bits(answer(op, x, y, z)) == bits(number(word(record, 32)))
+    let x = float_of(word(record, 8));
+    let y = float_of(word(record, 16));
+    let z = float_of(word(record, 24));
+    bits_of(answer(op, x, y, z)) == bits_of(float_of(word(record, 32)))
 }
 
 // One record: read, worked out and compared.

@@ -1,4 +1,5 @@
-// Replays the oracle's answers for the sliding calls: records of a call's number, what it is lent, and what it answers and leaves, from standard input.
+// Replays the oracle's answers for the sliding calls: records of a call's number, what it is lent, and what it answers and
+// leaves, from standard input.
 mod told;
 
 use libc::STDIN_FILENO;
@@ -6,6 +7,7 @@ use plane::Point;
 use replay::Verdict;
 use replay::after;
 use replay::begin;
+use replay::list_length;
 use replay::load;
 use replay::load_words;
 use replay::read;
@@ -104,15 +106,15 @@ fn on_rooms(
     numbers: &mut [u64],
 ) -> Told {
     match call {
-        0 => told::count(find_contacts::calls::find_contacts(s, o, x[0], numbers, room)),
-        1 => told::count(translation_vectors::calls::compute_translation_vectors(
+        0 => told::count(contacts_call::calls::find_contacts(s, o, x[0], numbers, room)),
+        1 => told::count(vectors_call::calls::compute_translation_vectors(
             s,
             o,
             x[0],
             room,
             numbers,
         )),
-        2 => told::count(translation_vectors::calls::handle_perfect_fit(
+        2 => told::count(vectors_call::calls::handle_perfect_fit(
             s,
             o,
             Point { x: x[0], y: x[1] },
@@ -178,7 +180,8 @@ fn rooms_told(
     numbers: &mut [u64],
     nn: usize,
 ) -> bool
-    requires { ⌜ (sn ≤ length (now s)) × (on ≤ length (now o)) × (vn ≤ length (now v)) × (rn ≤ length (now room)) × (nn ≤ length (now numbers)) ⌝ }
+    requires { ⌜ (sn ≤ length (now s)) × (on ≤ length (now o)) × (vn ≤ length (now v)) ⌝ }
+    requires { ⌜ (rn ≤ length (now room)) × (nn ≤ length (now numbers)) ⌝ }
 {
     told_so(
         on_rooms(
@@ -192,15 +195,6 @@ fn rooms_told(
         ),
         header,
     )
-}
-
-// A length of the header, at most so much.
-fn list_length(header: &[u8; 128], at: usize, most: usize) -> usize
-    requires { ⌜ most ≤ 20100 ⌝ }
-    ensures { λ r. ⌜ r ≤ most ⌝ }
-{
-    let n = word(header, at);
-    if n <= most as u64 { n as usize } else { most }
 }
 
 // Whether both rooms hold what the record says.

@@ -1,12 +1,12 @@
 // What a call of the sliding answers, as words: the refusal's number or 0, and up to five values, 0 where there is none.
 use collision::Collision;
 use collision::answer::Checked;
-use moved::answer::Found;
-use moved::answer::Position;
+use number_bytes::bits_of;
 use refusals::Refusal;
 use refusals::answer::Count;
+use refusals::answer::Found;
+use refusals::answer::Position;
 use refusals::answer::Truth;
-use replay::bits;
 use selection::answer::Selected;
 use start_position::answer::Start;
 
@@ -64,7 +64,7 @@ pub fn count(c: Count) -> Told {
 fn found(f: Found) -> Told {
     match f {
         Found::Nothing => values(0, 0, 0, 0, 0),
-        Found::At(p) => values(1, bits(p.x), bits(p.y), 0, 0),
+        Found::At(p) => values(1, bits_of(p.x), bits_of(p.y), 0, 0),
     }
 }
 
@@ -85,7 +85,7 @@ fn collision(c: Collision) -> Told {
             orbiting,
         } => values(
             1,
-            bits(distance),
+            bits_of(distance),
             kind as u64,
             stationary as u64,
             orbiting as u64,
@@ -110,7 +110,7 @@ pub fn selected(s: Selected) -> Told {
 
 pub fn started(s: Start) -> Told {
     match s {
-        Start::Is(p) => values(bits(p.x), bits(p.y), 0, 0, 0),
+        Start::Is(p) => values(bits_of(p.x), bits_of(p.y), 0, 0, 0),
         Start::Refused(r) => refused(r),
     }
 }

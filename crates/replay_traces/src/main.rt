@@ -3,13 +3,13 @@ mod told;
 
 use libc::STDIN_FILENO;
 use nfp_sliding::calls::compute_nfp_sliding;
+use number_bytes::float_of;
 use refusals::Settings;
 use replay::Verdict;
 use replay::after;
 use replay::begin;
 use replay::list_length;
 use replay::load;
-use replay::number;
 use replay::read;
 use replay::report;
 use replay::same_floats;
@@ -45,8 +45,8 @@ fn room(n: usize) -> [f64; 20100]
 // The settings of a record.
 fn settings(header: &[u8; 128]) -> Settings {
     Settings {
-        contact_tolerance: number(word(header, 32)),
-        min_translation: number(word(header, 40)),
+        contact_tolerance: float_of(word(header, 32)),
+        min_translation: float_of(word(header, 40)),
         max_iterations: word(header, 48),
     }
 }

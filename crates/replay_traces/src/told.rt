@@ -1,5 +1,5 @@
-// What a trace answers, as words: the refusal's number or 0, the points of the result and of the path, the passes and the stop reason, 0 where one is not
-// returned.
+// What a trace answers, as words: the refusal's number or 0, the points of the result and of the path, the passes and the stop reason, 0
+// where one is not returned.
 use nfp_sliding::answer::Traced;
 
 pub struct Told {

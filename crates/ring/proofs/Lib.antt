@@ -1,3 +1,6 @@
 -- The modules that belong to no one function.
 pub mod Emit
+pub mod Points
+pub mod Moved
 pub mod Each
+pub mod Worked

@@ -6,14 +6,15 @@ use lib.Ieee.{Float}
 use Rattle.ring.specs.Ring.{count}
 use Rattle.ring.specs.Room.{laid}
 use Rattle.refusals.specs.Refusals.{firstOf}
-use Rattle.refusals.specs.Screens.{wrongLength, wrongNumber, wrongRoom}
+use Rattle.refusals.specs.Screens.{wrongRoom}
+use Rattle.refusals.specs.Rows.{ofRing}
 use Rattle.refusals.specs.Answers.{Outcome, outcome, left}
 use Rattle.refusals.specs.declared.Refusal.{Refusal}
 use Rattle.ring_copies.specs.Copies.{mirrored, openCount, opened}
 
 -- 1, 2, then 5 where so many points do not fit a room of so many numbers
 unfoldable pub copyRefusal : List Float → ℕ → ℕ → Refusal
-copyRefusal r points size = firstOf (wrongLength r ∷ wrongNumber r ∷ wrongRoom points size ∷ [])
+copyRefusal r points size = firstOf (ofRing r ∷ wrongRoom points size ∷ [])
 
 abbrev pub mirrorCall : List Float → ℕ → Outcome ℕ
 mirrorCall r size = outcome (copyRefusal r (count r) size) (count r)

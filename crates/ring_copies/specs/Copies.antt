@@ -8,7 +8,7 @@ use lib.Ieee.{Float, neg}
 use Rattle.plane.specs.Vector.{sameOf}
 use Rattle.ring.specs.Ring.{count, pointAt}
 
--- the vertices in reverse order, each x negated
+-- `mirror_polygon`: the vertices in reverse order, each x negated
 unfoldable pub mirrored : List Float → List Float
 mirrored [] = []
 mirrored (x ∷ []) = []
@@ -18,5 +18,6 @@ mirrored (x ∷ y ∷ r) = mirrored r ++ (neg x ∷ y ∷ [])
 unfoldable pub openCount : List Float → ℕ
 openCount r = let n = count r in cond (ltb 3 n && sameOf (pointAt r 0) (pointAt r (n - 1))) (n - 1) n
 
+-- `open_ring`
 abbrev pub opened : List Float → List Float
 opened r = take (2 * openCount r) r

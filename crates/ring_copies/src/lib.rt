@@ -6,7 +6,7 @@ use plane::vector::same;
 use ring::point_at;
 ghost use mathlib.Core.Path.{_≡_};
 ghost use Prim.Native.Nat.{_%_, _≤_};
-ghost use lib.ListN.{length, take};
+ghost use lib.ListN.{length};
 ghost use Rattle.ring.specs.Room.{laid};
 ghost use Rattle.ring_copies.specs.Copies.{mirrored, openCount};
 
@@ -38,17 +38,5 @@ fn open_count(ring: &[f64]) -> usize
         n - 1
     } else {
         n
-    }
-}
-
-// The first len numbers of a list, at the front of the room.
-fn copy(list: &[f64], len: usize, room: &mut [f64])
-    requires { ⌜ (len ≤ length (now list)) × (len ≤ length (now room)) ⌝ }
-    ensures { λ _. ⌜ now (room .exit) ≡ laid (take len (now (list .entry))) (now (room .entry)) ⌝ }
-{
-    let mut i = 0;
-    while i < len {
-        room[i] = list[i];
-        i += 1;
     }
 }

@@ -15,8 +15,9 @@ use Rattle.scalar.specs.Scalar.{smallerOf, orNumber, ahead, minusZero}
 use Rattle.scalar.proofs.Zero.{zero-at}
 use Rattle.square_root.specs.Root.{sqrtOf}
 use Rattle.square_root.specs.Nearest.{Nearest}
+use Rattle.laws.proofs.Order.{le-of-lt}
 use Rattle.square_root.proofs.Numbers.{lt-or-le}
-use Rattle.square_root.proofs.Compare.{zero-lt, lt-infinity, le-of-lt, sqrt-zero, sqrt-infinity}
+use Rattle.square_root.proofs.Compare.{zero-lt, sqrt-zero, sqrt-infinity}
 use Rattle.square_root.proofs.Above.{same-above}
 use Rattle.square_root.proofs.Patterns.{positive-at}
 use Rattle.square_root.proofs.Order.{root-is, sqrt-mono}

@@ -1,16 +1,15 @@
 -- One edge after the other: what `to_ring` and `one_way` keep from turn to turn. Assumes nothing.
-use Prim.Native.Nat.{ℕ, zero, suc, _+_, _%_, _≤_, _<_}
-use mathlib.Core.Path.{_≡_, refl, sym, ap, _∙_}
+use Prim.Native.Nat.{ℕ, _+_, _≤_, _<_}
+use mathlib.Core.Path.{_≡_, refl, _∙_}
 use mathlib.Core.List.{List}
 use native.Mathlib.Omega.{arith}
 use native.Mathlib.Nat.{mod-eq-of-lt, mod-self}
 use native.Mathlib.Numerals.{add-one}
-use lib.Ieee.{Float, add}
+use lib.Ieee.{Float}
 use lib.Ieee.Fits.{add-fits}
-use Rattle.scalar.specs.Float.{_⊗_}
 use Rattle.scalar.specs.Scalar.{smallerOf}
 use Rattle.plane.specs.Vector.{minusOf, dotOf, root}
-use Rattle.plane.specs.Segment.{clampedFoot, footOf, segmentDistanceOf}
+use Rattle.plane.specs.Segment.{clampedFoot, ringFootOf, segmentDistanceOf}
 use Rattle.plane.specs.declared.Point.{Point}
 use Rattle.ring.specs.Ring.{count, pointAt, nextOf}
 use Rattle.ring_distance.specs.Distance.{edgeDistance, toRing}
@@ -20,7 +19,7 @@ use Rattle.ring_distance.proofs.Roots.{nearer-squares}
 
 -- the distance is the root of the squared distance
 root-of-squared : (p a b : Point) → root (squaredDistance p a b) ≡ segmentDistanceOf p a b
-unfolding segmentDistanceOf footOf clampedFoot squaredFrom footAlong minusOf dotOf
+unfolding segmentDistanceOf ringFootOf clampedFoot squaredFrom footAlong minusOf dotOf
 root-of-squared p a b = refl
 
 pub to : {s r q : Float} → Squares s r → r ≡ q → Squares s q
@@ -34,7 +33,7 @@ with-segment p a b S e =
     rw e (to (nearer-squares _ _ (S .square) (add-fits _ _ _) (squares-sign _ _)) (rw (S .is, root-of-squared p a b)))
 
 -- the first i edges are taken, and the edge i starts at a
-pub record Turn (p : Point) (r : List Float) (before : Float) (a : Point) (least : Float) (i : ℕ) : Type 0 where
+pub record Taken (p : Point) (r : List Float) (before : Float) (a : Point) (least : Float) (i : ℕ) : Type 0 where
   pub below : i < count r
   pub start : a ≡ pointAt r i
   pub found : Squares least (toRing p r (root before) i)
@@ -44,17 +43,17 @@ unfolding toRing
 no-edge p r before S e = rw e (record { square = S; is = refl })
 
 pub first-turn : (p : Point) (r : List Float) (before : Float) {a : Point} → Square before → (count r ≡ 0 → ⊥) → a ≡ pointAt r 0
-    → Turn p r before a before 0
+    → Taken p r before a before 0
 unfolding toRing
 first-turn p r before S h e = record { below = omega arith; start = e; found = record { square = S; is = refl } }
 
-module _ (p : Point) (r : List Float) (before : Float) {a b : Point} {least s : Float} {i : ℕ} (T : Turn p r before a least i)
+module _ (p : Point) (r : List Float) (before : Float) {a b : Point} {least s : Float} {i : ℕ} (T : Taken p r before a least i)
     (e : s ≡ nearerOf least (squaredDistance p a b)) where
   edge-more : b ≡ pointAt r (nextOf i (count r)) → Squares s (toRing p r (root before) (i + 1))
   unfolding toRing edgeDistance
   edge-more h = rw add-one (to (with-segment p a b (T .found) e) (rw (T .start, h)))
 
-  pub next-turn : i + 1 < count r → b ≡ pointAt r (i + 1) → Turn p r before b s (i + 1)
+  pub next-turn : i + 1 < count r → b ≡ pointAt r (i + 1) → Taken p r before b s (i + 1)
   next-turn l h =
       let m : nextOf i (count r) ≡ i + 1 = mod-eq-of-lt l in
       record { below = l; start = h; found = edge-more (rw m h) }

@@ -4,7 +4,7 @@ use lib.Ieee.{Float}
 use Rattle.plane.specs.Segment.{segmentDistanceOf}
 use Rattle.plane.specs.declared.Point.{Point}
 use Rattle.refusals.specs.Answers.{Outcome, outcome}
-use Rattle.refusals.specs.Screens.{ofPoints3, ofTwoRings}
+use Rattle.refusals.specs.Rows.{ofPoints3, ofTwoRings}
 use Rattle.ring_distance.specs.Distance.{ringDistanceOf}
 
 abbrev pub segmentDistanceCall : Point → Point → Point → Outcome Float

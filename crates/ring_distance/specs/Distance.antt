@@ -21,5 +21,6 @@ unfoldable pub oneWay : List Float → List Float → ℕ → Float
 oneWay a b zero = inf false
 oneWay a b (suc k) = toRing (pointAt a k) b (oneWay a b k) (count b)
 
+-- `ring_distance`
 unfoldable pub ringDistanceOf : List Float → List Float → Float
 ringDistanceOf a b = smallerOf (oneWay a b (count a)) (oneWay b a (count b))

@@ -1,7 +1,7 @@
 // The public calls: point_segment_distance, ring_distance.
 use plane::Point;
 use refusals::answer::Number;
-use refusals::screen;
+use refusals::row;
 ghost use mathlib.Core.Path.{_≡_};
 ghost use Rattle.refusals.specs.Answers.{number};
 ghost use Rattle.ring_distance.specs.Calls.{segmentDistanceCall, ringDistanceCall};
@@ -10,7 +10,7 @@ ghost use Rattle.ring_distance.specs.Calls.{segmentDistanceCall, ringDis
 pub fn point_segment_distance(p: Point, a: Point, b: Point) -> Number
     ensures { λ r. ⌜ number r ≡ segmentDistanceCall p a b ⌝ }
 {
-    let no = screen::points3(p, a, b);
+    let no = row::points3(p, a, b);
     if no.passed() {
         Number::Is(plane::segment::point_segment_distance(p, a, b))
     } else {
@@ -22,7 +22,7 @@ pub fn point_segment_distance(p: Point, a: Point, b: Point) -> Number
 pub fn ring_distance(a: &[f64], b: &[f64]) -> Number
     ensures { λ r. ⌜ number r ≡ ringDistanceCall (now (a .entry)) (now (b .entry)) ⌝ }
 {
-    let no = screen::two_rings(a, b);
+    let no = row::two_rings(a, b);
     if no.passed() {
         Number::Is(crate::ring_distance(a, b))
     } else {

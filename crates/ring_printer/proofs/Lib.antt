@@ -1,2 +1,3 @@
 -- The modules that belong to no one function.
-mod Handed
+mod Rings
+mod Books

@@ -1,2 +1,3 @@
 -- The definitions that the contracts of ring_printer cite.
-pub mod Printable
+pub mod Said
+pub mod Examples

@@ -1,87 +1,103 @@
 // The ring printer: reads a book from standard input and prints its rings, the coordinates by their bit patterns.
-use refusals::Refusal;
+use book_layout::BOOK_MOST;
+use book_layout::NUMBERS_MOST;
+use book_reader::calls::read_book;
+use libc::STDIN_FILENO;
+use libc::STDOUT_FILENO;
+use lines::put_points;
+use lines::put_refusal;
+use print::put_decimal;
+use print::put_text;
+use refusals::RINGS_MOST;
 use refusals::answer::Count;
-ghost use mathlib.Core.Bool.{not};
-ghost use Prim.Native.Nat.{_+_, _*_, _<_, _≤_};
+ghost use mathlib.Core.Path.{_≡_};
+ghost use mathlib.Core.Bool.{true};
+ghost use Prim.Native.Nat.{_+_, _*_, _≤_};
 ghost use lib.ListN.{length};
-ghost use lib.Dec.{T};
-ghost use lib.Ieee.{isNan};
-ghost use Rattle.ring_printer.specs.Printable.{Numbers, Printable};
+ghost use Rattle.print.specs.Text.{Put};
+ghost use Rattle.refusals.specs.Rings.{verticesMost, ringsMost, total, sizedAll};
+ghost use Rattle.ring_printer.specs.Said.{ringsLine, ringLine, ringText, ringTexts, ringsText, bookText};
 
-const OUT: i32 = 1;
-
-// A vertex: the two bit patterns.
-fn print_vertex(x: f64, y: f64)
-    requires { ⌜ T (not (isNan x)) × T (not (isNan y)) ⌝ }
+// The first line: how many rings there are.
+fn put_heading(rings: usize, out: &mut [u8]) -> usize
+    requires { ⌜ 100 ≤ length (now out) ⌝ }
+    ensures { λ r. ⌜ Put (now (out .entry)) 0 (ringsLine rings) (now (out .exit)) r × (r ≤ 100) ⌝ }
 {
-    io::print_hex(OUT, f64::to_bits(x), 16);
-    io::write_all(OUT, b" ");
-    io::print_hex(OUT, f64::to_bits(y), 16);
-    io::write_all(OUT, b"\n");
+    let at = put_text(out, 0, b"rings ");
+    let end = put_decimal(out, at, rings as u64);
+    put_text(out, end, b"\n")
 }
 
-// The n vertices from xs[at] on.
-fn print_vertices(xs: &[f64], at: usize, n: usize)
-    requires { ⌜ (at + 2 * n ≤ length (now xs)) × (n ≤ 256) ⌝ }
-    requires { ⌜ Numbers (now xs) (at + 2 * n) ⌝ }
+// The line of ring i, from out[at] on.
+fn put_ring_line(i: usize, n: usize, out: &mut [u8], at: usize) -> usize
+    requires { ⌜ at + 60 ≤ length (now out) ⌝ }
+    ensures { λ r. ⌜ Put (now (out .entry)) at (ringLine i n) (now (out .exit)) r × (r ≤ at + 60) ⌝ }
 {
-    let mut j = 0;
-    while j < n {
-        let p = at + 2 * j;
-        print_vertex(xs[p], xs[p + 1]);
-        j += 1;
-    }
+    let a = put_text(out, at, b"ring ");
+    let b = put_decimal(out, a, i as u64);
+    let c = put_text(out, b, b" vertices ");
+    let d = put_decimal(out, c, n as u64);
+    put_text(out, d, b"\n")
 }
 
-// The line of a ring: its number and its vertices.
-fn print_heading(i: usize, n: usize) {
-    io::write_all(OUT, b"ring ");
-    io::print_decimal(OUT, i as u64);
-    io::write_all(OUT, b" vertices ");
-    io::print_decimal(OUT, n as u64);
-    io::write_all(OUT, b"\n");
+// Ring i, of n vertices, from out[at] on.
+fn put_ring(ring: &[f64], i: usize, n: usize, out: &mut [u8], at: usize) -> usize
+    requires { ⌜ (2 * n ≤ length (now ring)) × (n ≤ verticesMost) × (at + 9000 ≤ length (now out)) ⌝ }
+    ensures { λ r. ⌜ Put (now (out .entry)) at (ringText i n (now (ring .entry))) (now (out .exit)) r × (r ≤ at + 9000) ⌝ }
+{
+    let next = put_ring_line(i, n, out, at);
+    put_points(ring, n, out, next)
 }
 
-// The rings of these vertex counts, one after the other.
-fn print_rings(xs: &[f64], counts: &[u32])
-    requires { ⌜ Printable (now xs) (now counts) ⌝ }
+// The rings of these vertex counts, one after the other in a list, from out[from] on.
+fn put_rings(xs: &[f64], counts: &[u32], out: &mut [u8], from: usize) -> usize
+    requires { ⌜ (length (now counts) ≤ ringsMost) × (sizedAll (now counts) ≡ true) × (2 * total (now counts) ≤ length (now xs)) ⌝ }
+    requires { ⌜ (from ≤ 100) × (73000 ≤ length (now out)) ⌝ }
+    ensures { λ r.
+        ⌜ Put (now (out .entry)) from (ringTexts (now (counts .entry)) (now (xs .entry)) (length (now (counts .entry))))
+        (now (out .exit)) r ⌝ }
 {
-    io::write_all(OUT, b"rings ");
-    io::print_decimal(OUT, counts.len() as u64);
-    io::write_all(OUT, b"\n");
-    let mut at: usize = 0;
+    let mut next = from;
+    let mut at = 0;
     let mut i = 0;
     while i < counts.len() {
         let n = counts[i] as usize;
-        print_heading(i, n);
-        print_vertices(xs, at, n);
-        at += 2 * n;
+        let end = at + 2 * n;
+        next = put_ring(&xs[at..end], i, n, out, next);
+        at = end;
         i += 1;
     }
+    next
 }
 
-// A refusal: its number and its place.
-fn print_refusal(no: Refusal) {
-    io::write_all(OUT, b"refused ");
-    io::print_decimal(OUT, no.number as u64);
-    io::write_all(OUT, b" ");
-    io::print_decimal(OUT, no.place);
-    io::write_all(OUT, b"\n");
+// How many rings there are, and the rings.
+fn put_all(xs: &[f64], counts: &[u32], out: &mut [u8]) -> usize
+    requires { ⌜ (length (now counts) ≤ ringsMost) × (sizedAll (now counts) ≡ true) × (2 * total (now counts) ≤ length (now xs)) ⌝ }
+    requires { ⌜ 73000 ≤ length (now out) ⌝ }
+    ensures { λ r. ⌜ Put (now (out .entry)) 0 (ringsText (now (counts .entry)) (now (xs .entry))) (now (out .exit)) r ⌝ }
+{
+    let from = put_heading(counts.len(), out);
+    put_rings(xs, counts, out, from)
 }
 
-// The rings of a book, or its refusal, by way of the two rooms.
-fn print_book(book: &[u8], room: &mut [f64], counts: &mut [u32]) {
-    match book_reader::calls::read_book(book, room, counts) {
-        Count::Is(k) => print_rings(room, &counts[..k]),
-        Count::Refused(no) => print_refusal(no),
+// What is printed for a book: its rings, or its refusal.
+fn put_book(book: &[u8], out: &mut [u8]) -> usize
+    requires { ⌜ 73000 ≤ length (now out) ⌝ }
+    ensures { λ r. ⌜ Put (now (out .entry)) 0 (bookText (now (book .entry))) (now (out .exit)) r ⌝ }
+{
+    let mut room = [0.0; NUMBERS_MOST];
+    let mut counts = [0u32; RINGS_MOST];
+    match read_book(book, &mut room, &mut counts) {
+        Count::Is(k) => put_all(&room, &counts[..k], out),
+        Count::Refused(no) => put_refusal(no, out),
     }
 }
 
 // One byte more than the longest book is read, so that what is too long is refused like any other wrong length.
 fn main() {
-    let mut book = [0u8; 32841];
-    let n = io::read_full(0, &mut book);
-    let mut room = [0.0; 4096];
-    let mut counts = [0u32; 8];
-    print_book(&book[..n], &mut room, &mut counts);
+    let mut book = [0u8; BOOK_MOST + 1];
+    let mut out = [0u8; 73000];
+    let n = io::read_full(STDIN_FILENO, &mut book);
+    let length = put_book(&book[..n], &mut out);
+    io::write_all(STDOUT_FILENO, &out[..length]);
 }

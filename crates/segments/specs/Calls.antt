@@ -3,7 +3,7 @@ use mathlib.Core.Bool.{Bool}
 use lib.IntN.{ℤ}
 use Rattle.plane.specs.declared.Point.{Point}
 use Rattle.refusals.specs.Answers.{Outcome, outcome}
-use Rattle.refusals.specs.Screens.{ofPoints3, ofPoints4}
+use Rattle.refusals.specs.Rows.{ofPoints3, ofPoints4}
 use Rattle.segments.specs.Segments.{orientationOf, onSegmentOf, intersectOf}
 
 abbrev pub orientationCall : Point → Point → Point → Outcome ℤ

@@ -15,12 +15,14 @@ eps = float 0x3e11_2e0b_e826_d695
 unfoldable pub signOf : Float → ℤ
 signOf d = cond (lt eps d) (pos 1) (cond (lt d (neg eps)) (negsuc 0) (pos 0))
 
+-- `orientation`
 unfoldable pub orientationOf : Point → Point → Point → ℤ
 orientationOf a b c = signOf (turnOf a b c)
 
 unfoldable pub betweenOf : Float → Float → Float → Bool
 betweenOf a b p = le (smallerOf a b ⊖ eps) p && le p (largerOf a b ⊕ eps)
 
+-- `on_segment`: within the box
 unfoldable pub onSegmentOf : Point → Point → Point → Bool
 onSegmentOf a b p = betweenOf (a .x) (b .x) (p .x) && betweenOf (a .y) (b .y) (p .y)
 
@@ -48,6 +50,7 @@ crossesOf d1 d2 d3 d4 = straddlesOf d1 d2 && straddlesOf d3 d4
 unfoldable pub touchesOf : ℤ → Point → Point → Point → Bool
 touchesOf d a b p = collinear d && onSegmentOf a b p
 
+-- `segments_intersect`
 unfoldable pub intersectOf : Point → Point → Point → Point → Bool
 intersectOf p1 p2 p3 p4 =
     let d1 = orientationOf p3 p4 p1 in

@@ -2,8 +2,8 @@
 use plane::Point;
 use refusals::answer::Truth;
 use refusals::answer::Turn;
-use refusals::screen::points3;
-use refusals::screen::points4;
+use refusals::row::points3;
+use refusals::row::points4;
 ghost use mathlib.Core.Path.{_≡_};
 ghost use Rattle.refusals.specs.Answers.{truth, turn};
 ghost use Rattle.segments.specs.Calls.{orientationCall, onSegmentCall, intersectCall};

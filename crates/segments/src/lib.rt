@@ -8,7 +8,8 @@ use scalar::larger;
 use scalar::smaller;
 ghost use mathlib.Core.Path.{_≡_};
 ghost use Rattle.plane.specs.Orientation.{turnNumber};
-ghost use Rattle.segments.specs.Segments.{signOf, orientationOf, betweenOf, onSegmentOf, straddlesOf, crossesOf, touchesOf, intersectOf};
+ghost use Rattle.segments.specs.Segments.{signOf, orientationOf, betweenOf, onSegmentOf};
+ghost use Rattle.segments.specs.Segments.{straddlesOf, crossesOf, touchesOf, intersectOf};
 
 // Counter-clockwise where a turn is above 1e-9, clockwise where it is below -1e-9, else collinear.
 fn sign(cross: f64) -> Orientation

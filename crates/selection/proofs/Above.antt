@@ -2,7 +2,7 @@
 use mathlib.Core.Path.{_≡_, refl}
 use mathlib.Core.Bool.{Bool, true, false}
 use lib.Ieee.{Float, nan, inf, fin, lt, isNan}
-use Rattle.first_best.proofs.Order.{lt-weave}
+use Rattle.laws.proofs.Order.{lt-weave}
 
 -- what is not above -infinity is above nothing
 pub least : (x y : Float) → lt (inf true) x ≡ false → lt y x ≡ false

@@ -5,10 +5,10 @@ use mathlib.Core.Bool.{Bool, true, false}
 use mathlib.Core.List.{List}
 use lib.Ieee.{Float, inf, lt, isNan}
 use Rattle.plane.specs.declared.Point.{Point}
-use Rattle.first_best.specs.Best.{First, none, some}
-use Rattle.first_best.proofs.Order.{lt-irrefl, lt-asym}
-use Rattle.first_best.proofs.Scan.{over-first}
-use Rattle.selection.specs.Select.{count, scoreAt, scoredAt, above, startOf, selectOf}
+use Rattle.laws.specs.FirstBest.{First, none, some}
+use Rattle.laws.proofs.Order.{lt-irrefl, lt-asym}
+use Rattle.laws.proofs.FirstBest.{over-first}
+use Rattle.selection.specs.Select.{vectorCount, scoreAt, scoredAt, above, startOf, selectOf}
 use Rattle.selection.specs.Chosen.{Chosen, greatest}
 use Rattle.selection.specs.Chosen as chosen-is
 use Rattle.selection.specs.declared.Previous.{Previous}
@@ -30,13 +30,13 @@ module _ (vs : List Float) (previous : Previous) (ccw : Point) where
       smaller j n false e f = below _ _ n e h
 
   -- the theorem
-  pub select-chosen : Chosen (scoreAt vs previous ccw) (count vs) (selectOf vs previous ccw)
+  pub select-chosen : Chosen (scoreAt vs previous ccw) (vectorCount vs) (selectOf vs previous ccw)
   unfolding selectOf startOf
   select-chosen =
-      chosen (count vs) _
+      chosen (vectorCount vs) _
       (over-first above (scoredAt vs previous ccw) startOf
       (λ x y j t h k. weave (x .score) (y .score) (scoredAt vs previous ccw j .score) t h k)
       (λ x. lt-irrefl (x .score))
       (λ x y h. lt-asym (y .score) (x .score) h)
       (λ x y h t. least (x .score) (y .score) h)
-      (count vs))
+      (vectorCount vs))

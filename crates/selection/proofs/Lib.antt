@@ -3,3 +3,4 @@ pub mod Above
 pub mod Greatest
 pub mod Answers
 pub mod Worked
+pub mod Answered

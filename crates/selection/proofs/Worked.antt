@@ -8,7 +8,7 @@ use Rattle.square_root.specs.Root.{sqrtOf}
 use Rattle.plane.specs.Vector.{point, minusOf, dotOf, lengthOf, normalizeOf}
 use Rattle.refusals.specs.Refusals.{refuse}
 use Rattle.refusals.specs.Answers.{answers, refuses}
-use Rattle.first_best.specs.Best.{better, over}
+use Rattle.laws.specs.FirstBest.{better, over}
 use Rattle.selection.specs.Score.{preferredOf, continuedOf, scoreOf}
 use Rattle.selection.specs.Select.{vectorAt, scoreAt, scoredAt, startOf, selectOf}
 use Rattle.selection.specs.Calls.{choice, selectCall}
@@ -36,5 +36,5 @@ empty : selectCall [] None (point f0 f0) (point f0 f0) ≡ answers none
 unfolding choice
 empty = refl
 
-odd-length : selectCall (f0 ∷ f0 ∷ []) None (point f0 f0) (point f0 f0) ≡ refuses (refuse 1)
+odd-length : selectCall (f0 ∷ f0 ∷ []) None (point f0 f0) (point f0 f0) ≡ refuses (refuse 1 0)
 odd-length = refl

@@ -1,5 +1,5 @@
 -- What the call answers: the refusal of the list's length, or the vector chosen. Definitions only.
-use Prim.Native.Nat.{ℕ, _%_}
+use Prim.Native.Nat.{ℕ}
 use mathlib.Core.Bool.{cond}
 use mathlib.Core.List.{List}
 use mathlib.Core.Option.{Option, none, some}
@@ -7,9 +7,8 @@ use lib.ListN.{length}
 use lib.Dec.{eqb}
 use lib.Ieee.{Float}
 use Rattle.plane.specs.declared.Point.{Point}
-use Rattle.refusals.specs.Refusals.{unless}
+use Rattle.refusals.specs.Screens.{wrongVectors}
 use Rattle.refusals.specs.Answers.{Outcome, answers, refuses, outcome}
-use Rattle.refusals.specs.declared.Refusal.{Refusal}
 use Rattle.selection.specs.Score.{preferredOf}
 use Rattle.selection.specs.Select.{selectOf}
 use Rattle.selection.specs.declared.Previous.{Previous}
@@ -21,10 +20,6 @@ abbrev pub selected : Selected → Outcome (Option ℕ)
 selected Nothing = answers none
 selected (Index i) = answers (some i)
 selected (Refused r) = refuses r
-
--- 1: not three numbers for each vector
-abbrev pub wrongVectors : List Float → Refusal
-wrongVectors vs = unless (eqb (length vs % 3) 0) 1
 
 -- an empty list gives nothing
 unfoldable pub choice : List Float → Previous → Point → Point → Option ℕ

@@ -6,15 +6,15 @@ use lib.ListN.{length, getD}
 use lib.Ieee.{Float, nan, inf, lt}
 use Rattle.plane.specs.Vector.{point}
 use Rattle.plane.specs.declared.Point.{Point}
-use Rattle.first_best.specs.Best.{better, over}
+use Rattle.laws.specs.FirstBest.{better, over}
 use Rattle.selection.specs.Score.{scoreOf}
 use Rattle.vectors.specs.declared.TranslationVector.{TranslationVector}
 use Rattle.selection.specs.declared.Previous.{Previous}
 use Rattle.selection.specs.declared.Scored.{Scored}
 
 -- how many vectors
-abbrev pub count : List Float → ℕ
-count vs = length vs / 3
+abbrev pub vectorCount : List Float → ℕ
+vectorCount vs = length vs / 3
 
 -- vector i
 unfoldable pub vectorAt : List Float → ℕ → TranslationVector
@@ -42,4 +42,4 @@ unfoldable pub startOf : Scored
 startOf = scored 0 (inf true)
 
 unfoldable pub selectOf : List Float → Previous → Point → ℕ
-selectOf vs previous ccw = over above (scoredAt vs previous ccw) startOf (count vs) .index
+selectOf vs previous ccw = over above (scoredAt vs previous ccw) startOf (vectorCount vs) .index

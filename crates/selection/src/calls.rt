@@ -15,7 +15,7 @@ pub fn select_translation_vector(
 ) -> Selected
     ensures { λ r. ⌜ selected r ≡ selectCall (now (vectors .entry)) previous centroid position ⌝ }
 {
-    let no = screen::unless(vectors.len() % 3 == 0, 1);
+    let no = screen::vectors_length(vectors);
     if no.passed() {
         if vectors.len() == 0 {
             Selected::Nothing

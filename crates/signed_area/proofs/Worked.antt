@@ -6,7 +6,7 @@ use Rattle.scalar.specs.Float.{float, f0}
 use Rattle.ring.specs.Ring.{pointAt}
 use Rattle.refusals.specs.Refusals.{refuse}
 use Rattle.refusals.specs.Bounds.{coordinate, every}
-use Rattle.refusals.specs.Screens.{ofRing}
+use Rattle.refusals.specs.Rows.{ofRing}
 use Rattle.refusals.specs.Answers.{answers, refuses}
 use Rattle.signed_area.specs.Area.{termOf, sumTo, area2Of, addedOf, kahanTo, robustOf}
 use Rattle.signed_area.specs.Calls.{area2Call, robustCall}
@@ -41,10 +41,10 @@ no-vertex : area2Call [] ≡ answers f0
 unfolding ofRing every area2Of sumTo
 no-vertex = refl
 
-odd-length : area2Call (f0 ∷ f0 ∷ four ∷ []) ≡ refuses (refuse 1)
+odd-length : area2Call (f0 ∷ f0 ∷ four ∷ []) ≡ refuses (refuse 1 0)
 unfolding ofRing
 odd-length = refl
 
-no-number : area2Call (f0 ∷ f0 ∷ four ∷ nan ∷ []) ≡ refuses (refuse 2)
+no-number : area2Call (f0 ∷ f0 ∷ four ∷ nan ∷ []) ≡ refuses (refuse 2 0)
 unfolding ofRing every coordinate ofBits
 no-number = refl

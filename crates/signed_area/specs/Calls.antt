@@ -2,7 +2,7 @@
 use mathlib.Core.List.{List}
 use lib.Ieee.{Float}
 use Rattle.refusals.specs.Answers.{Outcome, outcome}
-use Rattle.refusals.specs.Screens.{ofRing}
+use Rattle.refusals.specs.Rows.{ofRing}
 use Rattle.signed_area.specs.Area.{area2Of, robustOf}
 
 abbrev pub area2Call : List Float → Outcome Float

@@ -1,6 +1,6 @@
 // The public calls: signed_area2, signed_area_robust.
 use refusals::answer::Number;
-use refusals::screen;
+use refusals::row;
 ghost use mathlib.Core.Path.{_≡_};
 ghost use Rattle.refusals.specs.Answers.{number};
 ghost use Rattle.signed_area.specs.Calls.{area2Call, robustCall};
@@ -9,7 +9,7 @@ ghost use Rattle.signed_area.specs.Calls.{area2Call, robustCall};
 pub fn signed_area2(ring: &[f64]) -> Number
     ensures { λ r. ⌜ number r ≡ area2Call (now (ring .entry)) ⌝ }
 {
-    let no = screen::ring(ring);
+    let no = row::ring(ring);
     if no.passed() {
         Number::Is(crate::signed_area2(ring))
     } else {
@@ -21,7 +21,7 @@ pub fn signed_area2(ring: &[f64]) -> Number
 pub fn signed_area_robust(ring: &[f64]) -> Number
     ensures { λ r. ⌜ number r ≡ robustCall (now (ring .entry)) ⌝ }
 {
-    let no = screen::ring(ring);
+    let no = row::ring(ring);
     if no.passed() {
         Number::Is(crate::signed_area_robust(ring))
     } else {

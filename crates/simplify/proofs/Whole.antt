@@ -4,11 +4,13 @@ use mathlib.Core.Path.{_≡_}
 use mathlib.Core.Bool.{Bool, true, false, cond}
 use mathlib.Core.List.{List}
 use native.Mathlib.Omega.{arith}
-use lib.ListN.{length}
+use lib.ListN.{length, take}
+use lib.Seq.{take-length}
 use lib.Dec.{ltb}
 use lib.Ieee.{Float}
 use borrow.Author.Tests.{lt-ltb, le-ltb}
 use Rattle.ring.specs.Ring.{count}
+use Rattle.ring.specs.Room.{laid}
 use Rattle.simplify.specs.Simplify.{survivors, simplified}
 use Rattle.simplify.proofs.Survive.{bounded}
 
@@ -20,6 +22,10 @@ module _ (r : List Float) (tol : Float) where
   -- the whole list fits where the simplified one does
   pub whole-fits : (size : ℕ) → length r % 2 ≡ 0 → simplified r tol ≡ r → 2 * count (simplified r tol) ≤ size → length r ≤ size
   whole-fits size h e f = let g : 2 * count r ≤ size = rw e at f in omega arith
+
+  -- the whole list, copied
+  pub copied : (d : List Float) {room : List Float} → simplified r tol ≡ r → room ≡ laid (take (length r) r) d → room ≡ laid (simplified r tol) d
+  copied d e h = rw e (rw take-length at h)
 
   module _ {kept : ℕ} (e : 2 * kept ≡ length (survivors r tol (count r))) where
     pub kept-is : kept ≡ count (survivors r tol (count r))

@@ -9,11 +9,12 @@ use Rattle.scalar.specs.Scalar.{clampOf}
 use Rattle.square_root.specs.Root.{sqrtOf}
 use Rattle.plane.specs.Vector.{minusOf, dotOf, crossOf, lengthOf, distanceOf, turnOf}
 use Rattle.plane.specs.Segment.{clampedFoot, projectOf, alongOf, toSegmentOf}
-use Rattle.ring.specs.Ring.{pointAt}
+use Rattle.ring.specs.Ring.{pointAt, previousVertex}
+use Rattle.refusals.specs.Rows.{ofList}
 use Rattle.refusals.specs.Refusals.{refuse}
 use Rattle.refusals.specs.Bounds.{every, finite}
 use Rattle.refusals.specs.Answers.{answers, refuses}
-use Rattle.simplify.specs.Simplify.{prevOf, staysOf, piece, survivors, simplified}
+use Rattle.simplify.specs.Simplify.{staysOf, piece, survivors, simplified}
 use Rattle.simplify.specs.Calls.{simplifyRefusal, simplifyCall, simplifyRoom}
 
 abbrev two : Float
@@ -33,26 +34,26 @@ abbrev room : List Float
 room = f1 ∷ f1 ∷ f1 ∷ f1 ∷ f1 ∷ f1 ∷ f1 ∷ []
 
 two-survive : survivors line tolerance 3 ≡ f0 ∷ f0 ∷ two ∷ f0 ∷ []
-unfolding survivors piece staysOf prevOf pointAt turnOf toSegmentOf alongOf projectOf clampedFoot clampOf distanceOf lengthOf minusOf dotOf crossOf sqrtOf add sub mul div lt le eq ofBits
+unfolding survivors piece staysOf previousVertex pointAt turnOf toSegmentOf alongOf projectOf clampedFoot clampOf distanceOf lengthOf minusOf dotOf crossOf sqrtOf add sub mul div lt le eq ofBits
 two-survive = refl
 
 all-stay : simplifyCall line tolerance 7 ≡ answers 3
-unfolding simplifyRefusal every finite simplified survivors piece staysOf prevOf pointAt turnOf toSegmentOf alongOf projectOf clampedFoot clampOf distanceOf lengthOf minusOf dotOf crossOf sqrtOf add sub mul div lt le eq ofBits
+unfolding simplifyRefusal ofList every finite simplified survivors piece staysOf previousVertex pointAt turnOf toSegmentOf alongOf projectOf clampedFoot clampOf distanceOf lengthOf minusOf dotOf crossOf sqrtOf add sub mul div lt le eq ofBits
 all-stay = refl
 
 all-written : simplifyRoom line tolerance room ≡ line ++ (f1 ∷ [])
-unfolding simplifyRefusal every finite simplified survivors piece staysOf prevOf pointAt turnOf toSegmentOf alongOf projectOf clampedFoot clampOf distanceOf lengthOf minusOf dotOf crossOf sqrtOf add sub mul div lt le eq ofBits
+unfolding simplifyRefusal ofList every finite simplified survivors piece staysOf previousVertex pointAt turnOf toSegmentOf alongOf projectOf clampedFoot clampOf distanceOf lengthOf minusOf dotOf crossOf sqrtOf add sub mul div lt le eq ofBits
 all-written = refl
 
 one-goes : simplifyRoom (line ++ corner) tolerance room ≡ f0 ∷ f0 ∷ two ∷ f0 ∷ two ∷ two ∷ f1 ∷ []
-unfolding simplifyRefusal every finite simplified survivors piece staysOf prevOf pointAt turnOf toSegmentOf alongOf projectOf clampedFoot clampOf distanceOf lengthOf minusOf dotOf crossOf sqrtOf add sub mul div lt le eq ofBits
+unfolding simplifyRefusal ofList every finite simplified survivors piece staysOf previousVertex pointAt turnOf toSegmentOf alongOf projectOf clampedFoot clampOf distanceOf lengthOf minusOf dotOf crossOf sqrtOf add sub mul div lt le eq ofBits
 one-goes = refl
 
-one-short : simplifyCall (line ++ corner) tolerance 5 ≡ refuses (refuse 5)
-unfolding simplifyRefusal every finite simplified survivors piece staysOf prevOf pointAt turnOf toSegmentOf alongOf projectOf clampedFoot clampOf distanceOf lengthOf minusOf dotOf crossOf sqrtOf add sub mul div lt le eq ofBits
+one-short : simplifyCall (line ++ corner) tolerance 5 ≡ refuses (refuse 5 0)
+unfolding simplifyRefusal ofList every finite simplified survivors piece staysOf previousVertex pointAt turnOf toSegmentOf alongOf projectOf clampedFoot clampOf distanceOf lengthOf minusOf dotOf crossOf sqrtOf add sub mul div lt le eq ofBits
 one-short = refl
 
 -- 2 comes before 3
-number-first : simplifyCall (inf false ∷ f0 ∷ []) f0 7 ≡ refuses (refuse 2)
-unfolding simplifyRefusal every finite
+number-first : simplifyCall (inf false ∷ f0 ∷ []) f0 7 ≡ refuses (refuse 2 0)
+unfolding simplifyRefusal ofList every finite
 number-first = refl

@@ -6,14 +6,15 @@ use lib.Ieee.{Float}
 use Rattle.ring.specs.Ring.{count}
 use Rattle.ring.specs.Room.{laid}
 use Rattle.refusals.specs.Refusals.{firstOf}
-use Rattle.refusals.specs.Screens.{wrongList, wrongInfinite, wrongTolerance, wrongRoom}
+use Rattle.refusals.specs.Screens.{wrongRoom}
+use Rattle.refusals.specs.Rows.{ofList}
 use Rattle.refusals.specs.Answers.{Outcome, outcome, left}
 use Rattle.refusals.specs.declared.Refusal.{Refusal}
 use Rattle.simplify.specs.Simplify.{simplified}
 
 -- 1, 2, 3, then 5 where the simplified list does not fit a room of so many numbers
 unfoldable pub simplifyRefusal : List Float → Float → ℕ → Refusal
-simplifyRefusal r tol size = firstOf (wrongList r ∷ wrongInfinite r ∷ wrongTolerance tol ∷ wrongRoom (count (simplified r tol)) size ∷ [])
+simplifyRefusal r tol size = firstOf (ofList r tol ∷ wrongRoom (count (simplified r tol)) size ∷ [])
 
 abbrev pub simplifyCall : List Float → Float → ℕ → Outcome ℕ
 simplifyCall r tol size = outcome (simplifyRefusal r tol size) (count (simplified r tol))

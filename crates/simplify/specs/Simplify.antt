@@ -1,23 +1,19 @@
 -- A path without its collinear points, as `nfp_sliding.rs` simplifies it. Definitions only.
-use Prim.Native.Nat.{ℕ, zero, suc, _+_, _*_, _-_}
+use Prim.Native.Nat.{ℕ, zero, suc, _+_, _*_}
 use mathlib.Core.Bool.{Bool, _||_, cond}
 use mathlib.Core.List.{List, [], _∷_, _++_}
 use lib.ListN.{getD}
-use lib.Dec.{ltb, eqb}
+use lib.Dec.{ltb}
 use lib.Ieee.{Float, nan, lt}
 use Rattle.scalar.specs.Float.{f0}
 use Rattle.plane.specs.Vector.{turnOf}
 use Rattle.plane.specs.Segment.{toSegmentOf}
-use Rattle.ring.specs.Ring.{count, pointAt, nextOf}
-
--- the point before i of n
-unfoldable pub prevOf : ℕ → ℕ → ℕ
-prevOf i n = cond (eqb i 0) (n - 1) (i - 1)
+use Rattle.ring.specs.Ring.{count, pointAt, nextOf, previousVertex}
 
 -- not collinear with its neighbours, or farther than the tolerance from their segment
 unfoldable pub staysOf : List Float → Float → ℕ → Bool
 staysOf r tol i =
-    let a = pointAt r (prevOf i (count r)) in
+    let a = pointAt r (previousVertex i (count r)) in
     let b = pointAt r i in
     let c = pointAt r (nextOf i (count r)) in
     let t = turnOf a b c in
@@ -32,7 +28,7 @@ unfoldable pub survivors : List Float → Float → ℕ → List Float
 survivors r tol zero = []
 survivors r tol (suc k) = survivors r tol k ++ piece r tol k
 
--- fewer than three points are kept as they are, and so is the whole list where fewer than three survive
+-- `simplify_polygon`: fewer than three points are kept as they are, and so is the whole list where fewer than three survive
 unfoldable pub simplified : List Float → Float → List Float
 simplified r tol =
     let s = survivors r tol (count r) in

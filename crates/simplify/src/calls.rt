@@ -1,13 +1,14 @@
 // The public call: simplify_polygon.
 use refusals::Refusal;
 use refusals::answer::Count;
+use refusals::row;
 use refusals::screen;
 ghost use mathlib.Core.Path.{_≡_};
 ghost use lib.ListN.{length};
 ghost use Rattle.ring.specs.Ring.{count};
 ghost use Rattle.refusals.specs.Refusals.{first};
 ghost use Rattle.refusals.specs.Screens.{wrongRoom};
-ghost use Rattle.refusals.specs.Answers as answers;
+ghost use Rattle.refusals.specs.Answers.{counted};
 ghost use Rattle.simplify.specs.Simplify.{simplified};
 ghost use Rattle.simplify.specs.Calls.{simplifyCall, simplifyRoom};
 
@@ -24,11 +25,10 @@ fn fits(lent: Refusal, list: &[f64], tolerance: f64, size: usize) -> Refusal
 
 // The list without its collinear points, in the room: how many points were written.
 pub fn simplify_polygon(list: &[f64], tolerance: f64, room: &mut [f64]) -> Count
-    ensures { λ r. ⌜ (answers.count r ≡ simplifyCall (now (list .entry)) tolerance (length (now (room .entry)))) × (now (room .exit) ≡ simplifyRoom (now (list .entry)) tolerance (now (room .entry))) ⌝ }
+    ensures { λ r. ⌜ counted r ≡ simplifyCall (now (list .entry)) tolerance (length (now (room .entry))) ⌝ }
+    ensures { λ _. ⌜ now (room .exit) ≡ simplifyRoom (now (list .entry)) tolerance (now (room .entry)) ⌝ }
 {
-    let rest = screen::first(screen::finite_numbers(list), screen::tolerance(tolerance));
-    let lent = screen::first(screen::list_length(list), rest);
-    let no = fits(lent, list, tolerance, room.len());
+    let no = fits(row::list(list, tolerance), list, tolerance, room.len());
     if no.passed() {
         Count::Is(crate::simplify(list, tolerance, room))
     } else {

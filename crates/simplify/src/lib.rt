@@ -5,20 +5,14 @@ use plane::segment::point_to_segment_distance;
 use plane::vector::turn;
 use ring::next;
 use ring::point_at;
+use ring::previous;
+use ring::room::copy;
 ghost use mathlib.Core.Path.{_≡_};
 ghost use Prim.Native.Nat.{_*_, _%_, _<_, _≤_};
 ghost use lib.ListN.{length};
 ghost use Rattle.ring.specs.Ring.{count};
 ghost use Rattle.ring.specs.Room.{laid};
-ghost use Rattle.simplify.specs.Simplify.{prevOf, staysOf, survivors, simplified};
-
-// The point before i of n.
-fn prev(i: usize, n: usize) -> usize
-    requires { ⌜ i < n ⌝ }
-    ensures { λ r. ⌜ (r ≡ prevOf i n) × (r < n) ⌝ }
-{
-    if i == 0 { n - 1 } else { i - 1 }
-}
+ghost use Rattle.simplify.specs.Simplify.{staysOf, survivors, simplified};
 
 // Whether point i stays: it is not collinear with its neighbours, or farther than the tolerance from their segment.
 fn stays(list: &[f64], tolerance: f64, i: usize) -> bool
@@ -26,7 +20,7 @@ fn stays(list: &[f64], tolerance: f64, i: usize) -> bool
     ensures { λ r. ⌜ r ≡ staysOf (now (list .entry)) tolerance i ⌝ }
 {
     let n = list.len() / 2;
-    let a = point_at(list, prev(i, n));
+    let a = point_at(list, previous(i, n));
     let b = point_at(list, i);
     let c = point_at(list, next(i, n));
     let t = turn(a, b, c);
@@ -89,32 +83,21 @@ fn gather(list: &[f64], tolerance: f64, room: &mut [f64])
     }
 }
 
-// The whole list, at the front of the room.
-fn copy(list: &[f64], room: &mut [f64])
-    requires { ⌜ length (now list) ≤ length (now room) ⌝ }
-    ensures { λ _. ⌜ now (room .exit) ≡ laid (now (list .entry)) (now (room .entry)) ⌝ }
-{
-    let mut i = 0;
-    while i < list.len() {
-        room[i] = list[i];
-        i += 1;
-    }
-}
-
 // The simplified list, at the front of the room: how many points it has.
 pub fn simplify(list: &[f64], tolerance: f64, room: &mut [f64]) -> usize
     requires { ⌜ length (now list) % 2 ≡ 0 ⌝ }
     requires { ⌜ 2 * count (simplified (now list) tolerance) ≤ length (now room) ⌝ }
-    ensures { λ r. ⌜ (r ≡ count (simplified (now (list .entry)) tolerance)) × (now (room .exit) ≡ laid (simplified (now (list .entry)) tolerance) (now (room .entry))) ⌝ }
+    ensures { λ r. ⌜ r ≡ count (simplified (now (list .entry)) tolerance) ⌝ }
+    ensures { λ _. ⌜ now (room .exit) ≡ laid (simplified (now (list .entry)) tolerance) (now (room .entry)) ⌝ }
 {
     let n = list.len() / 2;
     if n < 3 {
-        copy(list, room);
+        copy(list, list.len(), room);
         return n;
     }
     let kept = staying(list, tolerance);
     if kept < 3 {
-        copy(list, room);
+        copy(list, list.len(), room);
         return n;
     }
     gather(list, tolerance, room);

@@ -1,30 +1,27 @@
 -- What is printed of the rings that the reader hands out is what is said of the book. Assumes nothing.
-use Prim.Native.Nat.{ℕ, zero, suc, _+_, _-_, _*_, _≤_, _<_}
+use Prim.Native.Nat.{ℕ, zero, suc, _+_, _*_, _≤_, _<_}
 use native.Mathlib.Omega.{arith}
-use mathlib.Core.Path.{_≡_, refl, sym, ap, ap₂, _∙_}
-use mathlib.Core.Bool.{Bool, true, false, cond}
+use mathlib.Core.Path.{_≡_, refl, ap, ap₂, _∙_}
+use mathlib.Core.Bool.{true}
 use mathlib.Core.List.{List, [], _∷_, _++_}
 use lib.ListN.{length, getD, take, drop, replicate, length-append, length-drop, length-replicate}
 use lib.Seq.{take-append-le, drop-append-le}
 use lib.Ieee.{Float, binary64, ofBits}
 use Rattle.ring.specs.Room.{laid}
-use Rattle.refusals.specs.Refusals.{passed}
-use Rattle.refusals.specs.Answers.{Outcome, answers, refuses, outcome, count}
 use Rattle.refusals.specs.declared.Refusal.{Refusal}
 use Rattle.refusals.specs.declared.Settings.{Settings}
 use Rattle.refusals.specs.declared.answer.Count.{Count}
 use Rattle.refusals.specs.declared.answer.Count.the-variants.{Is, Refused}
-use Rattle.book_layout.specs.Layout.{within, total, countsOf}
-use Rattle.book_layout.specs.Faults.{_passes, bookCheck}
-use Rattle.book_layout.specs.Writer.{sizedAll, Held}
-use Rattle.book_layout.specs.Reader.{numbersOf, holdsAll, readRefusal}
-use Rattle.book_layout.proofs.Passing.{and-both, is-within}
-use Rattle.book_layout.proofs.Found.{each-byte}
-use Rattle.book_layout.proofs.Lent.{read-held}
-use Rattle.book_layout.proofs.Theorems.{enough}
-use Rattle.book_reader.proofs.Files.{Promised, reads, at-fault}
-use Rattle.slide_trace.specs.Lines.{refusalLine}
-use Rattle.slide_trace.specs.Said.{verticesOf, traceText, bookText}
+use Rattle.refusals.specs.Rings.{verticesLeast, verticesMost, ringsMost, within, total, sizedAll}
+use Rattle.book_layout.specs.Layout.{numbersMost, countsOf}
+use Rattle.book_layout.specs.Writer.{Held}
+use Rattle.book_layout.specs.Reader.{numbersOf}
+use Rattle.laws.proofs.Both.{both}
+use Rattle.refusals.proofs.Counts.{is-within}
+use Rattle.book_reader.proofs.Files.{Promised}
+use Rattle.book_reader.proofs.Handed.{a-book, book-held, room-is, counts-are, no-book}
+use Rattle.lines.specs.Lines.{refusalLine}
+use Rattle.slide_trace.specs.Said.{verticesOf, traceText, ringsText, bookText}
 
 -- ---- counts
 
@@ -43,74 +40,57 @@ count-at (n ∷ l) rest (suc i) z = count-at l rest i z
 
 -- the first two of a list of counts
 record Two (ns : List ℕ) : Type 0 where
-  first : getD ns 0 0 ≤ 256
-  second : getD ns 1 0 ≤ 256
+  first : getD ns 0 0 ≤ verticesMost
+  second : getD ns 1 0 ≤ verticesMost
   sum : getD ns 0 0 + getD ns 1 0 ≤ total ns
 
 two : (ns : List ℕ) → sizedAll ns ≡ true → Two ns
 unfolding sizedAll total
 two [] s = record { first = (omega arith); second = (omega arith); sum = (omega arith) }
-two (n ∷ []) s = let p = is-within 3 256 n (and-both (within 3 256 n) true s .0) in record { first = p .1; second = (omega arith); sum = (omega arith) }
+two (n ∷ []) s = let p = is-within verticesLeast verticesMost n (both (within verticesLeast verticesMost n) true s .0) in record { first = p .1; second = (omega arith); sum = (omega arith) }
 two (n ∷ m ∷ ns) s =
-    let p = and-both (within 3 256 n) (sizedAll (m ∷ ns)) s in
-    let q = and-both (within 3 256 m) (sizedAll ns) (p .1) in
-    record { first = is-within 3 256 n (p .0) .1; second = is-within 3 256 m (q .0) .1; sum = (omega arith) }
+    let p = both (within verticesLeast verticesMost n) (sizedAll (m ∷ ns)) s in
+    let q = both (within verticesLeast verticesMost m) (sizedAll ns) (p .1) in
+    record { first = is-within verticesLeast verticesMost n (p .0) .1; second = is-within verticesLeast verticesMost m (q .0) .1; sum = (omega arith) }
 
 -- ---- the reader's answer
 
-answered : (r : Refusal) (t : Bool) (a b : ℕ) → passed r ≡ t → answers a ≡ cond t (answers b) (refuses r) → r passes
-answered r true a b e q = e
-answered r false a b e q = absurd (let z : _≡_ {A = ℕ} 0 1 = cc in omega arith)
-
-refused : (r s : Refusal) (t : Bool) (b : ℕ) → passed r ≡ t → _≡_ {A = Outcome ℕ} (refuses s) (cond t (answers b) (refuses r)) → (passed r ≡ false) × (s ≡ r)
-refused r s true b e q = absurd (let z : _≡_ {A = ℕ} 0 1 = cc in omega arith)
-refused r s false b e q = (e, (cc))
-
 -- the two rooms before it
 abbrev room : List Float
-room = replicate 4096 (ofBits binary64 0)
+room = replicate numbersMost (ofBits binary64 0)
 
 abbrev counts : List ℕ
-counts = replicate 8 0
+counts = replicate ringsMost 0
 
 module _ (f : List ℕ) (bytes : (i : ℕ) → getD f i 0 < 256) (s : Settings) (x : List Float) (n : List ℕ) (r : Count) (p : Promised f room counts r x n) where
   module _ (k : ℕ) (e : r ≡ Is k) where
-    taken : readRefusal f (length room) (length counts) passes
-    taken = answered (readRefusal f (length room) (length counts)) _ k (length (countsOf f)) refl (ap count (sym e) ∙ p .0)
-
-    fine : bookCheck f passes
-    fine = reads f (length room) (length counts) taken .0
-
     held : Held (numbersOf f) (countsOf f)
-    held = read-held f (each-byte f bytes) fine
+    held = book-held f bytes room x counts n r p k e
 
-    room-is : x ≡ laid (numbersOf f) room
-    room-is = p .1 ∙ (rw taken)
-
-    counts-are : n ≡ laid (countsOf f) counts
-    counts-are = p .2 ∙ (rw taken)
+    room-holds : x ≡ laid (numbersOf f) room
+    room-holds = room-is f bytes room x counts n r p k e
 
     vertices : (i : ℕ) → getD n i 0 ≡ verticesOf f i
     vertices i =
-        ap (λ (l : List ℕ). getD l i 0) counts-are
-        ∙ count-at (countsOf f) (drop (length (countsOf f)) counts) i (zeros (length (countsOf f)) 8)
+        ap (λ (l : List ℕ). getD l i 0) (counts-are f bytes room x counts n r p k e)
+        ∙ count-at (countsOf f) (drop (length (countsOf f)) counts) i (zeros (length (countsOf f)) ringsMost)
 
     bounds : Two (countsOf f)
     bounds = two (countsOf f) (held .sized)
 
-    pub first-most : getD n 0 0 ≤ 256
+    pub first-most : getD n 0 0 ≤ verticesMost
     first-most = omega (arith, vertices 0, bounds .first)
 
-    pub second-most : getD n 1 0 ≤ 256
+    pub second-most : getD n 1 0 ≤ verticesMost
     second-most = omega (arith, vertices 1, bounds .second)
 
     numbers-are : length x ≡ length (numbersOf f) + length (drop (length (numbersOf f)) room)
-    numbers-are = ap length room-is ∙ length-append (numbersOf f) (drop (length (numbersOf f)) room)
+    numbers-are = ap length room-holds ∙ length-append (numbersOf f) (drop (length (numbersOf f)) room)
 
     pub both-inside : 2 * getD n 0 0 + 2 * getD n 1 0 ≤ length x
     both-inside = omega (arith, vertices 0, vertices 1, bounds .sum, held .whole, numbers-are)
 
-    pub rings-said : traceText (take (2 * getD n 0 0) x) (take (2 * getD n 1 0) (drop (2 * getD n 0 0) x)) s ≡ bookText f s
+    pub rings-said : ringsText x (getD n 0 0) (getD n 1 0) s ≡ bookText f s
     unfolding bookText
     rings-said =
         let l = numbersOf f in
@@ -120,23 +100,11 @@ module _ (f : List ℕ) (bytes : (i : ℕ) → getD f i 0 < 256) (s : Settings) 
         let h : a + b ≤ length l = omega (arith, bounds .sum, held .whole) in
         let d : drop a (l ++ rest) ≡ drop a l ++ rest = drop-append-le a l rest (omega arith) in
         let t : take b (drop a (l ++ rest)) ≡ take b (drop a l) = ap (take b) d ∙ take-append-le b (drop a l) rest (omega (arith, length-drop a l)) in
-        rw (vertices 0, vertices 1, room-is, fine) (ap₂ (λ (u v : List Float). traceText u v s) (take-append-le a l rest (omega arith)) t)
+        rw (vertices 0, vertices 1, room-holds, a-book f bytes room x counts n r p k e) (ap₂ (λ (u v : List Float). traceText u v s) (take-append-le a l rest (omega arith)) t)
 
   module _ (told : Refusal) (e : r ≡ Refused told) where
-    abbrev refusal : Refusal
-    refusal = readRefusal f (length room) (length counts)
-
-    not-read : (passed refusal ≡ false) × (told ≡ refusal)
-    not-read = refused refusal told (passed refusal) (length (countsOf f)) refl (ap count (sym e) ∙ p .0)
-
-    read-all : bookCheck f passes → refusal passes
-    unfolding readRefusal
-    read-all ok = rw (ok, enough f (length room) (length counts) (each-byte f bytes) ok (omega (arith, length-replicate 4096 (ofBits binary64 0))) (omega (arith, length-replicate {A = ℕ} 8 0))) refl
-
-    fault-by : (t : Bool) → passed (bookCheck f) ≡ t → refusalLine told ≡ bookText f s
-    unfolding bookText
-    fault-by true ok = absurd (let q = read-all ok in let w = not-read .0 in let z : _≡_ {A = ℕ} 0 1 = cc in omega arith)
-    fault-by false ok = rw ok (ap refusalLine (not-read .1 ∙ sym (at-fault f (length room) (length counts) ok)))
-
     pub fault-told : refusalLine told ≡ bookText f s
-    fault-told = fault-by (passed (bookCheck f)) refl
+    unfolding bookText
+    fault-told =
+        let b = no-book f bytes room x counts n r p (omega (arith, length-replicate numbersMost (ofBits binary64 0))) (omega (arith, length-replicate {A = ℕ} ringsMost 0)) told e in
+        rw (b .0) (ap refusalLine (b .1))

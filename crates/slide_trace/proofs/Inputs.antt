@@ -6,11 +6,10 @@ use mathlib.Core.List.{List, []}
 use lib.ListN.{length, take, drop, length-drop, drop-of-length-le}
 use lib.Seq.{take-all}
 use lib.Ieee.{Float, binary64, ofBits}
-use Rattle.replay.specs.Words.{wordAt}
 use Rattle.refusals.specs.declared.Settings.{Settings}
 use Rattle.book_layout.specs.Faults.{faultAt, bookCheck}
-use Rattle.slide_trace.specs.Lines.{refusalLine}
-use Rattle.slide_trace.specs.Said.{settingsOf, bookText, inputText}
+use Rattle.lines.specs.Lines.{refusalLine}
+use Rattle.slide_trace.specs.Said.{settingsBytes, wordAt, settingsOf, bookText, inputText}
 
 pub settings-are : (l : List ℕ) {a b : Float} (x y : ℕ) {z : ℕ} → a ≡ ofBits binary64 x → x ≡ wordAt l 0 → b ≡ ofBits binary64 y → y ≡ wordAt l 8 → z ≡ wordAt l 16
     → _≡_ {A = Settings} (record { «contact_tolerance» = a; «min_translation» = b; «max_iterations» = z }) (settingsOf l)
@@ -20,12 +19,12 @@ no-book : (s : Settings) → refusalLine (faultAt 0) ≡ bookText [] s
 unfolding bookText bookCheck
 no-book s = refl
 
-pub too-short : (l : List ℕ) → length l < 24 → refusalLine (faultAt 0) ≡ inputText l
+pub too-short : (l : List ℕ) → length l < settingsBytes → refusalLine (faultAt 0) ≡ inputText l
 unfolding inputText
 too-short l h =
-    let k : length l ≤ 24 = omega arith in
+    let k : length l ≤ settingsBytes = omega arith in
     no-book (settingsOf l) ∙ ap (λ (b : List ℕ). bookText b (settingsOf l)) (sym (drop-of-length-le l k))
 
-pub input-said : (l : List ℕ) {s : Settings} → s ≡ settingsOf l → bookText (take (length l - 24) (drop 24 l)) s ≡ inputText l
+pub input-said : (l : List ℕ) {s : Settings} → s ≡ settingsOf l → bookText (take (length l - settingsBytes) (drop settingsBytes l)) s ≡ inputText l
 unfolding inputText
-input-said l e = rw (e, take-all (length l - 24) (drop 24 l) (omega (arith, length-drop 24 l))) refl
+input-said l e = rw (e, take-all (length l - settingsBytes) (drop settingsBytes l) (omega (arith, length-drop settingsBytes l))) refl

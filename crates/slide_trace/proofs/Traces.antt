@@ -1,9 +1,9 @@
 -- What is printed of the answer that a trace gave is what is said of the trace. Assumes nothing.
 use Prim.Native.Nat.{ℕ, zero, suc, _+_, _*_, _≤_, _<_}
 use native.Mathlib.Omega.{arith}
-use mathlib.Core.Path.{_≡_, refl, sym, ap, ap₂, _∙_}
+use mathlib.Core.Path.{_≡_, refl, ap, ap₂, _∙_}
 use mathlib.Core.Bool.{Bool, true, false, _||_, cond}
-use mathlib.Core.List.{List, [], _∷_, _++_}
+use mathlib.Core.List.{List, _++_}
 use lib.ListN.{length, drop, length-append, List·getD-append}
 use lib.Ieee.{Float, nan, binary64, toBits}
 use Rattle.plane.specs.declared.Point.{Point}
@@ -14,11 +14,13 @@ use Rattle.refusals.specs.Refusals.{passed}
 use Rattle.refusals.specs.declared.Refusal.{Refusal}
 use Rattle.refusals.specs.declared.Settings.{Settings}
 use Rattle.simplify.specs.Simplify.{simplified}
-use Rattle.nfp_sliding.specs.Path.{Trace, tracedOf}
-use Rattle.nfp_sliding.specs.Calls.{Answer, traces, refuses, overfull, tooShort, traced, brief, told, resultAfter, traceRefusal, traceCall, traceResult}
+use Rattle.nfp_sliding.specs.Path.{tracedOf}
+use Rattle.refusals.specs.Rows.{ofTrace}
+use Rattle.nfp_sliding.specs.Calls.{Answer, traces, denied, overfull, tooShort, traced, brief, cameTo, resultAfter, traceCall, traceResult}
 use Rattle.nfp_sliding.specs.declared.answer.Traced.{Traced}
 use Rattle.nfp_sliding.specs.declared.answer.Traced.the-variants.{Is, Refused, Full, Short}
-use Rattle.slide_trace.specs.Lines.{refusalLine, headingLine, pointLines, pathText, answerText, InList}
+use Rattle.lines.specs.Lines.{pointLines}
+use Rattle.slide_trace.specs.Lines.{headingLine, answerText, InList}
 use Rattle.slide_trace.specs.Said.{textOf, traceText}
 
 -- ---- points at the front of a list
@@ -39,13 +41,13 @@ lines-front xs rest (suc k) h =
 
 abbrev valuesOf : Answer → ℕ
 valuesOf (traces points stored passes stop) = 4
-valuesOf (refuses r) = 0
+valuesOf (denied r) = 0
 valuesOf (overfull passes) = 1
 valuesOf (tooShort passes stop) = 2
 
 abbrev pointsOf : Answer → ℕ
 pointsOf (traces points stored passes stop) = points
-pointsOf (refuses r) = 0
+pointsOf (denied r) = 0
 pointsOf (overfull passes) = 0
 pointsOf (tooShort passes stop) = 0
 
@@ -53,7 +55,7 @@ pointsOf (tooShort passes stop) = 0
 
 module _ (r : Refusal) (passes reason stored : ℕ) (result held : List Float) where
   abbrev call : Bool → Bool → Bool → Answer
-  call p f h = cond p (cond f (overfull passes) (cond h (tooShort passes reason) (traces (count result) stored passes reason))) (refuses r)
+  call p f h = cond p (cond f (overfull passes) (cond h (tooShort passes reason) (traces (count result) stored passes reason))) (denied r)
 
   abbrev after : Bool → Bool → Bool → List Float
   after p f h = cond p (cond (f || h) held (laid result held)) held
@@ -99,16 +101,16 @@ module _ (r : Refusal) (passes reason stored : ℕ) (result held : List Float) w
 module _ (st orb : List Float) (s : Settings) (work : ℕ) (held : List Float) (t : Traced) (x : List Float)
     (p : traced t ≡ traceCall st orb s work (length held)) (q : x ≡ traceResult st orb s work held) where
   pub points-inside : InList t (length x)
-  unfolding traceCall traceResult told resultAfter
+  unfolding traceCall traceResult cameTo resultAfter
   points-inside =
-      let r = traceRefusal st orb s work (length held) in
+      let r = ofTrace st orb s work (length held) in
       let z = tracedOf st orb s work in
       inside r (z .passes) (z .reason) (count (z .path)) (simplified (z .path) (s .«contact_tolerance»)) held (passed r) (z .full) (brief z) t x p q
 
   pub trace-said : work ≡ 20002 → length held ≡ 20002 → answerText t x ≡ traceText st orb s
-  unfolding traceCall traceResult told resultAfter traceText
+  unfolding traceCall traceResult cameTo resultAfter traceText
   trace-said e l =
-      let r = traceRefusal st orb s work (length held) in
+      let r = ofTrace st orb s work (length held) in
       let z = tracedOf st orb s work in
       said r (z .passes) (z .reason) (count (z .path)) (simplified (z .path) (s .«contact_tolerance»)) held (passed r) (z .full) (brief z) refl t x p q
       ∙ ap₂ (λ (a b : ℕ). textOf (traceCall st orb s a b) (simplified (tracedOf st orb s a .path) (s .«contact_tolerance»))) e l

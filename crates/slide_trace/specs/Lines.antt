@@ -1,26 +1,13 @@
 -- The lines that are printed, as bytes. Definitions only.
-use Prim.Native.Nat.{ℕ, zero, suc, _*_, _≤_}
-use mathlib.Core.Bool.{cond}
+use Prim.Native.Nat.{ℕ, _*_, _≤_}
 use mathlib.Core.List.{List, [], _∷_, _++_}
-use lib.Dec.{eqb}
-use lib.Ieee.{Float, binary64, toBits}
+use lib.Ieee.{Float}
 use Rattle.print.specs.Digits.{decimal}
-use Rattle.print.specs.Text.{newline, pairLine}
-use Rattle.ring.specs.Ring.{pointAt}
+use Rattle.print.specs.Text.{newline}
+use Rattle.lines.specs.Lines.{refusalLine, pointLines}
 use Rattle.refusals.specs.Refusals.{refuse}
-use Rattle.refusals.specs.declared.Refusal.{Refusal}
 use Rattle.nfp_sliding.specs.declared.answer.Traced.{Traced}
 use Rattle.nfp_sliding.specs.declared.answer.Traced.the-variants.{Is, Refused, Full, Short}
-
--- "refused 7 " and the place
-unfoldable pub faultLine : ℕ → List ℕ
-faultLine place = (114 ∷ 101 ∷ 102 ∷ 117 ∷ 115 ∷ 101 ∷ 100 ∷ 32 ∷ 55 ∷ 32 ∷ []) ++ (decimal place ++ newline)
-
--- "refused " and the number, for 7 with the place
-unfoldable pub refusalLine : Refusal → List ℕ
-refusalLine r =
-    cond (eqb (r .number) 7) (faultLine (r .place))
-    ((114 ∷ 101 ∷ 102 ∷ 117 ∷ 115 ∷ 101 ∷ 100 ∷ 32 ∷ []) ++ (decimal (r .number) ++ newline))
 
 -- "path " and the points, " passes " and the passes, " stop " and the stop reason
 unfoldable pub headingLine : ℕ → ℕ → ℕ → List ℕ
@@ -30,11 +17,7 @@ headingLine points passes stop =
     ++ ((32 ∷ 112 ∷ 97 ∷ 115 ∷ 115 ∷ 101 ∷ 115 ∷ 32 ∷ [])
     ++ (decimal passes ++ ((32 ∷ 115 ∷ 116 ∷ 111 ∷ 112 ∷ 32 ∷ []) ++ (decimal stop ++ newline)))))
 
--- the first n points of a list, a line each
-unfoldable pub pointLines : List Float → ℕ → List ℕ
-pointLines xs zero = []
-pointLines xs (suc k) = pointLines xs k ++ pairLine (toBits binary64 (pointAt xs k .x)) (toBits binary64 (pointAt xs k .y))
-
+-- the heading and the points
 abbrev pub pathText : ℕ → ℕ → ℕ → List Float → List ℕ
 pathText points passes stop xs = headingLine points passes stop ++ pointLines xs points
 
@@ -42,8 +25,8 @@ pathText points passes stop xs = headingLine points passes stop ++ pointLines xs
 abbrev pub answerText : Traced → List Float → List ℕ
 answerText (Is points stored passes stop) xs = pathText points passes stop xs
 answerText (Refused r) xs = refusalLine r
-answerText (Full passes) xs = refusalLine (refuse 5)
-answerText (Short passes stop) xs = refusalLine (refuse 6)
+answerText (Full passes) xs = refusalLine (refuse 5 0)
+answerText (Short passes stop) xs = refusalLine (refuse 6 0)
 
 -- the points are in a list of so many numbers
 abbrev pub InList : Traced → ℕ → Type 0

@@ -1,32 +1,40 @@
-// Traces one ring of a book round another and prints the result. Standard input has the tolerance and the smallest move as bit patterns, the pass limit,
-// eight bytes each, and then a book whose first ring is the stationary polygon and whose second is the orbiting one.
+// Traces one ring of a book round another and prints the result. Standard input has the tolerance and the smallest move as bit patterns,
+// the pass limit, eight bytes each, and then a book whose first ring is the stationary polygon and whose second is the orbiting one.
 mod say;
 
+use book_layout::BOOK_MOST;
+use book_layout::NUMBERS_MOST;
 use book_reader::calls::read_book;
 use libc::STDIN_FILENO;
 use libc::STDOUT_FILENO;
+use lines::put_refusal;
 use nfp_sliding::calls::compute_nfp_sliding;
+use number_bytes::float_of;
+use number_bytes::number8;
+use refusals::RINGS_MOST;
 use refusals::Refusal;
 use refusals::Settings;
 use refusals::answer::Count;
-use replay::number;
-use replay::word;
 use say::put_answer;
-use say::put_refusal;
 ghost use mathlib.Core.Path.{_≡_};
 ghost use Prim.Native.Nat.{_+_, _*_, _≤_};
-ghost use lib.ListN.{length, take, drop};
+ghost use lib.ListN.{length};
 ghost use Rattle.print.specs.Text.{Put};
-ghost use Rattle.slide_trace.specs.Said.{settingsOf, traceText, bookText, inputText};
+ghost use Rattle.slide_trace.specs.Said.{settingsBytes, settingsOf, traceText, ringsText, bookText, inputText};
+ghost use Rattle.refusals.specs.Rings.{verticesMost};
+
+// Bytes of the settings, three words.
+const SETTINGS_BYTES: usize = 24;
 
 // The settings before the book.
 fn settings(input: &[u8]) -> Settings
+    requires { ⌜ settingsBytes ≤ length (now input) ⌝ }
     ensures { λ r. ⌜ r ≡ settingsOf (now (input .entry)) ⌝ }
 {
     Settings {
-        contact_tolerance: number(word(input, 0)),
-        min_translation: number(word(input, 8)),
-        max_iterations: word(input, 16),
+        contact_tolerance: float_of(number8(input, 0)),
+        min_translation: float_of(number8(input, 8)),
+        max_iterations: number8(input, 16),
     }
 }
 
@@ -43,9 +51,9 @@ fn put_trace(stationary: &[f64], orbiting: &[f64], settings: Settings, out: &mut
 
 // The same for the first n vertices of a list and the m after them.
 fn put_rings(xs: &[f64], n: usize, m: usize, settings: Settings, out: &mut [u8]) -> usize
-    requires { ⌜ (n ≤ 256) × (m ≤ 256) × (2 * n + 2 * m ≤ length (now xs)) ⌝ }
+    requires { ⌜ (n ≤ verticesMost) × (m ≤ verticesMost) × (2 * n + 2 * m ≤ length (now xs)) ⌝ }
     requires { ⌜ 340200 ≤ length (now out) ⌝ }
-    ensures { λ r. ⌜ Put (now (out .entry)) 0 (traceText (take (2 * n) (now (xs .entry))) (take (2 * m) (drop (2 * n) (now (xs .entry)))) settings) (now (out .exit)) r ⌝ }
+    ensures { λ r. ⌜ Put (now (out .entry)) 0 (ringsText (now (xs .entry)) n m settings) (now (out .exit)) r ⌝ }
 {
     let middle = 2 * n;
     let end = middle + 2 * m;
@@ -57,8 +65,8 @@ fn put_book(book: &[u8], settings: Settings, out: &mut [u8]) -> usize
     requires { ⌜ 340200 ≤ length (now out) ⌝ }
     ensures { λ r. ⌜ Put (now (out .entry)) 0 (bookText (now (book .entry)) settings) (now (out .exit)) r ⌝ }
 {
-    let mut room = [0.0; 4096];
-    let mut counts = [0u32; 8];
+    let mut room = [0.0; NUMBERS_MOST];
+    let mut counts = [0u32; RINGS_MOST];
     match read_book(book, &mut room, &mut counts) {
         Count::Is(_) => put_rings(&room, counts[0] as usize, counts[1] as usize, settings, out),
         Count::Refused(no) => put_refusal(no, out),
@@ -70,19 +78,19 @@ fn put_input(input: &[u8], out: &mut [u8]) -> usize
     requires { ⌜ 340200 ≤ length (now out) ⌝ }
     ensures { λ r. ⌜ Put (now (out .entry)) 0 (inputText (now (input .entry))) (now (out .exit)) r ⌝ }
 {
-    if input.len() < 24 {
+    if input.len() < SETTINGS_BYTES {
         let no = Refusal {
             number: 7,
             place: 0,
         };
         return put_refusal(no, out);
     }
-    put_book(&input[24..], settings(input), out)
+    put_book(&input[SETTINGS_BYTES..], settings(input), out)
 }
 
 // One byte more than the settings and the longest book is read, so that what is too long is refused like any other wrong length.
 fn main() {
-    let mut input = [0u8; 32865];
+    let mut input = [0u8; SETTINGS_BYTES + BOOK_MOST + 1];
     let mut out = [0u8; 340200];
     let n = io::read_full(STDIN_FILENO, &mut input);
     let length = put_input(&input[..n], &mut out);

@@ -1,39 +1,14 @@
 // What is printed of a trace's answer: the path, or the refusal.
+use lines::put_points;
+use lines::put_refusal;
 use nfp_sliding::answer::Traced;
 use print::put_decimal;
-use print::put_pair;
 use print::put_text;
 use refusals::Refusal;
-use replay::bits;
-use ring::point_at;
-ghost use mathlib.Core.Path.{_≡_};
 ghost use Prim.Native.Nat.{_+_, _*_, _≤_};
 ghost use lib.ListN.{length};
 ghost use Rattle.print.specs.Text.{Put};
-ghost use Rattle.slide_trace.specs.Lines.{faultLine, refusalLine, headingLine, pointLines, pathText, answerText, InList};
-
-// A wrong book, with the place of its first fault.
-fn put_fault(place: u64, out: &mut [u8]) -> usize
-    requires { ⌜ 100 ≤ length (now out) ⌝ }
-    ensures { λ r. ⌜ Put (now (out .entry)) 0 (faultLine place) (now (out .exit)) r ⌝ }
-{
-    let at = put_text(out, 0, b"refused 7 ");
-    let end = put_decimal(out, at, place);
-    put_text(out, end, b"\n")
-}
-
-// A refusal: its number, and for 7 its place.
-pub fn put_refusal(no: Refusal, out: &mut [u8]) -> usize
-    requires { ⌜ 100 ≤ length (now out) ⌝ }
-    ensures { λ r. ⌜ Put (now (out .entry)) 0 (refusalLine no) (now (out .exit)) r ⌝ }
-{
-    if no.number == 7 {
-        return put_fault(no.place, out);
-    }
-    let at = put_text(out, 0, b"refused ");
-    let end = put_decimal(out, at, no.number as u64);
-    put_text(out, end, b"\n")
-}
+ghost use Rattle.slide_trace.specs.Lines.{headingLine, pathText, answerText, InList};
 
 // The line before the points.
 fn put_heading(points: usize, passes: u64, stop: u32, out: &mut [u8]) -> usize
@@ -47,21 +22,6 @@ fn put_heading(points: usize, passes: u64, stop: u32, out: &mut [u8]) -> usize
     let e = put_text(out, d, b" stop ");
     let f = put_decimal(out, e, stop as u64);
     put_text(out, f, b"\n")
-}
-
-// The first n points of a list, a line each, by their bit patterns.
-fn put_points(xs: &[f64], n: usize, out: &mut [u8], at: usize) -> usize
-    requires { ⌜ (2 * n ≤ length (now xs)) × (at + 34 * n ≤ length (now out)) ⌝ }
-    ensures { λ r. ⌜ Put (now (out .entry)) at (pointLines (now (xs .entry)) n) (now (out .exit)) r ⌝ }
-{
-    let mut next = at;
-    let mut i = 0;
-    while i < n {
-        let p = point_at(xs, i);
-        next = put_pair(out, next, bits(p.x), bits(p.y));
-        i += 1;
-    }
-    next
 }
 
 // The heading and the points.
@@ -87,7 +47,7 @@ pub fn put_answer(traced: Traced, result: &[f64], out: &mut [u8]) -> usize
             stop,
         } => put_path(points, passes, stop, result, out),
         Traced::Refused(no) => put_refusal(no, out),
-        Traced::Full(passes) => put_refusal(Refusal::new(5), out),
-        Traced::Short { passes, stop } => put_refusal(Refusal::new(6), out),
+        Traced::Full(passes) => put_refusal(Refusal::new(5, 0), out),
+        Traced::Short { passes, stop } => put_refusal(Refusal::new(6, 0), out),
     }
 }

@@ -13,11 +13,12 @@ use lib.Ieee.{Float, nan, inf, fin, binary64, odd, fits, ofFields, ofBits, toBit
 use lib.Ieee.Bits.{ofBits-toBits}
 use lib.Ieee.Exact.{HasValue}
 use lib.Ieee.Positive.{positive, above}
+use Rattle.laws.proofs.Order.{lt-infinity}
 use Rattle.square_root.specs.Nearest.{val}
 use Rattle.square_root.proofs.Numbers.{lt-or-le}
 use Rattle.square_root.proofs.Values.{val-le-back}
 use Rattle.square_root.proofs.Patterns.{by-fields, read}
-use Rattle.square_root.proofs.Compare.{number-or-infinite, lt-infinity, lt-units}
+use Rattle.square_root.proofs.Compare.{number-or-infinite, lt-units}
 
 -- ---- what a pattern's value is, where it is above zero
 

@@ -14,6 +14,7 @@ use lib.Ieee.Fits.{up-pos, down-pos}
 use lib.Ieee.Exact.{HasValue}
 use lib.Ieee.Order.{transfer}
 use lib.Ieee.Positive.{positive, above}
+use Rattle.laws.proofs.Order.{le-of-lt}
 use Rattle.square_root.specs.Root.{sqrtOf}
 use Rattle.square_root.proofs.Numbers.{lt-or-le}
 
@@ -70,42 +71,9 @@ some-eq s t m e d =
     let h = some m e d in
     simp (ne-eqb (suc m * up e * down d) (0 * up d * down e) (λ q. omega arith))
 
--- ---- the infinity
-
-pub lt-of-infinity : (y : Float) → lt (inf false) y ≡ false
-unfolding lt
-lt-of-infinity nan = refl
-lt-of-infinity (inf s) = refl
-lt-of-infinity (fin s m e) = refl
-
-pub le-of-infinity : (y : Float) → T (le (inf false) y) → y ≡ inf false
-unfolding le
-le-of-infinity nan h = absurd h
-le-of-infinity (inf true) h = absurd h
-le-of-infinity (inf false) h = refl
-le-of-infinity (fin s m e) h = absurd h
-
-pub lt-infinity : (x : Float) → T (positive x) → lt x (inf false) ≡ true
-unfolding lt
-lt-infinity nan p = absurd p
-lt-infinity (inf s) p = absurd p
-lt-infinity (fin s m e) p = refl
-
-pub le-of-lt : (x y : Float) → lt x y ≡ true → T (le x y)
-unfolding le
-le-of-lt x y h = rw h tt
-
 le-of-level : (x y : Float) → eq x y ≡ true → T (le x y)
 unfolding le
 le-of-level x y h = rw (h, or-true (lt x y)) tt
-
-pub lt-self : (x : Float) → lt x x ≡ false
-unfolding lt
-lt-self nan = refl
-lt-self (inf true) = refl
-lt-self (inf false) = refl
-lt-self (fin true m e) = le-ltb (m * up e * down e) (m * up e * down e) (omega arith)
-lt-self (fin false m e) = le-ltb (m * up e * down e) (m * up e * down e) (omega arith)
 
 -- ---- what is not negative: a zero, a value that is finite and above zero, or the infinity
 

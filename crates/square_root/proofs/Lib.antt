@@ -11,6 +11,4 @@ pub mod Normal
 pub mod Compare
 pub mod Above
 pub mod Order
-pub mod Threshold
 pub mod Laws
-pub mod Squares

@@ -1,5 +1,5 @@
--- `Near`: the larger of two numbers has a root whose nearest value is no smaller, and so a number has one such value.
--- And the nearest value by 54 digits of the root. Assumes nothing.
+-- `Near`: the nearest value by 54 digits of the root. And the larger of two numbers has a root whose nearest value is no
+-- smaller, so a number has one such value. Assumes nothing.
 use mathlib.Core.Path.{_≡_}
 use mathlib.Core.Logic.{inl, inr}
 use Prim.Native.Nat.{ℕ, _+_, _-_, _*_, _/_, _^_, _≤_, _<_}
@@ -10,21 +10,6 @@ use Rattle.square_root.specs.Nearest.{val, Near}
 use Rattle.square_root.proofs.Numbers.{lt-or-le, scaled, times-four, square-lt}
 use Rattle.square_root.proofs.Values.{val-at, val-step, val-mono}
 use Rattle.square_root.proofs.Rooted.{Even, Odd, by-parity}
-
--- ---- the order
-
-pub near-mono : {n n' b b' : ℕ} → n ≤ n' → Near n b → Near n' b' → b ≤ b'
-near-mono {n} {n'} {b} {b'} h A B = elim (lt-or-le b' b) [ inl l ↦ absurd (clash l) | inr g ↦ g ]
-  where
-    clash : b' < b → ⊥
-    clash l =
-        let p : val b' ≤ val (b - 1) = val-mono (omega arith) in
-        let q : val (b' + 1) ≤ val b = val-mono (omega arith) in
-        let s : val b' + val (b' + 1) ≤ val (b - 1) + val b = omega arith in
-        omega (arith, mul-le-mul s s, A .low, B .high)
-
-pub near-unique : {n b b' : ℕ} → Near n b → Near n b' → b ≡ b'
-near-unique {n} A B = le-antisymm (near-mono (le-refl n) A B) (near-mono (le-refl n) B A)
 
 -- ---- by the 54 digits r of the root of 4 * w, where n is w * 4 ^ k
 
@@ -69,3 +54,18 @@ pub near-of : (w k r : ℕ) → 2 ^ 53 ≤ r → r < 2 ^ 54 → WholeRoot (4 * w
     → Near (w * 4 ^ k) (k * 2 ^ 52 + (r + 1) / 2)
 near-of w k r lo hi root =
     by-parity (λ (x : ℕ). Near (w * 4 ^ k) (k * 2 ^ 52 + x)) w r lo hi root (near-even w k) (near-odd w k)
+
+-- ---- the order
+
+pub near-mono : {n n' b b' : ℕ} → n ≤ n' → Near n b → Near n' b' → b ≤ b'
+near-mono {n} {n'} {b} {b'} h A B = elim (lt-or-le b' b) [ inl l ↦ absurd (clash l) | inr g ↦ g ]
+  where
+    clash : b' < b → ⊥
+    clash l =
+        let p : val b' ≤ val (b - 1) = val-mono (omega arith) in
+        let q : val (b' + 1) ≤ val b = val-mono (omega arith) in
+        let s : val b' + val (b' + 1) ≤ val (b - 1) + val b = omega arith in
+        omega (arith, mul-le-mul s s, A .low, B .high)
+
+pub near-unique : {n b b' : ℕ} → Near n b → Near n b' → b ≡ b'
+near-unique {n} A B = le-antisymm (near-mono (le-refl n) A B) (near-mono (le-refl n) B A)

@@ -13,6 +13,7 @@ use lib.Ieee.Bits.{ofBits-toBits}
 use lib.Ieee.Exact.{HasValue}
 use lib.Ieee.Order.{le-of-values}
 use lib.Ieee.Positive.{positive, above-of-le, den, den-pos, value→cross, values-of-le, positive-of-value}
+use Rattle.laws.proofs.Order.{lt-infinity, le-of-infinity, le-of-lt}
 use Rattle.square_root.specs.Root.{rooted, sqrtOf}
 use Rattle.square_root.specs.Nearest.{val, Nearest, IsRoot}
 use Rattle.square_root.proofs.Values.{val-mono}
@@ -21,7 +22,7 @@ use Rattle.square_root.proofs.Patterns.{read, positive-at, sqrt-at}
 use Rattle.square_root.proofs.Join.{root-of}
 use Rattle.square_root.proofs.Normal.{radicand}
 use Rattle.square_root.proofs.Compare.{Kind, a-zero, a-number, infinite, kind, number-or-infinite, zero-lt}
-use Rattle.square_root.proofs.Compare.{lt-infinity, le-of-infinity, le-of-lt, sqrt-zero, sqrt-infinity}
+use Rattle.square_root.proofs.Compare.{sqrt-zero, sqrt-infinity}
 use Rattle.square_root.proofs.Above.{bits-pos, bits-lt, value-is}
 
 -- ---- nearest values

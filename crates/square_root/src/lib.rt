@@ -1,11 +1,9 @@
-// The square root of an `f64`, rounded to the nearest `f64`, and the number below which roots are below a tolerance.
+// The square root of an `f64`, rounded to the nearest `f64`.
 ghost use Prim.Native.Nat.{_+_, _*_, _^_, _<_, _≤_};
 ghost use mathlib.Core.Path.{_≡_};
-ghost use mathlib.Core.Bool.{true};
-ghost use lib.Ieee.{binary64, ofBits, lt, le};
+ghost use lib.Ieee.{binary64, ofBits};
 ghost use Rattle.square_root.specs.Root.{WholeRoot, Radicand, rooted, sqrtOf};
 ghost use Rattle.square_root.specs.Nearest.{IsRoot};
-ghost use Rattle.square_root.specs.Limit.{IsLimit};
 
 mod halves;
 
@@ -98,44 +96,4 @@ pub fn sqrt(x: f64) -> f64
     } else {
         0.0 / 0.0
     }
-}
-
-// A bit pattern between lo and hi: the one a little below `guess` or a little above it, where that lies between, and
-// else the one in the middle.
-fn probe(lo: u64, hi: u64, guess: u64) -> u64
-    requires { ⌜ (lo + 1 < hi) × (hi < 2 ^ 63) ⌝ }
-    ensures { λ r. ⌜ (lo < r) × (r < hi) ⌝ }
-{
-    if guess < hi {
-        if lo + 4 < guess {
-            return guess - 4;
-        }
-        if lo < guess + 4 {
-            if guess + 4 < hi {
-                return guess + 4;
-            }
-        }
-    }
-    (lo + hi) / 2
-}
-
-// The limit of tol: the root of a number that is not negative is below tol exactly if the number is below the limit.
-// So a loop that tests roots against tol can test the numbers against this, and take no root. The limit is found
-// between 0.0 and 4.0, by bit patterns; it lies within a few of tol * tol, so that some five roots find it.
-pub fn limit(tol: f64) -> f64
-    requires { ⌜ lt (ofBits binary64 0) tol ≡ true ⌝ ∗ ⌜ le tol (ofBits binary64 0x3ff0_0000_0000_0000) ≡ true ⌝ }
-    ensures { λ r. ⌜ IsLimit tol r ⌝ }
-{
-    let guess = f64::to_bits(tol * tol);
-    let mut lo: u64 = 0;
-    let mut hi: u64 = 0x4010_0000_0000_0000;
-    while lo + 1 < hi {
-        let mid = probe(lo, hi, guess);
-        if sqrt(f64::from_bits(mid)) < tol {
-            lo = mid;
-        } else {
-            hi = mid;
-        }
-    }
-    f64::from_bits(hi)
 }

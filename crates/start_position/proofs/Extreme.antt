@@ -11,8 +11,8 @@ use borrow.Author.Count.{below-none}
 use Rattle.plane.specs.declared.Point.{Point}
 use Rattle.ring.specs.Ring.{count, pointAt}
 use Rattle.refusals.specs.Bounds.{coordinates}
-use Rattle.first_best.specs.Best.{better, over}
-use Rattle.first_best.proofs.Scan.{below-suc}
+use Rattle.laws.specs.FirstBest.{better, over}
+use Rattle.laws.proofs.FirstBest.{below-suc}
 use Rattle.start_position.specs.Start.{lowerOf, upperOf, higherOf, vertexOf}
 use Rattle.start_position.specs.Extreme.{Lowest, Highest}
 use Rattle.start_position.proofs.Lexical.{Real, reals, lower-irrefl, lower-asym, lower-weave, upper-irrefl, upper-asym, upper-weave}

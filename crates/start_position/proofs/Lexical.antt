@@ -1,15 +1,15 @@
 -- The order of points, by one coordinate and then by x, where no coordinate is a NaN. Assumes nothing.
-use Prim.Native.Nat.{ℕ, zero, suc, _+_, _*_, _<_}
+use Prim.Native.Nat.{ℕ, _+_, _*_, _<_}
 use mathlib.Core.Path.{_≡_, refl}
 use mathlib.Core.Bool.{Bool, true, false, not, _&&_, _||_}
-use mathlib.Core.List.{List, [], _∷_}
+use mathlib.Core.List.{List}
 use native.Mathlib.Omega.{arith}
-use lib.ListN.{length, getD}
 use lib.Ieee.{Float, nan, inf, fin, lt, isNan}
 use Rattle.plane.specs.declared.Point.{Point}
 use Rattle.ring.specs.Ring.{count, pointAt}
-use Rattle.refusals.specs.Bounds.{coordinate, coordinates, every}
-use Rattle.first_best.proofs.Order.{lt-weave, lt-irrefl, lt-asym}
+use Rattle.refusals.specs.Bounds.{coordinate, coordinates}
+use Rattle.refusals.proofs.Every.{every-at}
+use Rattle.laws.proofs.Order.{lt-weave, lt-irrefl, lt-asym}
 use Rattle.start_position.specs.Start.{lowerOf, upperOf}
 
 -- both coordinates are numbers
@@ -23,16 +23,6 @@ unfolding coordinate isNan
 number nan h = cc
 number (inf s) h = refl
 number (fin s m e) h = refl
-
-both : (a b : Bool) → a && b ≡ true → (a ≡ true) × (b ≡ true)
-both true b h = (refl, h)
-both false b h = (h, cc)
-
-every-at : (p : Float → Bool) (r : List Float) (i : ℕ) → every p r ≡ true → i < length r → p (getD r i nan) ≡ true
-unfolding every
-every-at p [] i h l = absurd (omega arith)
-every-at p (x ∷ r) zero h l = both (p x) (every p r) h .0
-every-at p (x ∷ r) (suc i) h l = every-at p r i (both (p x) (every p r) h .1) (omega arith)
 
 pub reals : (r : List Float) → coordinates r ≡ true → (j : ℕ) → j < count r → Real (pointAt r j)
 unfolding pointAt

@@ -3,3 +3,4 @@ pub mod Lexical
 pub mod Extreme
 pub mod Answers
 pub mod Worked
+pub mod Answered

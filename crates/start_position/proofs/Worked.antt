@@ -9,9 +9,9 @@ use Rattle.plane.specs.Vector.{point, minusOf}
 use Rattle.ring.specs.Ring.{pointAt}
 use Rattle.refusals.specs.Refusals.{refuse}
 use Rattle.refusals.specs.Bounds.{coordinate, every}
-use Rattle.refusals.specs.Screens.{ofTwoPolygons}
+use Rattle.refusals.specs.Rows.{ofTwoPolygons}
 use Rattle.refusals.specs.Answers.{answers, refuses}
-use Rattle.first_best.specs.Best.{better, over}
+use Rattle.laws.specs.FirstBest.{better, over}
 use Rattle.start_position.specs.Start.{lowerOf, upperOf, vertexOf, startOf}
 use Rattle.start_position.specs.Calls.{startCall}
 
@@ -47,6 +47,6 @@ unfolding vertexOf over better upperOf pointAt lt ofBits
 last-of-equals = refl
 
 -- two vertices are no polygon
-too-short : startCall S (f0 ∷ f0 ∷ f1 ∷ f1 ∷ []) ≡ refuses (refuse 1)
+too-short : startCall S (f0 ∷ f0 ∷ f1 ∷ f1 ∷ []) ≡ refuses (refuse 1 0)
 unfolding ofTwoPolygons every coordinate
 too-short = refl

@@ -2,7 +2,7 @@
 use mathlib.Core.List.{List}
 use lib.Ieee.{Float}
 use Rattle.plane.specs.declared.Point.{Point}
-use Rattle.refusals.specs.Screens.{ofTwoPolygons}
+use Rattle.refusals.specs.Rows.{ofTwoPolygons}
 use Rattle.refusals.specs.Answers.{Outcome, answers, refuses, outcome}
 use Rattle.start_position.specs.Start.{startOf}
 use Rattle.start_position.specs.declared.answer.Start.{Start}

@@ -5,7 +5,7 @@ use lib.Ieee.{Float, lt}
 use Rattle.plane.specs.Vector.{minusOf}
 use Rattle.plane.specs.declared.Point.{Point}
 use Rattle.ring.specs.Ring.{count, pointAt}
-use Rattle.first_best.specs.Best.{better, over}
+use Rattle.laws.specs.FirstBest.{better, over}
 
 -- ahead by one coordinate, and where neither is, further left
 abbrev pub lexOf : Bool → Bool → Float → Float → Bool

@@ -1,6 +1,6 @@
 // The public call: find_start_position.
 use crate::answer::Start;
-use refusals::screen;
+use refusals::row;
 ghost use mathlib.Core.Path.{_≡_};
 ghost use Rattle.start_position.specs.Calls.{started, startCall};
 
@@ -8,7 +8,7 @@ ghost use Rattle.start_position.specs.Calls.{started, startCall};
 pub fn find_start_position(stationary: &[f64], orbiting: &[f64]) -> Start
     ensures { λ r. ⌜ started r ≡ startCall (now (stationary .entry)) (now (orbiting .entry)) ⌝ }
 {
-    let no = screen::two_polygons(stationary, orbiting);
+    let no = row::two_polygons(stationary, orbiting);
     if no.passed() {
         Start::Is(crate::find_start_position(stationary, orbiting))
     } else {

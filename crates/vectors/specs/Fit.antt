@@ -3,9 +3,9 @@ use Prim.Native.Nat.{ℕ}
 use mathlib.Core.Bool.{Bool, true, false, not}
 use mathlib.Core.List.{List, [], _∷_}
 use lib.Ieee.{Float, lt}
-use Rattle.scalar.specs.Float.{_⊕_, _⊗_, float, f1}
+use Rattle.scalar.specs.Float.{_⊗_, float, f1}
 use Rattle.scalar.specs.Scalar.{smallerOf}
-use Rattle.plane.specs.Vector.{point, distanceOf}
+use Rattle.plane.specs.Vector.{distanceOf, aheadOf}
 use Rattle.plane.specs.declared.Point.{Point}
 use Rattle.ring.specs.Ring.{count, pointAt}
 use Rattle.ring.specs.Each.{each}
@@ -25,9 +25,7 @@ visitedOf p visited tol = not (each (apart p visited tol) 0 (count visited))
 
 -- where a vector leads, followed for 1.0 at most
 unfoldable pub potentialOf : Point → TranslationVector → Point
-potentialOf from v =
-    let far = smallerOf (v .distance) f1 in
-    point (from .x ⊕ v .direction .x ⊗ far) (from .y ⊕ v .direction .y ⊗ far)
+potentialOf from v = aheadOf from (v .direction) (smallerOf (v .distance) f1)
 
 unfoldable pub keeps : Point → List Float → Float → TranslationVector → Bool
 keeps from visited tol v = not (visitedOf (potentialOf from v) visited tol)
@@ -41,6 +39,6 @@ unfoldable pub kept : (TranslationVector → Bool) → List Sourced → List Sou
 kept p [] = []
 kept p (s ∷ ss) = keepIf (p (s .slide)) s (kept p ss)
 
--- the vectors that lead to no visited position
+-- `handle_perfect_fit`: the vectors that lead to no visited position
 abbrev pub fitOf : List Float → List Float → Point → List Float → Float → List Sourced
 fitOf st orb from visited tol = kept (keeps from visited tol) (vectorsOf st orb tol)

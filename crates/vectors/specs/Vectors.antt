@@ -68,7 +68,7 @@ unfoldable pub vectorsFrom : List Float → List Float → ℕ → List ℕ → 
 vectorsFrom st orb i [] = []
 vectorsFrom st orb i (k ∷ ks) = sourced (vectorOf st orb k 0) i ∷ sourced (vectorOf st orb k 1) i ∷ vectorsFrom st orb (suc i) ks
 
--- the vectors of all contacts
+-- `compute_translation_vectors`: the vectors of all contacts
 abbrev pub vectorsOf : List Float → List Float → Float → List Sourced
 vectorsOf st orb tol = vectorsFrom st orb 0 (contactsOf st orb tol)
 

@@ -5,6 +5,7 @@ use crate::TranslationVector;
 use crate::next_vector;
 use near::is_near;
 use plane::Point;
+use plane::vector::ahead;
 use ring::point_at;
 use scalar::smaller;
 ghost use mathlib.Core.Path.{_≡_};
@@ -34,11 +35,7 @@ pub fn is_visited(position: Point, visited: &[f64], tol: f64) -> bool
 fn potential(from: Point, v: TranslationVector) -> Point
     ensures { λ r. ⌜ r ≡ potentialOf from v ⌝ }
 {
-    let far = smaller(v.distance, 1.0);
-    Point {
-        x: from.x + v.direction.x * far,
-        y: from.y + v.direction.y * far,
-    }
+    ahead(from, v.direction, smaller(v.distance, 1.0))
 }
 
 // Whether a vector leads to no visited position.

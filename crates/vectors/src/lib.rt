@@ -1,20 +1,23 @@
-// The vectors along which the orbiting polygon can slide, two for each contact, one after the other, and those of them that lead to no visited position.
+// The vectors along which the orbiting polygon can slide, two for each contact, one after the other, and those of them that lead to no
+// visited position.
+pub mod course;
 pub mod fit;
 
-use contacts::Edges;
 use contacts::Next;
 use contacts::edges_of;
 use contacts::next_contact;
+use course::along_by;
+use course::course_by;
+use course::to_vector;
 use pairs::pair_at;
 use plane::Point;
-use plane::vector::distance;
 use plane::vector::minus;
 use plane::vector::normalize;
 ghost use mathlib.Core.Path.{_≡_};
 ghost use Prim.Native.Nat.{_<_};
 ghost use Rattle.ring.specs.Ring.{count};
 ghost use Rattle.pairs.specs.Pairs.{Sides, pairCount};
-ghost use Rattle.vectors.specs.Vectors.{oppositeOf, directionOf, vertexEdge, edgeVertex, edgeEdge, vectorBy, vectorOf};
+ghost use Rattle.vectors.specs.Vectors.{oppositeOf, directionOf, vectorOf};
 ghost use Rattle.vectors.specs.Places.{Ready, Takes, allLeft};
 
 // A direction, and how far it can be followed.
@@ -55,69 +58,6 @@ pub fn direction(a: Point, b: Point) -> Point
     normalize(minus(b, a))
 }
 
-// The orbiting vertex c on the stationary edge a b: to the edge's end, or back to its start.
-fn vertex_edge(e: Edges, side: usize) -> TranslationVector
-    ensures { λ r. ⌜ r ≡ vertexEdge e side ⌝ }
-{
-    let along = direction(e.a, e.b);
-    if side == 0 {
-        return TranslationVector {
-            direction: along,
-            distance: distance(e.c, e.b),
-        };
-    }
-    TranslationVector {
-        direction: opposite(along),
-        distance: distance(e.c, e.a),
-    }
-}
-
-// The stationary vertex a on the orbiting edge c d: until it is at the edge's end, or at its start.
-fn edge_vertex(e: Edges, side: usize) -> TranslationVector
-    ensures { λ r. ⌜ r ≡ edgeVertex e side ⌝ }
-{
-    let along = direction(e.c, e.d);
-    if side == 0 {
-        return TranslationVector {
-            direction: opposite(along),
-            distance: distance(e.a, e.d),
-        };
-    }
-    TranslationVector {
-        direction: along,
-        distance: distance(e.a, e.c),
-    }
-}
-
-// Two edges: along the stationary one or back, for the lengths of both.
-fn edge_edge(e: Edges, side: usize) -> TranslationVector
-    ensures { λ r. ⌜ r ≡ edgeEdge e side ⌝ }
-{
-    let along = direction(e.a, e.b);
-    let far = distance(e.a, e.b) + distance(e.c, e.d);
-    if side == 0 {
-        return TranslationVector {
-            direction: along,
-            distance: far,
-        };
-    }
-    TranslationVector {
-        direction: opposite(along),
-        distance: far,
-    }
-}
-
-// A vector of a contact with these edges, by its kind: the first at side 0, the second at side 1.
-fn vector_by(kind: u8, e: Edges, side: usize) -> TranslationVector
-    ensures { λ r. ⌜ r ≡ vectorBy kind e side ⌝ }
-{
-    match kind {
-        0 => vertex_edge(e, side),
-        1 => edge_vertex(e, side),
-        _ => edge_edge(e, side),
-    }
-}
-
 // A vector of the contact with the pair number k.
 pub fn vector_of(stationary: &[f64], orbiting: &[f64], k: usize, side: usize) -> TranslationVector
     requires { ⌜ Sides (count (now stationary)) (count (now orbiting)) ⌝ }
@@ -125,7 +65,9 @@ pub fn vector_of(stationary: &[f64], orbiting: &[f64], k: usize, side: usize) ->
     ensures { λ r. ⌜ r ≡ vectorOf (now (stationary .entry)) (now (orbiting .entry)) k side ⌝ }
 {
     let pair = pair_at(k, stationary.len() / 2, orbiting.len() / 2);
-    vector_by(pair.kind, edges_of(stationary, orbiting, pair), side)
+    let e = edges_of(stationary, orbiting, pair);
+    let kind = pair.kind;
+    to_vector(course_by(kind, e, along_by(kind, e), side))
 }
 
 // The next vector from a place on.

@@ -11,8 +11,8 @@ use lib.Ieee.{Float, nan, lt}
 use Rattle.scalar.specs.Float.{f0}
 use Rattle.ring.specs.Ring.{count, pointAt}
 use Rattle.ring.specs.Room.{laid}
-use Rattle.moved.specs.Points.{points}
-use Rattle.moved.proofs.Points.{points-length}
+use Rattle.ring.specs.Points.{points}
+use Rattle.ring.proofs.Points.{points-length}
 use Rattle.winding.specs.Winding.{areaOf, vertexOf, reversed, ccwOf}
 
 -- the first k vertices, as they are
@@ -25,7 +25,7 @@ kept r (suc k) h =
     let b : suc (2 * k) < length r = omega arith in
     rw (e, take-suc r (suc (2 * k)) nan b, take-suc r (2 * k) nan a, append-assoc, kept r k (omega arith), add-one (2 * k))
 
-chosen : (r : List Float) (reverse : Bool) → length r % 2 ≡ 0 → points (vertexOf r reverse) (count r) ≡ cond reverse (reversed r) r
+pub chosen : (r : List Float) (reverse : Bool) → length r % 2 ≡ 0 → points (vertexOf r reverse) (count r) ≡ cond reverse (reversed r) r
 unfolding reversed vertexOf
 chosen r true even = refl
 chosen r false even = kept r (count r) (omega arith) ∙ take-all (2 * count r) r (omega arith)

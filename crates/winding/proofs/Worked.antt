@@ -5,8 +5,8 @@ use mathlib.Core.List.{[], _∷_}
 use lib.Ieee.{add, sub, mul, div, lt, ofBits}
 use Rattle.scalar.specs.Float.{f0}
 use Rattle.ring.specs.Ring.{pointAt}
-use Rattle.moved.specs.Points.{points}
-use Rattle.moved.proofs.Worked.{f2, f4, S}
+use Rattle.ring.specs.Points.{points}
+use Rattle.ring.proofs.Worked.{f2, f4, S}
 use Rattle.winding.specs.Winding.{addedOf, sumTo, areaOf, reversed, ccwOf}
 
 clockwise : ccwOf (f0 ∷ f0 ∷ f0 ∷ f4 ∷ f4 ∷ f4 ∷ f4 ∷ f0 ∷ []) ≡ f4 ∷ f0 ∷ f4 ∷ f4 ∷ f0 ∷ f4 ∷ f0 ∷ f0 ∷ []

@@ -6,7 +6,7 @@ use lib.Ieee.{Float, lt}
 use Rattle.scalar.specs.Float.{_⊕_, _⊖_, _⊗_, _⊘_, float, f0}
 use Rattle.plane.specs.declared.Point.{Point}
 use Rattle.ring.specs.Ring.{count, pointAt, nextOf}
-use Rattle.moved.specs.Points.{points}
+use Rattle.ring.specs.Points.{points}
 
 -- x_i * y_j is added, then x_j * y_i subtracted
 unfoldable pub addedOf : Float → Point → Point → Float
@@ -21,6 +21,7 @@ sumTo r (suc k) = addedOf (sumTo r k) (pointAt r k) (pointAt r (nextOf k (count 
 abbrev pub f2 : Float
 f2 = float 0x4000_0000_0000_0000
 
+-- `signed_area`
 unfoldable pub areaOf : List Float → Float
 areaOf r = sumTo r (count r) ⊘ f2
 
@@ -32,6 +33,6 @@ vertexOf r reverse i = cond reverse (pointAt r (count r - 1 - i)) (pointAt r i)
 unfoldable pub reversed : List Float → List Float
 reversed r = points (λ i. pointAt r (count r - 1 - i)) (count r)
 
--- reversed where the area is below zero, else as it is
+-- `ensure_ccw`: reversed where the area is below zero, else as it is
 unfoldable pub ccwOf : List Float → List Float
 ccwOf r = cond (lt (areaOf r) f0) (reversed r) r

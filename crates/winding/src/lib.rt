@@ -1,14 +1,14 @@
 // A polygon made counter-clockwise, written to an array that the caller lends: `ensure_ccw` of `nfp_sliding.rs`.
-use moved::put;
 use plane::Point;
 use ring::next;
 use ring::point_at;
+use ring::room::put;
 ghost use mathlib.Core.Path.{_≡_};
 ghost use Prim.Native.Nat.{_%_, _<_, _≤_};
 ghost use lib.ListN.{length};
 ghost use Rattle.ring.specs.Ring.{count};
 ghost use Rattle.ring.specs.Room.{laid};
-ghost use Rattle.moved.specs.Points.{points};
+ghost use Rattle.ring.specs.Points.{points};
 ghost use Rattle.winding.specs.Winding.{addedOf, areaOf, vertexOf, ccwOf};
 
 // An area sum with the edge from p to q: one product added, the other subtracted.
@@ -47,7 +47,8 @@ fn vertex(polygon: &[f64], reverse: bool, i: usize) -> Point
 // The vertices in their order or in reverse, at the front of the room.
 fn ordered(polygon: &[f64], reverse: bool, room: &mut [f64])
     requires { ⌜ length (now polygon) ≤ length (now room) ⌝ }
-    ensures { λ _. ⌜ now (room .exit) ≡ laid (points (vertexOf (now (polygon .entry)) reverse) (count (now (polygon .entry)))) (now (room .entry)) ⌝ }
+    ensures { λ _.
+        ⌜ now (room .exit) ≡ laid (points (vertexOf (now (polygon .entry)) reverse) (count (now (polygon .entry)))) (now (room .entry)) ⌝ }
 {
     let n = polygon.len() / 2;
     let mut i = 0;

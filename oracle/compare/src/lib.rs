@@ -3,9 +3,11 @@
 //! made through the library, and what it answers, writes and leaves alone is held
 //! to the record, bit for bit, but that all NaNs are one.
 
-#[allow(clippy::too_many_arguments)]
+#[allow(dead_code)]
 #[path = "../../../rust/src/ffi.rs"]
-pub mod ffi;
+mod declared;
 pub mod lent;
 pub mod lists;
 pub mod tally;
+
+pub use declared::{archive as ffi, hold_interface, ABI_VERSION};

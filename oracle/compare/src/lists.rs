@@ -9,20 +9,20 @@ mod traces;
 use crate::tally::Compared;
 
 /// A list: its name, how large a share of a run it gets, and the check of a
-/// record; nothing for a record of a function that is not exported.
+/// record.
 pub struct Checked {
     pub name: &'static str,
     pub share: u64,
-    pub check: fn(&[u64]) -> Option<Compared>,
+    pub check: fn(&[u64]) -> Compared,
 }
 
 /// All lists; the shares add up to a hundred.
 pub const LISTS: [Checked; 5] = [
     Checked { name: "scalars", share: 18, check: scalars::check },
-    Checked { name: "rings", share: 33, check: |record| Some(rings::check(record)) },
-    Checked { name: "sliding", share: 33, check: |record| Some(sliding::check(record)) },
-    Checked { name: "book", share: 10, check: |record| Some(book::check(record)) },
-    Checked { name: "traces", share: 6, check: |record| Some(traces::check(record)) },
+    Checked { name: "rings", share: 33, check: rings::check },
+    Checked { name: "sliding", share: 33, check: sliding::check },
+    Checked { name: "book", share: 10, check: book::check },
+    Checked { name: "traces", share: 6, check: traces::check },
 ];
 
 /// The words of a record after its header, taken list by list.

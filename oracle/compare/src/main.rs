@@ -1,9 +1,11 @@
 //! Compares the static library with the oracle: `compare COUNT SEED` makes every
-//! call of the stored replay lists, and COUNT seeded ones besides, through both. The table counts cases by call, refusal and stop reason; it ends in how
-//! many agree. The status is 1 unless all do and every exported call was made.
+//! call of the stored replay lists, and COUNT seeded ones besides, through both.
+//! The table counts cases by call, refusal and stop reason; it ends in how many
+//! agree. The status is 1 unless all do and every exported call was made.
 
 use compare::lists::LISTS;
-use compare::tally::Tally;
+use compare::tally::{Compared, Tally};
+use compare::{ffi, hold_interface, ABI_VERSION};
 use oracle::replay::list;
 use oracle::seeded::Seeded;
 use std::collections::BTreeSet;
@@ -22,19 +24,20 @@ fn missing(tally: &Tally) -> BTreeSet<&'static str> {
 /// Compares the stored records of each list, and its share of so many seeded ones.
 fn run(count: u64, seed: u64) -> Tally {
     let mut tally = Tally::default();
+    // SAFETY: the function takes nothing.
+    let number = unsafe { ffi::byr_abi_version() };
+    tally.add(Compared::of("abi_version", 0, ABI_VERSION, number), || "the interface".to_string());
     for checked in LISTS {
         let list = list(checked.name).expect("each of these is a list");
         for (place, record) in (list.stored)().iter().enumerate() {
-            if let Some(compared) = (checked.check)(record) {
-                tally.add(compared, || format!("{}, stored record {place}", checked.name));
-            }
+            let origin = || format!("{}, stored record {place}", checked.name);
+            tally.add((checked.check)(record), origin);
         }
         let seeded = &mut Seeded::new(seed);
-        let records = (0..).map(|place| (place, (list.long)(seeded, place)));
-        let compared =
-            records.filter_map(|(place, record)| Some((place, (checked.check)(&record)?)));
-        for (place, compared) in compared.take((count * checked.share / 100) as usize) {
-            tally.add(compared, || format!("{}, seed {seed}, record {place}", checked.name));
+        for place in 0..count * checked.share / 100 {
+            let record = (list.long)(seeded, place);
+            let origin = || format!("{}, seed {seed}, record {place}", checked.name);
+            tally.add((checked.check)(&record), origin);
         }
     }
     tally
@@ -52,6 +55,7 @@ fn main() -> ExitCode {
         eprintln!("give how many seeded cases to compare, and a seed");
         return ExitCode::FAILURE;
     };
+    hold_interface();
     println!("seed {seed}");
     let tally = run(count, seed);
     println!("{tally}");

@@ -1,4 +1,4 @@
-//! The helpers as document 01 fixes them.
+//! The helpers as docs/SCOPE.md fixes them.
 
 use crate::answers::{Orientation, Point};
 

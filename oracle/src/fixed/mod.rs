@@ -1,4 +1,4 @@
-//! The text over the helpers that document 01 fixes: the oracle proper.
+//! The text over the helpers that docs/SCOPE.md fixes: the oracle proper.
 
 pub mod helpers;
 #[rustfmt::skip]

@@ -15,9 +15,10 @@ mod files;
 mod lent;
 mod sample;
 
+pub use lent::longest;
+
 use super::{bits, float_room, once, List};
-use crate::book::{layout, read_book, write_book, Unread};
-use crate::calls::points_of;
+use crate::book::{book_of, file_of, read_book, write_book, Unread};
 use crate::seeded::Seeded;
 
 pub const WRITE: u64 = 0;
@@ -75,18 +76,6 @@ fn counts(rings: &[Vec<f64>]) -> Vec<u32> {
 /// The length of the book of these rings.
 fn length(rings: &[Vec<f64>]) -> usize {
     8 * rings.concat().len() + 8 * rings.len() + 8
-}
-
-/// A file that keeps these rings as they are, least readings or not.
-fn file_of(rings: &[Vec<f64>]) -> Vec<u8> {
-    layout(&rings.iter().map(|ring| points_of(ring)).collect::<Vec<_>>())
-}
-
-/// The book of these rings.
-fn book_of(rings: &[Vec<f64>]) -> Vec<u8> {
-    let mut room = vec![0; length(rings)];
-    write_book(&rings.concat(), &counts(rings), &mut room).expect("these rings make a book");
-    room
 }
 
 /// A room of this many bytes, a pattern without a short period.

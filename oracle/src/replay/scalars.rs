@@ -1,6 +1,6 @@
 //! The list `scalars`. A record is five words: the operation (0 absolute value,
-//! 1 smaller, 2 larger, 3 clamp, 4 square root, 5 limit), the bits of up to
-//! three operands (0 where unused) and the bits of the answer.
+//! 1 smaller, 2 larger, 3 clamp, 4 square root), the bits of up to three
+//! operands (0 where unused) and the bits of the answer.
 
 use super::{answer_bits, List, NANS};
 use crate::calls;
@@ -11,10 +11,9 @@ pub const SMALLER: u64 = 1;
 pub const LARGER: u64 = 2;
 pub const CLAMP: u64 = 3;
 pub const SQRT: u64 = 4;
-pub const LIMIT: u64 = 5;
 
 /// The names of the operations, by their number.
-const NAMES: [&str; 6] = ["abs", "smaller", "larger", "clamp", "sqrt", "limit"];
+const NAMES: [&str; 5] = ["abs", "smaller", "larger", "clamp", "sqrt"];
 
 /// The list with both its forms.
 pub const LIST: List = List { stored: records, long, counted };
@@ -201,23 +200,6 @@ fn triples(seeded: &mut Seeded) -> Vec<[u64; 3]> {
     found
 }
 
-/// Tolerances for the limit: above 0 and at most 1.
-fn tolerances(seeded: &mut Seeded) -> Vec<u64> {
-    let mut found = vec![1, 2, 3, 0x000f_ffff_ffff_ffff, 0x0010_0000_0000_0000];
-    found
-        .extend([1.0_f64, 0.5, 0.25, 0.75, 1e-6, 10e-6, 1e-6 * 10.0, 1e-8, 1e-9].map(f64::to_bits));
-    for exponent in 1..=12 {
-        let written: f64 = format!("1e-{exponent}").parse().expect("a float");
-        found.extend(with_neighbours(written.to_bits()));
-    }
-    found.push(1.0_f64.to_bits() - 1);
-    found.extend((-1074..0).step_by(9).map(power));
-    found.extend((0..60).map(|_| positive(seeded, -40, 0).to_bits()));
-    found.extend((0..60).map(|_| positive(seeded, -1022, 0).to_bits()));
-    found.extend((0..20).map(|i| (seeded.bits() >> 12 >> i) + 1));
-    found
-}
-
 /// All cases, in the order of the list.
 fn cases() -> Vec<Case> {
     let seeded = &mut Seeded::new(0x5ca1a25);
@@ -228,7 +210,6 @@ fn cases() -> Vec<Case> {
     }
     all.extend(triples(seeded).into_iter().map(|three| (CLAMP, three)));
     all.extend(roots(seeded).into_iter().map(|x| (SQRT, [x, 0, 0])));
-    all.extend(tolerances(seeded).into_iter().map(|x| (LIMIT, [x, 0, 0])));
     all
 }
 
@@ -241,8 +222,7 @@ fn answer((operation, operands): Case) -> f64 {
         LARGER => calls::larger(x, y),
         CLAMP => calls::clamp(x, y, z),
         SQRT => calls::sqrt(x),
-        LIMIT => calls::limit(x),
-        _ => unreachable!("there are six operations"),
+        _ => unreachable!("there are five operations"),
     }
 }
 
@@ -295,7 +275,6 @@ fn long(seeded: &mut Seeded, place: u64) -> Vec<u64> {
     record(match operation {
         SMALLER | LARGER => (operation, [x, y, 0]),
         CLAMP => (operation, [x, y, z]),
-        LIMIT => (operation, [positive(seeded, -1022, 0).to_bits(), 0, 0]),
         _ => (operation, [x, 0, 0]),
     })
 }

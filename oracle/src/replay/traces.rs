@@ -2,7 +2,7 @@
 //! stationary polygon, the orbiting polygon, the work room and the result room,
 //! the bits of the tolerance and of the smallest move, the pass limit, the
 //! refusal number, the points of the result, the points stored, the passes, the
-//! stop reason (0 where document 01 does not return them) and four zeros; then
+//! stop reason (0 where docs/SCOPE.md does not return them) and four zeros; then
 //! both polygons, both rooms at entry and both rooms at exit.
 
 mod runs;

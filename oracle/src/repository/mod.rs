@@ -1,5 +1,5 @@
 //! The text over the repository's own centroid and Rust's own minimum, maximum
-//! and start of a sum. The turn is document 01's here too: its text is not given.
+//! and start of a sum. The turn is docs/SCOPE.md's here too: its text is not given.
 
 pub mod helpers;
 #[rustfmt::skip]

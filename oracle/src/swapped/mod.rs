@@ -1,6 +1,6 @@
 //! The text over the fixed helpers, except that of two zeros the smaller is +0.0
 //! and the larger -0.0: the choice that Rust's library leaves open, made against
-//! document 01. What differs from `fixed` rests on that choice alone.
+//! docs/SCOPE.md. What differs from `fixed` rests on that choice alone.
 
 pub mod helpers;
 #[rustfmt::skip]

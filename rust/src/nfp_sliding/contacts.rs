@@ -88,8 +88,8 @@ fn in_room<T>(
 /// # Ok::<(), byrlygent::Refusal>(())
 /// ```
 pub fn find_contacts(
-    stationary: &[Point],
-    orbiting: &[Point],
+    stationary: &[impl Into<Point> + Copy],
+    orbiting: &[impl Into<Point> + Copy],
     tolerance: f64,
 ) -> Result<Vec<Contact>> {
     let (stationary, orbiting) = (flat(stationary), flat(orbiting));
@@ -154,8 +154,8 @@ impl Vectors {
 /// The two ways in which each contact lets the orbiting polygon slide, in the
 /// order of the contacts.
 pub fn compute_translation_vectors(
-    stationary: &[Point],
-    orbiting: &[Point],
+    stationary: &[impl Into<Point> + Copy],
+    orbiting: &[impl Into<Point> + Copy],
     tolerance: f64,
 ) -> Result<Vec<TranslationVector>> {
     let (stationary, orbiting) = (flat(stationary), flat(orbiting));
@@ -183,10 +183,10 @@ pub fn compute_translation_vectors(
 /// The same without those that lead from the reference position to a visited
 /// one, of which there may be 10,001.
 pub fn handle_perfect_fit(
-    stationary: &[Point],
-    orbiting: &[Point],
+    stationary: &[impl Into<Point> + Copy],
+    orbiting: &[impl Into<Point> + Copy],
     reference_position: Point,
-    visited_positions: &[Point],
+    visited_positions: &[impl Into<Point> + Copy],
     tolerance: f64,
 ) -> Result<Vec<TranslationVector>> {
     let (stationary, orbiting) = (flat(stationary), flat(orbiting));

@@ -32,8 +32,8 @@ pub struct CollisionEvent {
 /// # Ok::<(), byrlygent::Refusal>(())
 /// ```
 pub fn check_translation_collision(
-    stationary: &[Point],
-    orbiting: &[Point],
+    stationary: &[impl Into<Point> + Copy],
+    orbiting: &[impl Into<Point> + Copy],
     translation: Point,
     tolerance: f64,
 ) -> Result<Option<CollisionEvent>> {
@@ -66,7 +66,7 @@ pub fn check_translation_collision(
 }
 
 /// A function of the library that may find a position.
-type Finding = unsafe extern "C" fn(
+type Finding = unsafe fn(
     *const f64,
     usize,
     *const f64,
@@ -82,8 +82,8 @@ type Finding = unsafe extern "C" fn(
 /// What a function that may find a position finds.
 fn found_by(
     finding: Finding,
-    stationary: &[Point],
-    orbiting: &[Point],
+    stationary: &[impl Into<Point> + Copy],
+    orbiting: &[impl Into<Point> + Copy],
     current_pos: Point,
     tolerance: f64,
 ) -> Result<Option<Point>> {
@@ -110,8 +110,8 @@ fn found_by(
 /// A position one tolerance nearer to a concave vertex at which the polygons do
 /// not overlap, or nothing. The orbiting polygon is lent as drawn.
 pub fn detect_interlocking_opportunity(
-    stationary: &[Point],
-    orbiting: &[Point],
+    stationary: &[impl Into<Point> + Copy],
+    orbiting: &[impl Into<Point> + Copy],
     current_pos: Point,
     tolerance: f64,
 ) -> Result<Option<Point>> {
@@ -122,8 +122,8 @@ pub fn detect_interlocking_opportunity(
 /// Where to go to bring the orbiting polygon, lent where it stands, back to the
 /// stationary one; nothing if it is no farther than the tolerance.
 pub fn recover_contact(
-    stationary: &[Point],
-    orbiting: &[Point],
+    stationary: &[impl Into<Point> + Copy],
+    orbiting: &[impl Into<Point> + Copy],
     current_pos: Point,
     tolerance: f64,
 ) -> Result<Option<Point>> {
@@ -131,7 +131,10 @@ pub fn recover_contact(
 }
 
 /// Whether no axis parts the polygons by more than 1e-6; touching ones overlap.
-pub fn polygons_overlap(poly_a: &[Point], poly_b: &[Point]) -> Result<bool> {
+pub fn polygons_overlap(
+    poly_a: &[impl Into<Point> + Copy],
+    poly_b: &[impl Into<Point> + Copy],
+) -> Result<bool> {
     let (a, b, mut overlap) = (flat(poly_a), flat(poly_b), 0);
     // SAFETY: both lists are as long as is said, and the answer has a place.
     plain(unsafe {
@@ -142,8 +145,8 @@ pub fn polygons_overlap(poly_a: &[Point], poly_b: &[Point]) -> Result<bool> {
 
 /// Whether no axis parts the polygons by more than the tolerance.
 pub fn polygons_overlap_with_tolerance(
-    poly_a: &[Point],
-    poly_b: &[Point],
+    poly_a: &[impl Into<Point> + Copy],
+    poly_b: &[impl Into<Point> + Copy],
     tolerance: f64,
 ) -> Result<bool> {
     let (a, b, mut overlap) = (flat(poly_a), flat(poly_b), 0);

@@ -102,8 +102,10 @@ impl Nfp {
     }
 }
 
-/// Traces the orbiting polygon, lent as drawn, round the stationary one. A path
-/// of fewer than three points is refused with its passes and why it stopped.
+/// Traces the orbiting polygon, lent as drawn, round the stationary one; both may
+/// be one. Closed drawings go through [`open_ring`](crate::polygon_ops::open_ring)
+/// first. A path of fewer than three points is refused with its passes and why it
+/// stopped.
 ///
 /// ```
 /// use byrlygent::nfp_sliding::{compute_nfp_sliding, SlidingNfpConfig, StopReason};
@@ -115,8 +117,8 @@ impl Nfp {
 /// assert_eq!(compute_nfp_sliding(&square, &square, &config), Err(refused));
 /// ```
 pub fn compute_nfp_sliding(
-    stationary: &[Point],
-    orbiting: &[Point],
+    stationary: &[impl Into<Point> + Copy],
+    orbiting: &[impl Into<Point> + Copy],
     config: &SlidingNfpConfig,
 ) -> Result<Nfp> {
     let (stationary, orbiting) = (flat(stationary), flat(orbiting));
@@ -163,7 +165,10 @@ pub fn compute_nfp_sliding(
 /// assert_eq!(find_start_position(&stationary, &orbiting)?, (0.0, -2.0));
 /// # Ok::<(), byrlygent::Refusal>(())
 /// ```
-pub fn find_start_position(stationary: &[Point], orbiting: &[Point]) -> Result<Point> {
+pub fn find_start_position(
+    stationary: &[impl Into<Point> + Copy],
+    orbiting: &[impl Into<Point> + Copy],
+) -> Result<Point> {
     let (stationary, orbiting) = (flat(stationary), flat(orbiting));
     let mut start = (0.0, 0.0);
     // SAFETY: both lists are as long as is said, and both answers have a place.
@@ -180,9 +185,23 @@ pub fn find_start_position(stationary: &[Point], orbiting: &[Point]) -> Result<P
     Ok(start)
 }
 
-/// At most 10,001 points without those in line with their neighbours; all of them
-/// if fewer than three would be left.
-pub fn simplify_polygon(polygon: &[Point], tolerance: f64) -> Result<Vec<Point>> {
+/// Those of at most 10,001 points that stay; all of them if fewer than three would.
+/// The last point's neighbour is the first. A point stays if the turn at it, a
+/// determinant rounded as it is worked out, is not exactly 0; or if it is farther
+/// than the tolerance from the segment between its neighbours, as the tip of a
+/// spike is. So the tolerance is for spikes: a point nearly in line stays. The
+/// neighbours are those of the list as lent: of two equal points side by side
+/// neither stays.
+///
+/// ```
+/// use byrlygent::nfp_sliding::simplify_polygon;
+///
+/// let spike = [(0.0, 0.0), (2.0, 0.0), (9.0, 0.0), (2.0, 0.0), (2.0, 2.0)];
+/// let left = simplify_polygon(&spike, 1e-6)?;
+/// assert_eq!(left, [(0.0, 0.0), (9.0, 0.0), (2.0, 0.0), (2.0, 2.0)]);
+/// # Ok::<(), byrlygent::Refusal>(())
+/// ```
+pub fn simplify_polygon(polygon: &[impl Into<Point> + Copy], tolerance: f64) -> Result<Vec<Point>> {
     let list = flat(polygon);
     let (mut room, mut count) = (vec![0.0; list.len()], 0);
     // SAFETY: both lists are as long as is said, and the answer has a place.

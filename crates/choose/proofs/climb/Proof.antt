@@ -12,7 +12,7 @@ use Rattle.pairs.proofs.Numbers.{most}
 use Rattle.contacts.proofs.Following.{next-at, next-none}
 use Rattle.vectors.specs.Fit.{keeps}
 use Rattle.selection.specs.Select.{startOf}
-use Rattle.courses.specs.Courses.{vectorIs}
+use Rattle.vectors.specs.Courses.{vectorIs}
 use Rattle.choose.specs.Choose.{standing, unset}
 use Rattle.choose.proofs.Climbing.{Climbing, at-first, up, top}
 use Rattle.choose.proofs.climb.Statement.{statement}

@@ -1,6 +1,6 @@
 -- `collision::keep` meets its contract: by what was found so far, by the new one, and by their distances. Assumes nothing.
 use borrow.Author.Needs.{needs}
-use Rattle.first_best.specs.Best.{better}
+use Rattle.laws.specs.FirstBest.{better}
 use Rattle.collision.specs.Hit.{nearer}
 use Rattle.collision.proofs.keep.Statement.{statement}
 use Rattle.collision.proofs.keep.Tie as tie

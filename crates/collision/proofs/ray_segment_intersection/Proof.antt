@@ -8,7 +8,7 @@ use Rattle.scalar.specs.Scalar.{absOf}
 use Rattle.plane.specs.Vector.{minusOf, crossOf}
 use Rattle.plane.specs.declared.Point.{Point}
 use Rattle.collision.specs.Ray.{rayWithin, rayOf}
-use Rattle.collision.specs.Parts.{onSegment, inFront}
+use Rattle.collision.specs.Parts.{withinSegment, inFront}
 use Rattle.collision.specs.declared.Ray.{Ray}
 use Rattle.collision.specs.declared.Ray.the-variants.{Miss}
 use Rattle.collision.proofs.ray_segment_intersection.Statement.{statement}
@@ -20,7 +20,7 @@ module _ (o d p q : Point) (tol : Float) {seg : Point} {den a : Float} (es : seg
   parallel t = rw (← es, ← ed, ← ea, t)
 
   module _ {diff : Point} {y : Float} {on : Bool} (t : lt a tol ≡ false) (f : diff ≡ minusOf p o) (ey : y ≡ crossOf diff d)
-      (eo : on ≡ onSegment (y ⊘ den) tol) where
+      (eo : on ≡ withinSegment (y ⊘ den) tol) where
     within : {x : Float} → on ≡ true → x ≡ crossOf diff seg → {r : Ray} → r ≡ inFront (x ⊘ den) tol → r ≡ rayOf o d p q tol
     unfolding rayOf rayWithin
     within h ex e = rw (e, ex, ← es, ← ed, ← ea, t, ← f, ← ey, ← eo, h, and-true _)
@@ -49,8 +49,8 @@ minus-requires-2 c κs = search needs
 cross-requires-2 : tie.Need-cross-requires-2
 cross-requires-2 c κs = search needs
 
-on-segment-requires : tie.Need-on-segment-requires
-on-segment-requires c κs = search needs
+within-segment-requires : tie.Need-within-segment-requires
+within-segment-requires c κs = search needs
 
 cross-requires-3 : tie.Need-cross-requires-3
 cross-requires-3 c κs = search needs
@@ -64,7 +64,7 @@ returns-2 c =
     let d = s .before .before in
     let e = d .before in
     let x = e .before .before in
-    within _ _ _ _ _ (x .before .minus .ensures) (x .cross .ensures) (e .before .abs .ensures) (e .if1 .left) (d .minus2 .ensures) (s .before .cross2 .ensures) (s .on-segment .ensures)
+    within _ _ _ _ _ (x .before .minus .ensures) (x .cross .ensures) (e .before .abs .ensures) (e .if1 .left) (d .minus2 .ensures) (s .before .cross2 .ensures) (s .within-segment .ensures)
     (c .before .before .if2 .taken) (c .before .cross3 .ensures) (c .in-front .ensures)
 
 returns-3 : tie.Need-returns-3
@@ -73,7 +73,7 @@ returns-3 c =
     let d = s .before .before in
     let e = d .before in
     let x = e .before .before in
-    beside _ _ _ _ _ (x .before .minus .ensures) (x .cross .ensures) (e .before .abs .ensures) (e .if1 .left) (d .minus2 .ensures) (s .before .cross2 .ensures) (s .on-segment .ensures)
+    beside _ _ _ _ _ (x .before .minus .ensures) (x .cross .ensures) (e .before .abs .ensures) (e .if1 .left) (d .minus2 .ensures) (s .before .cross2 .ensures) (s .within-segment .ensures)
     (c .if2 .left)
 
 pub ray-segment-intersection-spec : {M : Type 1} → statement M
@@ -86,7 +86,7 @@ ray-segment-intersection-spec =
     returns
     minus-requires-2
     cross-requires-2
-    on-segment-requires
+    within-segment-requires
     cross-requires-3
     in-front-requires
     returns-2

@@ -7,14 +7,14 @@ use mathlib.Core.List.{List}
 use lib.Dec.{eqb}
 use lib.Ieee.{Float}
 use mathlib.Core.Path.{_≡_, refl, ap, _∙_}
-use Rattle.first_best.specs.Best.{better, over}
-use Rattle.first_best.proofs.Scan.{over-turn}
+use Rattle.laws.specs.FirstBest.{better, over}
+use Rattle.laws.proofs.FirstBest.{over-turn}
 use Rattle.plane.specs.declared.Point.{Point}
 use Rattle.ring.specs.Ring.{pointAt}
 use Rattle.collision.specs.Ray.{edgeRay}
 use Rattle.collision.specs.Hit.{countedOf, nearer}
 use Rattle.collision.specs.Parts.{pairBy}
-use Rattle.collision.specs.Check.{pairOf, rowOf}
+use Rattle.collision.specs.Check.{hitOf, rowOf}
 use Rattle.collision.specs.declared.Sweep.{Sweep}
 use Rattle.collision.specs.declared.Ray.{Ray}
 use Rattle.collision.specs.declared.Ray.the-variants.{Miss}
@@ -24,19 +24,19 @@ use Rattle.collision.proofs.row.Statement.{statement}
 use Rattle.collision.proofs.row.Tie as tie
 
 abbrev Inv-loop : tie.InvT-loop
-Inv-loop vertices edges sweep kind v n origin best₀ e₀ best e = (e ≤ n) × (best ≡ over nearer (pairOf vertices edges sweep kind v) best₀ e)
+Inv-loop vertices edges sweep kind v n origin best₀ e₀ best e = (e ≤ n) × (best ≡ over nearer (hitOf vertices edges sweep kind v) best₀ e)
 
 abbrev μ-loop : tie.MeasureT-loop
 μ-loop vertices edges sweep kind v n origin best₀ e₀ best e = n - e
 
 module _ (vs es : List Float) (w : Sweep) (kind v e : ℕ) {o : Point} {ray : Ray} (eo : o ≡ pointAt vs v)
     (er : ray ≡ edgeRay o (w .dir) es e (w .tolerance)) where
-  pair-is : {p : Collision} → p ≡ pairBy ray w kind v e → p ≡ pairOf vs es w kind v e
-  unfolding pairOf
+  pair-is : {p : Collision} → p ≡ pairBy ray w kind v e → p ≡ hitOf vs es w kind v e
+  unfolding hitOf
   pair-is h = rw (h, er, eo)
 
-  none-is : ray ≡ Miss → Nothing ≡ pairOf vs es w kind v e
-  unfolding pairOf countedOf
+  none-is : ray ≡ Miss → Nothing ≡ hitOf vs es w kind v e
+  unfolding hitOf countedOf
   none-is h = rw (← eo, ← er, h) (both (eqb kind 0))
     where
       both : (b : Bool) → Nothing ≡ cond b Nothing Nothing

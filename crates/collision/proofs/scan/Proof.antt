@@ -4,15 +4,15 @@ use borrow.Author.Needs.{needs}
 use Prim.Native.Nat.{_-_, _≤_}
 use mathlib.Core.Path.{_≡_, refl, ap, _∙_}
 use Rattle.ring.specs.Ring.{count}
-use Rattle.first_best.specs.Best.{nest}
-use Rattle.first_best.proofs.Scan.{nest-turn}
+use Rattle.laws.specs.FirstBest.{nest}
+use Rattle.laws.proofs.FirstBest.{nest-turn}
 use Rattle.collision.specs.Hit.{nearer}
-use Rattle.collision.specs.Check.{pairOf, rowOf, scanOf}
+use Rattle.collision.specs.Check.{hitOf, rowOf, scanOf}
 use Rattle.collision.proofs.scan.Statement.{statement}
 use Rattle.collision.proofs.scan.Tie as tie
 
 abbrev Inv-loop : tie.InvT-loop
-Inv-loop vertices edges sweep kind n best₀ v₀ best v = (v ≤ n) × (best ≡ nest nearer (pairOf vertices edges sweep kind) (count edges) best₀ v)
+Inv-loop vertices edges sweep kind n best₀ v₀ best v = (v ≤ n) × (best ≡ nest nearer (hitOf vertices edges sweep kind) (count edges) best₀ v)
 
 abbrev μ-loop : tie.MeasureT-loop
 μ-loop vertices edges sweep kind n best₀ v₀ best v = n - v

@@ -10,8 +10,8 @@ use lib.Seq.{length-take-le}
 use lib.Ieee.{Float}
 use Rattle.plane.specs.declared.Point.{Point}
 use Rattle.ring.specs.Room.{laid}
-use Rattle.moved.specs.Moved.{movedOf}
-use Rattle.moved.proofs.Moved.{moved-front}
+use Rattle.ring.specs.Moved.{movedOf}
+use Rattle.ring.proofs.Moved.{moved-front}
 use Rattle.overlap.specs.Overlap.{overlapOf, f1e-6}
 use Rattle.interlocking.specs.Interlocking.{fitsOf}
 use Rattle.interlocking.proofs.fits.Statement.{statement}

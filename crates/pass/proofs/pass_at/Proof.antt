@@ -1,7 +1,6 @@
 -- `pass::pass_at` meets its contract: `proofs/Cases.antt` has its three cases. Assumes nothing.
 use borrow.Author.Needs.{needs}
 use Rattle.pass.proofs.Cases.{loose, stuck, slides}
-use Rattle.contacts.proofs.Following.{next-at, next-none}
 use Rattle.pass.proofs.pass_at.Statement.{statement}
 use Rattle.pass.proofs.pass_at.Tie as tie
 
@@ -14,20 +13,14 @@ choose-requires c κs = search needs
 enum-told : tie.Need-enum-told
 enum-told c = search needs
 
-next-contact-requires : tie.Need-next-contact-requires
-next-contact-requires c κs = search needs
-
-enum-told-2 : tie.Need-enum-told-2
-enum-told-2 c = search needs
-
-regain-requires : tie.Need-regain-requires
-regain-requires c κs = search needs
-
-enum-told-3 : tie.Need-enum-told-3
-enum-told-3 c = search needs
+has-contact-requires : tie.Need-has-contact-requires
+has-contact-requires c κs = search needs
 
 unstick-requires : tie.Need-unstick-requires
 unstick-requires c κs = search needs
+
+regain-requires : tie.Need-regain-requires
+regain-requires c κs = search needs
 
 enum-known-v : tie.Need-enum-known-v
 enum-known-v c = search needs
@@ -37,14 +30,12 @@ slide-requires c κs = search needs
 
 returns : tie.Need-returns
 returns c =
-    let n = c .before .before .before in
-    loose _ _ _ _ (next-none _ _ _ 0 (n .next-contact .ensures) (c .before .enum-told2 .given .1)) (c .regain .ensures)
+    let n = c .before .before in
+    let k = n .before .before .before in
+    stuck _ _ _ _ (rw (n .has-contact .ensures) at (c .before .if1 .taken)) (k .before .preferred .ensures) (k .choose .ensures) (n .before .enum-told .given .1) (c .unstick .ensures)
 
 returns-2 : tie.Need-returns-2
-returns-2 c =
-    let n = c .before .before .before in
-    let k = n .before .before .before in
-    stuck _ _ _ _ (next-at _ _ _ (n .next-contact .ensures) (c .before .enum-told3 .given .1) .then) (k .before .preferred .ensures) (k .choose .ensures) (n .before .enum-told .given .1) (c .unstick .ensures)
+returns-2 c = loose _ _ _ _ (rw (c .before .before .has-contact .ensures) at (c .before .if1 .left)) (c .regain .ensures)
 
 returns-3 : tie.Need-returns-3
 returns-3 c =
@@ -58,11 +49,9 @@ pass-at-spec =
     preferred-requires
     choose-requires
     enum-told
-    next-contact-requires
-    enum-told-2
-    regain-requires
-    enum-told-3
+    has-contact-requires
     unstick-requires
+    regain-requires
     enum-known-v
     slide-requires
     returns

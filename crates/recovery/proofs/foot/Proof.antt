@@ -1,6 +1,6 @@
 -- `recovery::foot` meets its contract: the two ends, the foot, its distance. Assumes nothing.
 use borrow.Author.Needs.{needs}
-use Rattle.recovery.specs.Recovery.{footAt}
+use Rattle.recovery.specs.Recovery.{closestOn}
 use Rattle.recovery.proofs.foot.Statement.{statement}
 use Rattle.recovery.proofs.foot.Tie as tie
 
@@ -23,7 +23,7 @@ distance-requires : tie.Need-distance-requires
 distance-requires c κs = search needs
 
 returns : tie.Need-returns
-unfolding footAt
+unfolding closestOn
 returns c =
     let f = c .before in
     let b = f .before .before in

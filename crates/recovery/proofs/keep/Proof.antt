@@ -1,5 +1,5 @@
 -- `recovery::keep` meets its contract: the two cases of the test. Assumes nothing.
-use Rattle.first_best.specs.Best.{better}
+use Rattle.laws.specs.FirstBest.{better}
 use Rattle.recovery.proofs.keep.Statement.{statement}
 use Rattle.recovery.proofs.keep.Tie as tie
 

@@ -3,14 +3,14 @@ use native.Mathlib.Omega.{arith}
 use borrow.Author.Needs.{needs}
 use Prim.Native.Nat.{_-_, _≤_}
 use mathlib.Core.Path.{_≡_, refl, ap, _∙_}
-use Rattle.first_best.specs.Best.{over}
-use Rattle.first_best.proofs.Scan.{over-turn}
-use Rattle.recovery.specs.Recovery.{footAt, nearer}
+use Rattle.laws.specs.FirstBest.{over}
+use Rattle.laws.proofs.FirstBest.{over-turn}
+use Rattle.recovery.specs.Recovery.{closestOn, nearer}
 use Rattle.recovery.proofs.row.Statement.{statement}
 use Rattle.recovery.proofs.row.Tie as tie
 
 abbrev Inv-loop : tie.InvT-loop
-Inv-loop v ring n near₀ i₀ near i = (i ≤ n) × (near ≡ over nearer (footAt v ring) near₀ i)
+Inv-loop v ring n near₀ i₀ near i = (i ≤ n) × (near ≡ over nearer (closestOn v ring) near₀ i)
 
 abbrev μ-loop : tie.MeasureT-loop
 μ-loop v ring n near₀ i₀ near i = n - i

@@ -22,8 +22,8 @@ mul-word c = omega arith
 word-requires : tie.Need-word-requires Inv-loop μ-loop
 word-requires c κs = search needs
 
-number-requires : tie.Need-number-requires Inv-loop μ-loop
-number-requires c κs = search needs
+float-of-requires : tie.Need-float-of-requires Inv-loop μ-loop
+float-of-requires c κs = search needs
 
 mul-room : tie.Need-mul-room Inv-loop μ-loop
 mul-room c = omega arith
@@ -55,7 +55,7 @@ load-spec =
     loop-holds
     mul-word
     word-requires
-    number-requires
+    float-of-requires
     mul-room
     slice-write-room
     add-i

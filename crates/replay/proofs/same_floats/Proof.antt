@@ -14,23 +14,23 @@ abbrev μ-loop : tie.MeasureT-loop
 loop-holds : tie.Need-loop-holds Inv-loop μ-loop
 loop-holds c = omega arith
 
-mul-bits : tie.Need-mul-bits Inv-loop μ-loop
-mul-bits c = omega arith
+mul-bits-of : tie.Need-mul-bits-of Inv-loop μ-loop
+mul-bits-of c = omega arith
 
-shared-slice-read-bits : tie.Need-shared-slice-read-bits Inv-loop μ-loop
-shared-slice-read-bits c = omega arith
+shared-slice-read-bits-of : tie.Need-shared-slice-read-bits-of Inv-loop μ-loop
+shared-slice-read-bits-of c = omega arith
 
-bits-requires : tie.Need-bits-requires Inv-loop μ-loop
-bits-requires c κs = search needs
+bits-of-requires : tie.Need-bits-of-requires Inv-loop μ-loop
+bits-of-requires c κs = search needs
 
-mul-bits-2 : tie.Need-mul-bits-2 Inv-loop μ-loop
-mul-bits-2 c = omega arith
+mul-bits-of-2 : tie.Need-mul-bits-of-2 Inv-loop μ-loop
+mul-bits-of-2 c = omega arith
 
-shared-slice-read-bits-2 : tie.Need-shared-slice-read-bits-2 Inv-loop μ-loop
-shared-slice-read-bits-2 c = omega arith
+shared-slice-read-bits-of-2 : tie.Need-shared-slice-read-bits-of-2 Inv-loop μ-loop
+shared-slice-read-bits-of-2 c = omega arith
 
-bits-requires-2 : tie.Need-bits-requires-2 Inv-loop μ-loop
-bits-requires-2 c κs = search needs
+bits-of-requires-2 : tie.Need-bits-of-requires-2 Inv-loop μ-loop
+bits-of-requires-2 c κs = search needs
 
 returns : tie.Need-returns Inv-loop μ-loop
 returns c = tt
@@ -54,12 +54,12 @@ same-floats-spec =
     Inv-loop
     μ-loop
     loop-holds
-    mul-bits
-    shared-slice-read-bits
-    bits-requires
-    mul-bits-2
-    shared-slice-read-bits-2
-    bits-requires-2
+    mul-bits-of
+    shared-slice-read-bits-of
+    bits-of-requires
+    mul-bits-of-2
+    shared-slice-read-bits-of-2
+    bits-of-requires-2
     returns
     add-i
     loop-less

@@ -9,25 +9,25 @@ word-requires : tie.Need-word-requires
 word-requires c κs = search needs
 
 slice-aggregate-on-rooms : tie.Need-slice-aggregate-on-rooms
-slice-aggregate-on-rooms c = sym (length-take-le _ _ (c .before .before .before .before .before .before .before .before .pre .0))
+slice-aggregate-on-rooms c = sym (length-take-le _ _ (c .before .before .before .before .before .before .before .before .pre .0 .0))
 
 slice-aggregate-on-rooms-2 : tie.Need-slice-aggregate-on-rooms-2
-slice-aggregate-on-rooms-2 c = sym (length-take-le _ _ (c .before .before .before .before .before .before .before .before .before .pre .1))
+slice-aggregate-on-rooms-2 c = sym (length-take-le _ _ (c .before .before .before .before .before .before .before .before .before .pre .0 .1))
 
 slice-aggregate-on-rooms-3 : tie.Need-slice-aggregate-on-rooms-3
-slice-aggregate-on-rooms-3 c = sym (length-take-le _ _ (c .before .before .before .before .before .before .before .before .before .before .pre .2))
+slice-aggregate-on-rooms-3 c = sym (length-take-le _ _ (c .before .before .before .before .before .before .before .before .before .before .pre .0 .2))
 
 slice-relend-prefix-on-rooms : tie.Need-slice-relend-prefix-on-rooms
 slice-relend-prefix-on-rooms c = search needs
 
 slice-aggregate-on-rooms-4 : tie.Need-slice-aggregate-on-rooms-4
-slice-aggregate-on-rooms-4 c = sym (length-take-le _ _ (c .before .before .before .before .before .before .before .before .before .before .before .pre .3))
+slice-aggregate-on-rooms-4 c = sym (length-take-le _ _ (c .before .before .before .before .before .before .before .before .before .before .before .pre .1 .0))
 
 slice-relend-prefix-on-rooms-2 : tie.Need-slice-relend-prefix-on-rooms-2
 slice-relend-prefix-on-rooms-2 c = search needs
 
 slice-aggregate-on-rooms-5 : tie.Need-slice-aggregate-on-rooms-5
-slice-aggregate-on-rooms-5 c = sym (length-take-le _ _ (c .before .before .before .before .before .before .before .before .before .before .before .before .pre .4))
+slice-aggregate-on-rooms-5 c = sym (length-take-le _ _ (c .before .before .before .before .before .before .before .before .before .before .before .before .pre .1 .1))
 
 on-rooms-requires : tie.Need-on-rooms-requires
 on-rooms-requires c κs = search needs

@@ -1,16 +1,13 @@
 -- `ring_distance::to_ring` meets its contract. The invariant: the first i edges are taken, and the next starts at a. Assumes nothing.
 use native.Mathlib.Omega.{arith}
 use borrow.Author.Needs.{needs}
-use Prim.Native.Nat.{_+_, _-_}
-use mathlib.Core.Path.{refl, ap}
-use Rattle.plane.specs.Vector.{root}
-use Rattle.ring_distance.specs.Distance.{toRing}
-use Rattle.ring_distance.proofs.Turns.{Turn, no-edge, first-turn, next-turn, last-turn}
+use Prim.Native.Nat.{_-_}
+use Rattle.ring_distance.proofs.Turns.{Taken, no-edge, first-turn, next-turn, last-turn}
 use Rattle.ring_distance.proofs.to_ring.Statement.{statement}
 use Rattle.ring_distance.proofs.to_ring.Tie as tie
 
 abbrev Inv-loop : tie.InvT-loop
-Inv-loop p ring before n first least₀ a₀ i₀ least a i = Turn p ring before a least i
+Inv-loop p ring before n first least₀ a₀ i₀ least a i = Taken p ring before a least i
 
 abbrev μ-loop : tie.MeasureT-loop
 μ-loop p ring before n first least₀ a₀ i₀ least a i = n - i

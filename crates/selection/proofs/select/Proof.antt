@@ -6,8 +6,8 @@ use mathlib.Core.Path.{_≡_, ap, _∙_}
 use mathlib.Core.List.{List}
 use lib.Ieee.{Float}
 use Rattle.plane.specs.declared.Point.{Point}
-use Rattle.first_best.specs.Best.{over}
-use Rattle.first_best.proofs.Scan.{over-turn}
+use Rattle.laws.specs.FirstBest.{over}
+use Rattle.laws.proofs.FirstBest.{over-turn}
 use Rattle.selection.specs.Score.{scoreOf}
 use Rattle.selection.specs.Select.{vectorAt, scoreAt, scored, scoredAt, above, keptOf, startOf, selectOf}
 use Rattle.vectors.specs.declared.TranslationVector.{TranslationVector}

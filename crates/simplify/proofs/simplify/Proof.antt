@@ -1,6 +1,7 @@
 -- `simplify::simplify` meets its contract: the whole list, or what stays of it. Assumes nothing.
+use native.Mathlib.Omega.{arith}
 use borrow.Author.Needs.{needs}
-use Rattle.simplify.proofs.Whole.{few, whole-fits, kept-is, lost, enough, enough-fits}
+use Rattle.simplify.proofs.Whole.{few, whole-fits, copied, kept-is, lost, enough, enough-fits}
 use Rattle.simplify.proofs.simplify.Statement.{statement}
 use Rattle.simplify.proofs.simplify.Tie as tie
 
@@ -8,7 +9,7 @@ copy-requires : tie.Need-copy-requires
 copy-requires c κs =
     let t = c .before in
     let p = t .before .before .before in
-    whole-fits _ _ _ (p .pre .0) (few _ _ (t .if1 .taken)) (p .pre .1)
+    (omega arith, whole-fits _ _ _ (p .pre .0) (few _ _ (t .if1 .taken)) (p .pre .1))
 
 same-length : tie.Need-same-length
 same-length c = search needs
@@ -19,7 +20,7 @@ returns c =
     let t = d .before .before in
     let a = t .before .before .before .args in
     let e = few (a .list .now) (a .tolerance) (t .if1 .taken) in
-    (rw e, rw e (d .copy .ensures))
+    (rw e, copied _ _ _ e (d .copy .ensures))
 
 staying-requires : tie.Need-staying-requires
 staying-requires c κs = search needs
@@ -29,7 +30,7 @@ copy-requires-2 c κs =
     let t = c .before in
     let e = t .before .before in
     let p = e .before .before .before in
-    whole-fits _ _ _ (p .pre .0) (lost _ _ (t .before .staying .ensures) (e .if1 .left) (t .if2 .taken)) (p .pre .1)
+    (omega arith, whole-fits _ _ _ (p .pre .0) (lost _ _ (t .before .staying .ensures) (e .if1 .left) (t .if2 .taken)) (p .pre .1))
 
 same-length-2 : tie.Need-same-length-2
 same-length-2 c = search needs
@@ -41,7 +42,7 @@ returns-2 c =
     let l = t .before .before in
     let a = l .before .before .before .args in
     let e = lost (a .list .now) (a .tolerance) (t .before .staying .ensures) (l .if1 .left) (t .if2 .taken) in
-    (rw e, rw e (d .copy2 .ensures))
+    (rw e, copied _ _ _ e (d .copy2 .ensures))
 
 gather-requires : tie.Need-gather-requires
 gather-requires c κs =

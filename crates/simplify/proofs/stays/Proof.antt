@@ -9,12 +9,12 @@ use Rattle.scalar.specs.Float.{f0}
 use Rattle.plane.specs.Vector.{turnOf}
 use Rattle.plane.specs.Segment.{toSegmentOf}
 use Rattle.plane.specs.declared.Point.{Point}
-use Rattle.ring.specs.Ring.{count, pointAt, nextOf}
-use Rattle.simplify.specs.Simplify.{prevOf, staysOf}
+use Rattle.ring.specs.Ring.{count, pointAt, nextOf, previousVertex}
+use Rattle.simplify.specs.Simplify.{staysOf}
 use Rattle.simplify.proofs.stays.Statement.{statement}
 use Rattle.simplify.proofs.stays.Tie as tie
 
-module _ (r : List Float) (tol : Float) (i : ℕ) {p q : ℕ} {a b c : Point} {t : Float} (ep : p ≡ prevOf i (count r)) (ea : a ≡ pointAt r p) (eb : b ≡ pointAt r i)
+module _ (r : List Float) (tol : Float) (i : ℕ) {p q : ℕ} {a b c : Point} {t : Float} (ep : p ≡ previousVertex i (count r)) (ea : a ≡ pointAt r p) (eb : b ≡ pointAt r i)
     (eq : q ≡ nextOf i (count r)) (ec : c ≡ pointAt r q) (et : t ≡ turnOf a b c) where
   left : lt f0 t ≡ true → true ≡ staysOf r tol i
   unfolding staysOf
@@ -28,8 +28,8 @@ module _ (r : List Float) (tol : Float) (i : ℕ) {p q : ℕ} {a b c : Point} {t
   unfolding staysOf
   far h k e = rw (← ep, ← ea, ← eb, ← eq, ← ec, ← et, h, k, e)
 
-prev-requires : tie.Need-prev-requires
-prev-requires c κs = search needs
+previous-requires : tie.Need-previous-requires
+previous-requires c κs = search needs
 
 point-at-requires : tie.Need-point-at-requires
 point-at-requires c κs = search needs
@@ -51,14 +51,14 @@ returns c =
     let t = c .before in
     let q = t .before .before in
     let p = q .before .before .before in
-    left _ _ _ (p .prev .ensures .0) (q .before .before .point-at .ensures) (q .before .point-at2 .ensures) (q .next .ensures .0) (t .before .point-at3 .ensures) (t .turn .ensures) (c .if1 .taken)
+    left _ _ _ (p .previous .ensures .0) (q .before .before .point-at .ensures) (q .before .point-at2 .ensures) (q .next .ensures .0) (t .before .point-at3 .ensures) (t .turn .ensures) (c .if1 .taken)
 
 returns-2 : tie.Need-returns-2
 returns-2 c =
     let t = c .before .before in
     let q = t .before .before in
     let p = q .before .before .before in
-    right _ _ _ (p .prev .ensures .0) (q .before .before .point-at .ensures) (q .before .point-at2 .ensures) (q .next .ensures .0) (t .before .point-at3 .ensures) (t .turn .ensures) (c .before .if1 .left) (c .if2 .taken)
+    right _ _ _ (p .previous .ensures .0) (q .before .before .point-at .ensures) (q .before .point-at2 .ensures) (q .next .ensures .0) (t .before .point-at3 .ensures) (t .turn .ensures) (c .before .if1 .left) (c .if2 .taken)
 
 point-to-segment-distance-requires : tie.Need-point-to-segment-distance-requires
 point-to-segment-distance-requires c κs = search needs
@@ -69,13 +69,13 @@ returns-3 c =
     let t = d .before .before in
     let q = t .before .before in
     let p = q .before .before .before in
-    far _ _ _ (p .prev .ensures .0) (q .before .before .point-at .ensures) (q .before .point-at2 .ensures) (q .next .ensures .0) (t .before .point-at3 .ensures) (t .turn .ensures) (d .before .if1 .left) (d .if2 .left) (c .point-to-segment-distance .ensures)
+    far _ _ _ (p .previous .ensures .0) (q .before .before .point-at .ensures) (q .before .point-at2 .ensures) (q .next .ensures .0) (t .before .point-at3 .ensures) (t .turn .ensures) (d .before .if1 .left) (d .if2 .left) (c .point-to-segment-distance .ensures)
 
 pub stays-spec : {M : Type 1} → statement M
 stays-spec =
     tie.close
     (tie.spec
-    prev-requires
+    previous-requires
     point-at-requires
     point-at-requires-2
     next-requires

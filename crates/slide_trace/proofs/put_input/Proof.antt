@@ -1,5 +1,4 @@
 -- `slide_trace::put_input` meets its contract. Assumes nothing.
-use native.Mathlib.Omega.{arith}
 use borrow.Author.Needs.{needs}
 use Rattle.print.proofs.Puts.{reads}
 use Rattle.slide_trace.proofs.Inputs.{too-short, input-said}

@@ -1,6 +1,6 @@
 -- `start_position::keep` meets its contract: the four cases of the tests. Assumes nothing.
 use borrow.Author.Needs.{needs}
-use Rattle.first_best.specs.Best.{better}
+use Rattle.laws.specs.FirstBest.{better}
 use Rattle.start_position.proofs.keep.Statement.{statement}
 use Rattle.start_position.proofs.keep.Tie as tie
 

@@ -8,8 +8,8 @@ use mathlib.Core.List.{List}
 use lib.Ieee.{Float}
 use Rattle.plane.specs.declared.Point.{Point}
 use Rattle.ring.specs.Ring.{count, pointAt}
-use Rattle.first_best.specs.Best.{over}
-use Rattle.first_best.proofs.Scan.{over-turn}
+use Rattle.laws.specs.FirstBest.{over}
+use Rattle.laws.proofs.FirstBest.{over-turn}
 use Rattle.start_position.specs.Start.{orderOf, keptOf, vertexOf}
 use Rattle.start_position.proofs.vertex.Statement.{statement}
 use Rattle.start_position.proofs.vertex.Tie as tie

@@ -5,8 +5,8 @@ use Prim.Native.Nat.{_*_, _-_, _≤_}
 use mathlib.Core.Path.{_≡_, refl}
 use mathlib.Core.List.{_++_}
 use lib.ListN.{length, drop}
-use Rattle.moved.specs.Points.{points}
-use Rattle.moved.proofs.Points.{put-next, put-all}
+use Rattle.ring.specs.Points.{points}
+use Rattle.ring.proofs.Points.{put-next, put-all}
 use Rattle.winding.specs.Winding.{vertexOf}
 use Rattle.winding.proofs.ordered.Statement.{statement}
 use Rattle.winding.proofs.ordered.Tie as tie

@@ -50,7 +50,7 @@ impl Smallest {
     }
 }
 
-/// Rust's own minimum, maximum and sum where IEEE 754 or document 01 fix more.
+/// Rust's own minimum, maximum and sum where IEEE 754 or docs/SCOPE.md fix more.
 fn library() {
     let signalling = f64::from_bits(0x7ff0_0000_0000_0001);
     let pairs = [(0.0, -0.0), (-0.0, 0.0), (1.0, f64::NAN), (1.0, signalling), (signalling, 1.0)];
@@ -104,7 +104,7 @@ fn passes(max_iterations: usize) -> SlidingNfpConfig {
     SlidingNfpConfig { max_iterations, ..Default::default() }
 }
 
-/// Document 01's two squares, each round the other, and S round itself, with
+/// docs/SCOPE.md's two squares, each round the other, and S round itself, with
 /// the default settings; the least pass limit that leaves the same path.
 fn squares() {
     let (s, q) = (points_of(&square(4.0)), points_of(&square(2.0)));

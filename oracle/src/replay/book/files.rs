@@ -1,12 +1,12 @@
 //! Cases for reading a book: files that are right, and damaged ones.
 
 use super::lent::{grid_sample, longest, special_rings, triangles};
-use super::{book_of, file_of, Case};
-use crate::book::{readings, LEAST_BYTES};
+use super::Case;
+use crate::book::{book_of, file_of, patched, readings, LEAST_BYTES};
 use crate::calls::points_of;
 use crate::replay::{EDGES, NANS};
 
-/// The smallest book, of document 01's ring.
+/// The smallest book, of docs/SCOPE.md's ring.
 fn small() -> Vec<u8> {
     book_of(&[vec![4.0, 0.0, 0.0, 3.0, 0.0, 0.0]])
 }
@@ -15,13 +15,6 @@ fn small() -> Vec<u8> {
 /// the entries begin at 112.
 fn double() -> Vec<u8> {
     book_of(&[vec![4.0, 0.0, 0.0, 3.0, 0.0, 0.0], vec![0.0, 0.0, 1.0, 0.5, 0.0, 0.0, 0.0, 1.0]])
-}
-
-/// The file with these bytes put in this place.
-fn patched(file: &[u8], place: usize, bytes: &[u8]) -> Vec<u8> {
-    let mut changed = file.to_vec();
-    changed[place..place + bytes.len()].copy_from_slice(bytes);
-    changed
 }
 
 /// Every byte of the small books changed to several values.

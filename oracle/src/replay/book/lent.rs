@@ -34,7 +34,7 @@ pub fn grid_sample() -> Vec<Vec<f64>> {
     all.map(|place| grid_ring(place).expect("the grid has so many")).collect()
 }
 
-/// Document 01's rings, and others whose least reading is easy to miss: with
+/// docs/SCOPE.md's rings, and others whose least reading is easy to miss: with
 /// repeated corners, all corners equal or all but one, the same either way
 /// round, repeating themselves, signed zeros, the least and largest numbers.
 pub fn special_rings() -> Vec<Vec<f64>> {

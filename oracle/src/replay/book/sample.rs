@@ -1,8 +1,8 @@
 //! Seeded cases of writing and reading, for a long run.
 
-use super::{book_of, counts, file_of, length, Case};
+use super::{counts, length, Case};
 use crate::answers::Point;
-use crate::book::{readings, MOST_BYTES, MOST_RINGS};
+use crate::book::{book_of, file_of, readings, MOST_BYTES, MOST_RINGS};
 use crate::calls::points_of;
 use crate::replay::polygons::near;
 use crate::replay::{with, EDGES, NANS};

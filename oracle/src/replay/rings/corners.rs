@@ -71,7 +71,7 @@ fn short_segments() -> Vec<Vec<f64>> {
 }
 
 /// Feet before, on, between and past the ends of a segment; the piece of
-/// document 01 is the first.
+/// docs/SCOPE.md is the first.
 fn feet() -> Vec<Vec<f64>> {
     let mut found = vec![vec![7.0, 4.0, 0.0, 0.0, 4.0, 0.0]];
     for x in [-1.0, -0.0, 0.0, 5e-324, 1.0, 3.0, 4.0, 4.0_f64.next_down(), 4.0_f64.next_up()] {

@@ -11,7 +11,7 @@ fn around(x: f64) -> [f64; 3] {
     [x.next_down(), x, x.next_up()]
 }
 
-/// Document 01's squares apart: the move along x meets the wall after 3.
+/// docs/SCOPE.md's squares apart: the move along x meets the wall after 3.
 fn apart() -> Scene {
     Scene { at: (-5.0, 1.0), ..squares() }
 }

@@ -43,7 +43,7 @@ impl Scene {
     }
 }
 
-/// Document 01's squares where they first touch.
+/// docs/SCOPE.md's squares where they first touch.
 pub fn squares() -> Scene {
     Scene { stationary: square(4.0), drawn: square(2.0), at: (0.0, -2.0) }
 }

@@ -26,7 +26,7 @@ fn within(contact_tolerance: f64, min_translation: f64) -> Settings {
 
 /// Small traces that end in every way there is, or come near one.
 ///
-/// By lines: the squares of document 01, each round the other; no contact after
+/// By lines: the squares of docs/SCOPE.md, each round the other; no contact after
 /// a step to interlock, with a path that is too short and one that is not; a
 /// step to interlock that is too short; stuck more than three times; recoveries
 /// among these, and before a trace closes, goes on or stops for a short move; a

@@ -8,7 +8,7 @@ use borrow.Author.Tests.{not-true, not-false}
 use lib.ListN.{drop}
 use Rattle.refusals.specs.Refusals.{passed}
 use Rattle.refusals.proofs.First.{on, off}
-use Rattle.book_layout.specs.Layout.{countsIn, ringCount, entryOffset}
+use Rattle.book_layout.specs.Layout.{coordinateBytes, countsIn, ringCount, entryOffset}
 use Rattle.book_layout.specs.Faults.{coordsCheck, leastCheck, bookCheck}
 use Rattle.book_reader.specs.Parts.{tailCheck, listCheck}
 use Rattle.book_reader.proofs.Files.{Tail, tail-passed, afterTail, afterList, book-is}
@@ -96,10 +96,10 @@ check-coords-requires c κs =
 passed-requires-3 : tie.Need-passed-requires-3
 passed-requires-3 c κs = search needs
 
-coords-checked : (c : tie.After-check-coords) → c .check-coords .result ≡ coordsCheck (entryOffset (f (c .before .before .before .before)) / 8) 0 (f (c .before .before .before .before))
+coords-checked : (c : tie.After-check-coords) → c .check-coords .result ≡ coordsCheck (entryOffset (f (c .before .before .before .before)) / coordinateBytes) 0 (f (c .before .before .before .before))
 coords-checked c =
     let k = c .before .before .before .before in
-    c .check-coords .ensures ∙ ap (λ (e : ℕ). coordsCheck (e / 8) 0 (f k)) (is-from k)
+    c .check-coords .ensures ∙ ap (λ (e : ℕ). coordsCheck (e / coordinateBytes) 0 (f k)) (is-from k)
 
 -- past the entries
 past-list : (c : tie.Else2) → bookCheck (f (c .before .before .before)) ≡ afterList (f (c .before .before .before))

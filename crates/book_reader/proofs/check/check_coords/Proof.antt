@@ -5,14 +5,15 @@ use native.Mathlib.Omega.{arith}
 use borrow.Author.Needs.{needs}
 use borrow.Author.Tests.{not-true, not-false}
 use lib.ListN.{take, drop}
-use Rattle.book_layout.specs.Layout.{coordinateBits, numberOf}
+use Rattle.number_bytes.specs.Bytes.{numberOf}
+use Rattle.book_layout.specs.Layout.{coordinateBytes, coordinateBits}
 use Rattle.book_layout.specs.Faults.{faultAt, coordsCheck}
 use Rattle.book_reader.proofs.Coords.{coords-start, coord-good, coord-bad, coords-end}
 use Rattle.book_reader.proofs.check.check_coords.Statement.{statement}
 use Rattle.book_reader.proofs.check.check_coords.Tie as tie
 
 abbrev Inv-loop : tie.InvT-loop
-Inv-loop f m j₀ j = (j ≤ m) × (coordsCheck m 0 f ≡ coordsCheck (m - j) (0 + 8 * j) (drop (0 + 8 * j) f))
+Inv-loop f m j₀ j = (j ≤ m) × (coordsCheck m 0 f ≡ coordsCheck (m - j) (0 + coordinateBytes * j) (drop (0 + coordinateBytes * j) f))
 
 abbrev μ-loop : tie.MeasureT-loop
 μ-loop f m j₀ j = m - j
@@ -30,14 +31,14 @@ are-coordinate-bits-requires : tie.Need-are-coordinate-bits-requires Inv-loop μ
 are-coordinate-bits-requires c κs = search needs
 
 -- where the coordinate lies, and what was asked of it
-place : (j : ℕ) → 8 * j ≡ 0 + 8 * j
+place : (j : ℕ) → coordinateBytes * j ≡ 0 + coordinateBytes * j
 place j = omega arith
 
 asked : (c : tie.After-are-coordinate-bits Inv-loop μ-loop)
-    → c .are-coordinate-bits .result ≡ coordinateBits (numberOf (take 8 (drop (0 + 8 * c .before .before .before .loop .j) (c .before .before .before .before .before .args .f .now))))
+    → c .are-coordinate-bits .result ≡ coordinateBits (numberOf (take coordinateBytes (drop (0 + coordinateBytes * c .before .before .before .loop .j) (c .before .before .before .before .before .args .f .now))))
 asked c =
     c .are-coordinate-bits .ensures
-    ∙ ap coordinateBits (c .before .number8 .ensures ∙ ap (λ (p : ℕ). numberOf (take 8 (drop p (c .before .before .before .before .before .args .f .now)))) (place (c .before .before .before .loop .j)))
+    ∙ ap coordinateBits (c .before .number8 .ensures ∙ ap (λ (p : ℕ). numberOf (take coordinateBytes (drop p (c .before .before .before .before .before .args .f .now)))) (place (c .before .before .before .loop .j)))
 
 fault-requires : tie.Need-fault-requires Inv-loop μ-loop
 fault-requires c κs = search needs

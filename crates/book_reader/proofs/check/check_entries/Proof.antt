@@ -9,10 +9,12 @@ use borrow.Author.Needs.{needs}
 use borrow.Author.Tests.{not-true, not-false}
 use lib.ListN.{take, drop}
 use lib.Dec.{eqb}
-use Rattle.book_layout.specs.Layout.{within, numberOf, total, countsIn}
+use Rattle.number_bytes.specs.Bytes.{numberOf}
+use Rattle.refusals.specs.Rings.{verticesLeast, verticesMost, within, total}
+use Rattle.book_layout.specs.Layout.{fieldBytes, vertexBytes, entryBytes, countsIn}
 use Rattle.book_layout.specs.Faults.{entriesCheck}
 use Rattle.refusals.specs.Refusals.{none}
-use Rattle.book_layout.proofs.Passing.{is-within}
+use Rattle.refusals.proofs.Counts.{is-within}
 use Rattle.book_reader.proofs.Entries.{offset-bad, count-bad, entry-good, total-left, entries-start, entries-end, counts-start, total-end, list-wrong, list-long, list-fine}
 use Rattle.book_reader.proofs.check.check_entries.Statement.{statement}
 use Rattle.book_reader.proofs.check.check_entries.Tie as tie
@@ -20,9 +22,9 @@ use Rattle.book_reader.proofs.check.check_entries.Tie as tie
 abbrev Inv-loop : tie.InvT-loop
 Inv-loop f from k before₀ i₀ before i =
     (i ≤ k)
-    × (before ≤ 4096 * i)
-    × (entriesCheck k from 0 (drop from f) ≡ entriesCheck (k - i) (from + 8 * i) before (drop (from + 8 * i) f))
-    × (16 * total (countsIn k (drop from f)) ≡ before + 16 * total (countsIn (k - i) (drop (from + 8 * i) f)))
+    × (before ≤ verticesMost * vertexBytes * i)
+    × (entriesCheck k from 0 (drop from f) ≡ entriesCheck (k - i) (from + entryBytes * i) before (drop (from + entryBytes * i) f))
+    × (vertexBytes * total (countsIn k (drop from f)) ≡ before + vertexBytes * total (countsIn (k - i) (drop (from + entryBytes * i) f)))
 
 abbrev μ-loop : tie.MeasureT-loop
 μ-loop f from k before₀ i₀ before i = k - i
@@ -30,7 +32,7 @@ abbrev μ-loop : tie.MeasureT-loop
 loop-holds : tie.Need-loop-holds Inv-loop μ-loop
 loop-holds c =
     let a = c .before .args in
-    let t : total (countsIn (a .k) (drop (a .from) (a .f .now))) ≡ total (countsIn (a .k - 0) (drop (a .from + 8 * 0) (a .f .now))) = ap total (counts-start (a .f .now) (a .from) (a .k)) in
+    let t : total (countsIn (a .k) (drop (a .from) (a .f .now))) ≡ total (countsIn (a .k - 0) (drop (a .from + entryBytes * 0) (a .f .now))) = ap total (counts-start (a .f .now) (a .from) (a .k)) in
     ((omega arith), (omega arith), entries-start (a .f .now) (a .from) (a .k), (omega arith))
 
 mul-at : tie.Need-mul-at Inv-loop μ-loop
@@ -71,21 +73,21 @@ module _ (c : tie.After-is-right Inv-loop μ-loop) where
   abbrev turn : i < k
   turn = c .before .before .loop-test .taken
 
-  offset-asked : c .is-right .result ≡ eqb (numberOf (take 4 (drop (from + 8 * i) f))) before
+  offset-asked : c .is-right .result ≡ eqb (numberOf (take fieldBytes (drop (from + entryBytes * i) f))) before
   offset-asked = c .is-right .ensures ∙ ap (λ (o : ℕ). eqb o before) (c .before .number4 .ensures .0)
 
 vertices-asked : (c : tie.After-is-right2 Inv-loop μ-loop)
-    → c .is-right2 .result ≡ within 3 256 (numberOf (take 4 (drop (from (c .before .before .before) + 8 * i (c .before .before .before) + 4) (f (c .before .before .before)))))
-vertices-asked c = c .is-right2 .ensures ∙ ap (within 3 256) (c .before .number42 .ensures .0)
+    → c .is-right2 .result ≡ within verticesLeast verticesMost (numberOf (take fieldBytes (drop (from (c .before .before .before) + entryBytes * i (c .before .before .before) + fieldBytes) (f (c .before .before .before)))))
+vertices-asked c = c .is-right2 .ensures ∙ ap (within verticesLeast verticesMost) (c .before .number42 .ensures .0)
 
-offset-right : (c : tie.Else1 Inv-loop μ-loop) → eqb (numberOf (take 4 (drop (from (c .before) + 8 * i (c .before)) (f (c .before))))) (before (c .before)) ≡ true
+offset-right : (c : tie.Else1 Inv-loop μ-loop) → eqb (numberOf (take fieldBytes (drop (from (c .before) + entryBytes * i (c .before)) (f (c .before))))) (before (c .before)) ≡ true
 offset-right c = sym (offset-asked (c .before)) ∙ not-false (c .before .is-right .result) (c .if1 .left)
 
 returns : tie.Need-returns Inv-loop μ-loop
 returns c =
     let a = c .before .before in
     c .fault .ensures
-    ∙ list-wrong (f a) (from a) (k a) (from a + 8 * i a)
+    ∙ list-wrong (f a) (from a) (k a) (from a + entryBytes * i a)
     (l a .loop .inv .2 ∙ offset-bad (f a) (from a) (k a) (i a) (before a) (turn a) (sym (offset-asked a) ∙ not-true (a .is-right .result) (c .before .if1 .taken)))
 
 add-number4 : tie.Need-add-number4 Inv-loop μ-loop
@@ -109,7 +111,7 @@ returns-2 c =
     let e = b .before .before in
     let a = e .before in
     c .fault2 .ensures
-    ∙ list-wrong (f a) (from a) (k a) (from a + 8 * i a + 4)
+    ∙ list-wrong (f a) (from a) (k a) (from a + entryBytes * i a + fieldBytes)
     (l a .loop .inv .2 ∙ count-bad (f a) (from a) (k a) (i a) (before a) (turn a) (offset-right e) (sym (vertices-asked b) ∙ not-true (b .is-right2 .result) (c .before .if2 .taken)))
 
 -- the vertices are right
@@ -118,16 +120,16 @@ module _ (c : tie.Else2 Inv-loop μ-loop) where
   a = c .before .before .before .before
 
   abbrev n : ℕ
-  n = numberOf (take 4 (drop (from a + 8 * i a + 4) (f a)))
+  n = numberOf (take fieldBytes (drop (from a + entryBytes * i a + fieldBytes) (f a)))
 
   is-n : c .before .before .number42 .result ≡ n
   is-n = c .before .before .number42 .ensures .0
 
-  right : within 3 256 n ≡ true
+  right : within verticesLeast verticesMost n ≡ true
   right = sym (vertices-asked (c .before)) ∙ not-false (c .before .is-right2 .result) (c .if2 .left)
 
-  small : n ≤ 256
-  small = is-within 3 256 n right .1
+  small : n ≤ verticesMost
+  small = is-within verticesLeast verticesMost n right .1
 
 mul-before : tie.Need-mul-before Inv-loop μ-loop
 mul-before c = omega (arith, is-n c, small c)
@@ -149,7 +151,7 @@ loop-again c =
       (omega (arith, is-n c, small c, l a .loop .inv .1)),
       l a .loop .inv .2
           ∙ entry-good (f a) (from a) (k a) (i a) (before a) (turn a) (offset-right e) (right c)
-          ∙ ap (λ (j : ℕ). entriesCheck (k a - (i a + 1)) (from a + 8 * (i a + 1)) (before a + 16 * j) (drop (from a + 8 * (i a + 1)) (f a))) (sym (is-n c)),
+          ∙ ap (λ (j : ℕ). entriesCheck (k a - (i a + 1)) (from a + entryBytes * (i a + 1)) (before a + vertexBytes * j) (drop (from a + entryBytes * (i a + 1)) (f a))) (sym (is-n c)),
       (omega (arith, is-n c, l a .loop .inv .3, total-left (f a) (from a) (k a) (i a) (before a) (turn a))),
     )
 
@@ -166,7 +168,7 @@ module _ (c : tie.After-loop Inv-loop μ-loop) where
       let s = c .before .before .before .args in
       c .before .loop .inv .2 ∙ entries-end (s .f .now) (s .from) (s .k) (c .before .loop .i) (c .before .loop .before) (c .loop-test .left)
 
-  summed : 16 * total (countsIn (c .before .before .before .args .k) (drop (c .before .before .before .args .from) (c .before .before .before .args .f .now))) ≡ c .before .loop .before
+  summed : vertexBytes * total (countsIn (c .before .before .before .args .k) (drop (c .before .before .before .args .from) (c .before .before .before .args .f .now))) ≡ c .before .loop .before
   summed =
       let s = c .before .before .before .args in
       omega (arith, c .before .loop .inv .3, total-end (s .f .now) (s .from) (s .k) (c .before .loop .i) (c .loop-test .left))

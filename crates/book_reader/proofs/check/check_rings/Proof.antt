@@ -9,7 +9,9 @@ use borrow.Author.Tests.{not-true, not-false}
 use lib.ListN.{take, drop}
 use Rattle.refusals.specs.Refusals.{passed}
 use Rattle.reading.specs.Reading.{vertices, isLeast}
-use Rattle.book_layout.specs.Layout.{numberOf, total, coordsIn, countsIn}
+use Rattle.number_bytes.specs.Bytes.{numberOf}
+use Rattle.refusals.specs.Rings.{verticesLeast, verticesMost, total}
+use Rattle.book_layout.specs.Layout.{fieldBytes, coordinateBytes, vertexBytes, entryBytes, coordsIn, countsIn}
 use Rattle.book_layout.specs.Faults.{_passes, entriesCheck, coordsCheck, leastCheck}
 use Rattle.book_reader.proofs.Entries.{entry-held, total-left, entries-start, counts-start, counts-end, list-passed}
 use Rattle.book_reader.proofs.Rings.{coords-next, least-good, least-bad, least-end}
@@ -19,10 +21,10 @@ use Rattle.book_reader.proofs.check.check_rings.Tie as tie
 abbrev Inv-loop : tie.InvT-loop
 Inv-loop f from k at₀ i₀ at i =
     (i ≤ k)
-    × (leastCheck (countsIn k (drop from f)) 0 f ≡ leastCheck (countsIn (k - i) (drop (from + 8 * i) f)) at (drop at f))
-    × (at + 16 * total (countsIn (k - i) (drop (from + 8 * i) f)) ≡ from)
-    × (entriesCheck (k - i) (from + 8 * i) at (drop (from + 8 * i) f) passes)
-    × (coordsCheck (2 * total (countsIn (k - i) (drop (from + 8 * i) f))) at (drop at f) passes)
+    × (leastCheck (countsIn k (drop from f)) 0 f ≡ leastCheck (countsIn (k - i) (drop (from + entryBytes * i) f)) at (drop at f))
+    × (at + vertexBytes * total (countsIn (k - i) (drop (from + entryBytes * i) f)) ≡ from)
+    × (entriesCheck (k - i) (from + entryBytes * i) at (drop (from + entryBytes * i) f) passes)
+    × (coordsCheck (2 * total (countsIn (k - i) (drop (from + entryBytes * i) f))) at (drop at f) passes)
 
 abbrev μ-loop : tie.MeasureT-loop
 μ-loop f from k at₀ i₀ at i = k - i
@@ -35,8 +37,8 @@ loop-holds c =
     let k = s .args .k in
     let p = list-passed f from k (s .pre .1 .0) in
     let z = counts-start f from k in
-    let t : total (countsIn k (drop from f)) ≡ total (countsIn (k - 0) (drop (from + 8 * 0) f)) = ap total z in
-    let m : 2 * total (countsIn (k - 0) (drop (from + 8 * 0) f)) ≡ from / 8 = omega (arith, p .1) in (
+    let t : total (countsIn k (drop from f)) ≡ total (countsIn (k - 0) (drop (from + entryBytes * 0) f)) = ap total z in
+    let m : 2 * total (countsIn (k - 0) (drop (from + entryBytes * 0) f)) ≡ from / coordinateBytes = omega (arith, p .1) in (
       (omega arith),
       ap (λ (ns : List ℕ). leastCheck ns 0 f) z,
       (omega (arith, p .1)),
@@ -80,21 +82,21 @@ module _ (c : tie.After-number4 Inv-loop μ-loop) where
   turn = c .before .loop-test .taken
 
   abbrev n : ℕ
-  n = numberOf (take 4 (drop (from + 8 * i + 4) f))
+  n = numberOf (take fieldBytes (drop (from + entryBytes * i + fieldBytes) f))
 
   abbrev rest : List ℕ
-  rest = countsIn (k - (i + 1)) (drop (from + 8 * (i + 1)) f)
+  rest = countsIn (k - (i + 1)) (drop (from + entryBytes * (i + 1)) f)
 
   is-n : c .number4 .result ≡ n
   is-n = c .number4 .ensures .0
 
-  entry : (3 ≤ n) × (n ≤ 256) × (entriesCheck (k - (i + 1)) (from + 8 * (i + 1)) (at + 16 * n) (drop (from + 8 * (i + 1)) f) passes)
+  entry : (verticesLeast ≤ n) × (n ≤ verticesMost) × (entriesCheck (k - (i + 1)) (from + entryBytes * (i + 1)) (at + vertexBytes * n) (drop (from + entryBytes * (i + 1)) f) passes)
   entry = entry-held f from k i at turn (l .loop .inv .3)
 
-  left : at + 16 * n + 16 * total rest ≡ from
+  left : at + vertexBytes * n + vertexBytes * total rest ≡ from
   left = omega (arith, total-left f from k i at turn, l .loop .inv .2)
 
-  coords : (coordsCheck (2 * n) at (drop at f) passes) × (coordsCheck (2 * total rest) (at + 16 * n) (drop (at + 16 * n) f) passes)
+  coords : (coordsCheck (2 * n) at (drop at f) passes) × (coordsCheck (2 * total rest) (at + vertexBytes * n) (drop (at + vertexBytes * n) f) passes)
   coords = coords-next f from k i at turn (l .loop .inv .4)
 
 is-least-at-requires : tie.Need-is-least-at-requires Inv-loop μ-loop
@@ -139,10 +141,10 @@ loop-again c =
       (omega arith),
       l a .loop .inv .1
           ∙ least-good (f a) (from a) (k a) (i a) (at a) (turn a) (sym (asked b) ∙ not-false (b .is-least-at .result) (c .if1 .left))
-          ∙ ap (λ (j : ℕ). leastCheck (rest a) (at a + 16 * j) (drop (at a + 16 * j) (f a))) (sym (is-n a)),
+          ∙ ap (λ (j : ℕ). leastCheck (rest a) (at a + vertexBytes * j) (drop (at a + vertexBytes * j) (f a))) (sym (is-n a)),
       (omega (arith, is-n a, left a)),
-      ap (λ (j : ℕ). passed (entriesCheck (k a - (i a + 1)) (from a + 8 * (i a + 1)) (at a + 16 * j) (drop (from a + 8 * (i a + 1)) (f a)))) (is-n a) ∙ entry a .2,
-      ap (λ (j : ℕ). passed (coordsCheck (2 * total (rest a)) (at a + 16 * j) (drop (at a + 16 * j) (f a)))) (is-n a) ∙ coords a .1,
+      ap (λ (j : ℕ). passed (entriesCheck (k a - (i a + 1)) (from a + entryBytes * (i a + 1)) (at a + vertexBytes * j) (drop (from a + entryBytes * (i a + 1)) (f a)))) (is-n a) ∙ entry a .2,
+      ap (λ (j : ℕ). passed (coordsCheck (2 * total (rest a)) (at a + vertexBytes * j) (drop (at a + vertexBytes * j) (f a)))) (is-n a) ∙ coords a .1,
     )
 
 none-requires : tie.Need-none-requires Inv-loop μ-loop
@@ -155,7 +157,7 @@ returns-2 c =
     let f = s .f .now in
     let i = l .loop .i in
     c .none .ensures
-    ∙ sym (l .loop .inv .1 ∙ least-end f (countsIn (s .k - i) (drop (s .from + 8 * i) f)) (l .loop .at) (counts-end f (s .from) (s .k) i (c .before .loop-test .left)))
+    ∙ sym (l .loop .inv .1 ∙ least-end f (countsIn (s .k - i) (drop (s .from + entryBytes * i) f)) (l .loop .at) (counts-end f (s .from) (s .k) i (c .before .loop-test .left)))
 
 pub check-rings-spec : {M : Type 1} → statement M
 check-rings-spec =

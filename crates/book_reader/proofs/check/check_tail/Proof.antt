@@ -6,7 +6,8 @@ use borrow.Author.Needs.{needs}
 use borrow.Author.Tests.{not-true, not-false}
 use lib.ListN.{length}
 use lib.Dec.{eqb}
-use Rattle.book_layout.specs.Layout.{within, ringCount, entryOffset}
+use Rattle.refusals.specs.Rings.{ringsMost, within}
+use Rattle.book_layout.specs.Layout.{entryBytes, tailBytes, ringCount, entryOffset}
 use Rattle.book_reader.proofs.Files.{too-short, too-long, bad-count, bad-end, good-end}
 use Rattle.book_reader.proofs.check.check_tail.Statement.{statement}
 use Rattle.book_reader.proofs.check.check_tail.Tie as tie
@@ -36,10 +37,10 @@ fault-requires-3 : tie.Need-fault-requires-3
 fault-requires-3 c κs = search needs
 
 -- what was asked of the ring count, and that it is right
-count-asked : (c : tie.After-is-right) → c .is-right .result ≡ within 1 8 (ringCount (c .before .before .before .before .before .args .f .now))
-count-asked c = c .is-right .ensures ∙ ap (within 1 8) (c .before .ring-count .ensures .0)
+count-asked : (c : tie.After-is-right) → c .is-right .result ≡ within 1 ringsMost (ringCount (c .before .before .before .before .before .args .f .now))
+count-asked c = c .is-right .ensures ∙ ap (within 1 ringsMost) (c .before .ring-count .ensures .0)
 
-count-right : (c : tie.Else3) → within 1 8 (ringCount (c .before .before .before .before .before .before .args .f .now)) ≡ true
+count-right : (c : tie.Else3) → within 1 ringsMost (ringCount (c .before .before .before .before .before .before .args .f .now)) ≡ true
 count-right c = sym (count-asked (c .before)) ∙ not-false (c .before .is-right .result) (c .if3 .left)
 
 returns-3 : tie.Need-returns-3
@@ -73,11 +74,11 @@ fault-requires-4 c κs = search needs
 -- what was asked of the end of the entries
 end-asked : (c : tie.After-is-right2)
     → c .is-right2 .result
-    ≡ eqb (entryOffset (c .before .before .before .before .before .before .before .before .args .f .now) + 8 * ringCount (c .before .before .before .before .before .before .before .before .args .f .now) + 8) (length (c .before .before .before .before .before .before .before .before .args .f .now))
+    ≡ eqb (entryOffset (c .before .before .before .before .before .before .before .before .args .f .now) + entryBytes * ringCount (c .before .before .before .before .before .before .before .before .args .f .now) + tailBytes) (length (c .before .before .before .before .before .before .before .before .args .f .now))
 end-asked c =
     let o = c .before in
     let k = o .before .before .before in
-    c .is-right2 .ensures ∙ ap₂ (λ (a b : ℕ). eqb (a + 8 * b + 8) (length (k .before .before .before .before .args .f .now))) (o .entry-offset .ensures .0) (k .ring-count .ensures .0)
+    c .is-right2 .ensures ∙ ap₂ (λ (a b : ℕ). eqb (a + entryBytes * b + tailBytes) (length (k .before .before .before .before .args .f .now))) (o .entry-offset .ensures .0) (k .ring-count .ensures .0)
 
 returns-4 : tie.Need-returns-4
 returns-4 c =

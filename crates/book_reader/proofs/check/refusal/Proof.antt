@@ -1,14 +1,12 @@
 -- `book_reader::check::refusal` meets its contract: the first fault, and then the rooms. Assumes nothing.
-use Prim.Native.Nat.{ℕ}
 use mathlib.Core.Path.{sym, ap, _∙_}
 use native.Mathlib.Omega.{arith}
 use borrow.Author.Needs.{needs}
 use borrow.Author.Tests.{not-true, not-false}
-use lib.Dec.{leb}
-use Rattle.refusals.specs.Refusals.{passed, unless}
+use Rattle.refusals.specs.Refusals.{passed}
 use Rattle.book_layout.specs.Faults.{_passes, bookCheck}
 use Rattle.book_layout.proofs.Exact.{checked}
-use Rattle.book_reader.proofs.Files.{at-fault, small-room, large-room}
+use Rattle.book_reader.proofs.Files.{at-fault, rooms-read}
 use Rattle.book_reader.proofs.check.refusal.Statement.{statement}
 use Rattle.book_reader.proofs.check.refusal.Tie as tie
 
@@ -35,31 +33,19 @@ fine c =
 entry-offset-requires : tie.Need-entry-offset-requires
 entry-offset-requires c κs = omega (arith, checked (c .before .before .before .before .args .f .now) (fine c) .long)
 
-new-requires : tie.Need-new-requires
-new-requires c κs = search needs
+ring-count-requires : tie.Need-ring-count-requires
+ring-count-requires c κs = let e = c .before in omega (arith, checked (e .before .before .before .before .args .f .now) (fine e) .long)
+
+book-rooms-requires : tie.Need-book-rooms-requires
+book-rooms-requires c κs = search needs
 
 returns-2 : tie.Need-returns-2
 returns-2 c =
-    let o = c .before .before in
-    let e = o .before in
-    let a = e .before .before .before .before .args in
-    c .new .ensures ∙ small-room (a .f .now) (a .room) (a .counts) (fine e) (omega (arith, o .entry-offset .ensures .0, c .before .if2 .taken))
-
-ring-count-requires : tie.Need-ring-count-requires
-ring-count-requires c κs = let e = c .before .before in omega (arith, checked (e .before .before .before .before .args .f .now) (fine e) .long)
-
-unless-requires : tie.Need-unless-requires
-unless-requires c κs = search needs
-
-returns-3 : tie.Need-returns-3
-returns-3 c =
     let k = c .before in
-    let o = k .before .before in
+    let o = k .before in
     let e = o .before in
     let a = e .before .before .before .before .args in
-    c .unless .ensures
-    ∙ ap (λ (n : ℕ). unless (leb n (a .counts)) 4) (k .ring-count .ensures .0)
-    ∙ large-room (a .f .now) (a .room) (a .counts) (fine e) (omega (arith, o .entry-offset .ensures .0, k .before .if2 .left))
+    rooms-read (a .f .now) (a .room) (a .counts) (fine e) (o .entry-offset .ensures .0) (k .ring-count .ensures .0) (c .book-rooms .ensures)
 
 pub refusal-spec : {M : Type 1} → statement M
 refusal-spec =
@@ -69,8 +55,6 @@ refusal-spec =
     passed-requires
     returns
     entry-offset-requires
-    new-requires
-    returns-2
     ring-count-requires
-    unless-requires
-    returns-3)
+    book-rooms-requires
+    returns-2)

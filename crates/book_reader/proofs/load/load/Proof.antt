@@ -9,7 +9,7 @@ use lib.ListN.{length, drop, set, length-set}
 use lib.Seq.{sets}
 use lib.Ieee.{binary64, ofBits}
 use Rattle.refusals.specs.Refusals.{passed}
-use Rattle.book_layout.specs.Layout.{coordinateBits, coordsIn}
+use Rattle.book_layout.specs.Layout.{coordinateBytes, coordinateBits, coordsIn}
 use Rattle.book_layout.specs.Faults.{_passes, coordsCheck}
 use Rattle.book_reader.proofs.Coords.{coords-start, coord-held, load-start, load-on, load-end}
 use Rattle.book_reader.proofs.Fields.{no-nan}
@@ -20,8 +20,8 @@ abbrev Inv-loop : tie.InvT-loop
 Inv-loop f at m room₀ j₀ room j =
     (j ≤ m)
     × (length room ≡ length room₀)
-    × (coordsCheck (m - j) (at + 8 * j) (drop (at + 8 * j) f) passes)
-    × (sets room₀ 0 (map (ofBits binary64) (coordsIn m (drop at f))) ≡ sets room j (map (ofBits binary64) (coordsIn (m - j) (drop (at + 8 * j) f))))
+    × (coordsCheck (m - j) (at + coordinateBytes * j) (drop (at + coordinateBytes * j) f) passes)
+    × (sets room₀ 0 (map (ofBits binary64) (coordsIn m (drop at f))) ≡ sets room j (map (ofBits binary64) (coordsIn (m - j) (drop (at + coordinateBytes * j) f))))
 
 abbrev μ-loop : tie.MeasureT-loop
 μ-loop f at m room₀ j₀ room j = m - j
@@ -76,7 +76,7 @@ loop-again c =
       coord-held f (a .at) (a .m) j t (l .loop .inv .2) .1,
       l .loop .inv .3
           ∙ load-on f (a .at) (a .m) j t room
-          ∙ ap (λ (b : ℕ). sets (set room j (ofBits binary64 b)) (j + 1) (map (ofBits binary64) (coordsIn (a .m - (j + 1)) (drop (a .at + 8 * (j + 1)) f)))) (sym (c .number8 .ensures)),
+          ∙ ap (λ (b : ℕ). sets (set room j (ofBits binary64 b)) (j + 1) (map (ofBits binary64) (coordsIn (a .m - (j + 1)) (drop (a .at + coordinateBytes * (j + 1)) f)))) (sym (c .number8 .ensures)),
     )
 
 same-length : tie.Need-same-length Inv-loop μ-loop

@@ -8,7 +8,7 @@ use lib.ListN.{drop}
 use lib.Seq.{sets}
 use lib.Ieee.{binary64, ofBits}
 use Rattle.refusals.specs.Refusals.{passed}
-use Rattle.book_layout.specs.Layout.{coordsIn, countsIn, entryOffset, coordsOf, countsOf}
+use Rattle.book_layout.specs.Layout.{coordinateBytes, coordsIn, countsIn, entryOffset, coordsOf, countsOf}
 use Rattle.book_layout.specs.Faults.{coordsCheck}
 use Rattle.book_layout.specs.Reader.{numbersOf}
 use Rattle.book_layout.proofs.Bytes.{laid-is}
@@ -34,8 +34,8 @@ module _ (c : tie.After-ring-count) where
   abbrev f : List ℕ
   f = s .args .f .now
 
-  is-m : c .before .entry-offset .result / 8 ≡ entryOffset f / 8
-  is-m = ap (λ (e : ℕ). e / 8) (c .before .entry-offset .ensures .0)
+  is-m : c .before .entry-offset .result / coordinateBytes ≡ entryOffset f / coordinateBytes
+  is-m = ap (λ (e : ℕ). e / coordinateBytes) (c .before .entry-offset .ensures .0)
 
 load-requires : tie.Need-load-requires
 load-requires c κs =

@@ -6,14 +6,14 @@ use native.Mathlib.Omega.{arith}
 use borrow.Author.Needs.{needs}
 use lib.ListN.{length, drop, set, length-set}
 use lib.Seq.{sets}
-use Rattle.book_layout.specs.Layout.{countsIn}
+use Rattle.book_layout.specs.Layout.{entryBytes, countsIn}
 use Rattle.book_reader.proofs.Entries.{counts-start, counts-on, counts-end}
 use Rattle.book_reader.proofs.load.load_counts.Statement.{statement}
 use Rattle.book_reader.proofs.load.load_counts.Tie as tie
 
 abbrev Inv-loop : tie.InvT-loop
 Inv-loop f from k counts₀ i₀ counts i =
-    (i ≤ k) × (length counts ≡ length counts₀) × (sets counts₀ 0 (countsIn k (drop from f)) ≡ sets counts i (countsIn (k - i) (drop (from + 8 * i) f)))
+    (i ≤ k) × (length counts ≡ length counts₀) × (sets counts₀ 0 (countsIn k (drop from f)) ≡ sets counts i (countsIn (k - i) (drop (from + entryBytes * i) f)))
 
 abbrev μ-loop : tie.MeasureT-loop
 μ-loop f from k counts₀ i₀ counts i = k - i
@@ -61,7 +61,7 @@ loop-again c =
       length-set counts i (c .number4 .result) ∙ l .loop .inv .1,
       l .loop .inv .2
           ∙ counts-on f (a .from) (a .k) i 0 (c .before .loop-test .taken) counts
-          ∙ ap (λ (b : ℕ). sets (set counts i b) (i + 1) (countsIn (a .k - (i + 1)) (drop (a .from + 8 * (i + 1)) f))) (sym (c .number4 .ensures .0)),
+          ∙ ap (λ (b : ℕ). sets (set counts i b) (i + 1) (countsIn (a .k - (i + 1)) (drop (a .from + entryBytes * (i + 1)) f))) (sym (c .number4 .ensures .0)),
     )
 
 same-length : tie.Need-same-length Inv-loop μ-loop

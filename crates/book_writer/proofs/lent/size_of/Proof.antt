@@ -4,14 +4,13 @@ use mathlib.Core.Path.{_≡_}
 use native.Mathlib.Omega.{arith}
 use borrow.Author.Needs.{needs}
 use lib.ListN.{length}
-use Rattle.book_layout.specs.Layout.{total}
-use Rattle.book_layout.proofs.Lent.{total-bounds}
-use Rattle.book_writer.proofs.Lengths.{sum-is}
+use Rattle.refusals.specs.Rings.{verticesMost, total}
+use Rattle.refusals.proofs.Counts.{total-bounds, sum-is}
 use Rattle.book_writer.proofs.lent.size_of.Statement.{statement}
 use Rattle.book_writer.proofs.lent.size_of.Tie as tie
 
 -- the sum, and that it is small
-small : (c : tie.After-sum-of) → (c .sum-of .result ≡ total (c .before .before .args .counts .now)) × (total (c .before .before .args .counts .now) ≤ 256 * length (c .before .before .args .counts .now))
+small : (c : tie.After-sum-of) → (c .sum-of .result ≡ total (c .before .before .args .counts .now)) × (total (c .before .before .args .counts .now) ≤ verticesMost * length (c .before .before .args .counts .now))
 small c =
     let s = c .before .before in
     (sum-is (s .args .counts .now) (c .sum-of .result) (c .sum-of .ensures) (s .pre .1), total-bounds (s .args .counts .now) (s .pre .1) .1)

@@ -7,10 +7,11 @@ use borrow.Author.Needs.{needs}
 use lib.ListN.{length}
 use lib.Ieee.{Float}
 use lib.Seq.{sets, length-sets}
-use Rattle.book_layout.specs.Layout.{bytesOf, entries, total}
-use Rattle.book_layout.proofs.Lent.{total-bounds}
+use Rattle.number_bytes.specs.Bytes.{bytesOf}
+use Rattle.refusals.specs.Rings.{verticesMost, total}
+use Rattle.book_layout.specs.Layout.{fieldBytes, vertexBytes, entryBytes, entries}
+use Rattle.refusals.proofs.Counts.{total-bounds, sum-is}
 use Rattle.book_writer.proofs.Storing.{stored}
-use Rattle.book_writer.proofs.Lengths.{sum-is}
 use Rattle.book_writer.proofs.Stored.{four-runs}
 use Rattle.book_writer.proofs.store.put_book.Statement.{statement}
 use Rattle.book_writer.proofs.store.put_book.Tie as tie
@@ -35,7 +36,7 @@ module _ (c : tie.After-sum-of) where
   sum : c .sum-of .result ≡ total ns
   sum = sum-is ns (c .sum-of .result) (c .sum-of .ensures) (s .pre .0 .sized)
 
-  small : total ns ≤ 256 * length ns
+  small : total ns ≤ verticesMost * length ns
   small = total-bounds ns (s .pre .0 .sized) .1
 
 mul-from : tie.Need-mul-from
@@ -63,17 +64,17 @@ put-entries-requires c κs =
     let k = a .before .before in
     ((s k .pre .0 .few, (omega (arith, first-length a, sum k, s k .pre .1))), (omega (arith, small k, s k .pre .0 .few)))
 
-second-run : (c : tie.After-put-entries) → c .put-entries .last .1 .0 ≡ sets (c .before .before .before .before .put-rings .last .1 .1 .0) (16 * total (ns (c .before .before .before .before .before .before))) (entries 0 (ns (c .before .before .before .before .before .before)))
+second-run : (c : tie.After-put-entries) → c .put-entries .last .1 .0 ≡ sets (c .before .before .before .before .put-rings .last .1 .1 .0) (vertexBytes * total (ns (c .before .before .before .before .before .before))) (entries 0 (ns (c .before .before .before .before .before .before)))
 second-run c =
     let a = c .before .before .before .before in
     let k = a .before .before in
-    c .put-entries .ensures ∙ ap (λ (j : ℕ). sets (a .put-rings .last .1 .1 .0) (16 * j) (entries 0 (ns k))) (sum k)
+    c .put-entries .ensures ∙ ap (λ (j : ℕ). sets (a .put-rings .last .1 .1 .0) (vertexBytes * j) (entries 0 (ns k))) (sum k)
 
 second-length : (c : tie.After-put-entries) → length (c .put-entries .last .1 .0) ≡ length (room (c .before .before .before .before .before .before))
 second-length c =
     let a = c .before .before .before .before in
     let k = a .before .before in
-    ap length (second-run c) ∙ length-sets (a .put-rings .last .1 .1 .0) (16 * total (ns k)) (entries 0 (ns k)) ∙ first-length a
+    ap length (second-run c) ∙ length-sets (a .put-rings .last .1 .1 .0) (vertexBytes * total (ns k)) (entries 0 (ns k)) ∙ first-length a
 
 put-requires : tie.Need-put-requires
 put-requires c κs =
@@ -81,12 +82,12 @@ put-requires c κs =
     let k = b .before .before .before .before .before .before in
     omega (arith, second-length b, sum k, s k .pre .1)
 
-third-run : (c : tie.After-put) → c .put .last .0 ≡ sets (c .before .before .before .before .put-entries .last .1 .0) (16 * total (ns (c .before .before .before .before .before .before .before .before .before .before)) + 8 * length (ns (c .before .before .before .before .before .before .before .before .before .before))) (bytesOf 4 (length (ns (c .before .before .before .before .before .before .before .before .before .before))))
+third-run : (c : tie.After-put) → c .put .last .0 ≡ sets (c .before .before .before .before .put-entries .last .1 .0) (vertexBytes * total (ns (c .before .before .before .before .before .before .before .before .before .before)) + entryBytes * length (ns (c .before .before .before .before .before .before .before .before .before .before))) (bytesOf fieldBytes (length (ns (c .before .before .before .before .before .before .before .before .before .before))))
 third-run c =
     let b = c .before .before .before .before in
     let k = b .before .before .before .before .before .before in
     let n = length (ns k) in
-    c .put .ensures ∙ ap (λ (j : ℕ). sets (b .put-entries .last .1 .0) (16 * j + 8 * n) (bytesOf 4 n)) (sum k)
+    c .put .ensures ∙ ap (λ (j : ℕ). sets (b .put-entries .last .1 .0) (vertexBytes * j + entryBytes * n) (bytesOf fieldBytes n)) (sum k)
 
 add-put : tie.Need-add-put
 add-put c =
@@ -99,7 +100,7 @@ put-requires-2 c κs =
     let b = d .before .before .before .before in
     let k = b .before .before .before .before .before .before in
     let n = length (ns k) in
-    omega (arith, ap length (third-run d) ∙ length-sets (b .put-entries .last .1 .0) (16 * total (ns k) + 8 * n) (bytesOf 4 n) ∙ second-length b, sum k, s k .pre .1)
+    omega (arith, ap length (third-run d) ∙ length-sets (b .put-entries .last .1 .0) (vertexBytes * total (ns k) + entryBytes * n) (bytesOf fieldBytes n) ∙ second-length b, sum k, s k .pre .1)
 
 add-result : tie.Need-add-result
 add-result c =
@@ -116,12 +117,12 @@ returns c =
     let b = d .before .before .before .before in
     let a = b .before .before .before .before in
     let k = a .before .before in
-    let f = 16 * total (ns k) in
+    let f = vertexBytes * total (ns k) in
     let n = length (ns k) in (
       (omega (arith, sum k)),
       p .put2 .ensures
-          ∙ ap (λ (j : ℕ). sets (d .put .last .0) (16 * j + 8 * n + 4) (bytesOf 4 (16 * j))) (sum k)
-          ∙ ap (λ (r : List ℕ). sets r (f + 8 * n + 4) (bytesOf 4 f)) (third-run d ∙ ap (λ (r : List ℕ). sets r (f + 8 * n) (bytesOf 4 n)) (second-run b ∙ ap (λ (r : List ℕ). sets r f (entries 0 (ns k))) (first-run a)))
+          ∙ ap (λ (j : ℕ). sets (d .put .last .0) (vertexBytes * j + entryBytes * n + fieldBytes) (bytesOf fieldBytes (vertexBytes * j))) (sum k)
+          ∙ ap (λ (r : List ℕ). sets r (f + entryBytes * n + fieldBytes) (bytesOf fieldBytes f)) (third-run d ∙ ap (λ (r : List ℕ). sets r (f + entryBytes * n) (bytesOf fieldBytes n)) (second-run b ∙ ap (λ (r : List ℕ). sets r f (entries 0 (ns k))) (first-run a)))
           ∙ four-runs (xs k) (ns k) (room k) (s k .pre .0 .sized) (s k .pre .0 .whole) (s k .pre .1),
     )
 

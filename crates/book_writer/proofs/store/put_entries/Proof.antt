@@ -7,8 +7,10 @@ use native.Mathlib.Omega.{arith}
 use borrow.Author.Needs.{needs}
 use lib.ListN.{length, getD, drop}
 use lib.Seq.{sets, length-sets}
-use Rattle.book_layout.specs.Layout.{bytesOf, entries, total}
-use Rattle.book_layout.proofs.Counts.{total-on}
+use Rattle.number_bytes.specs.Bytes.{bytesOf}
+use Rattle.refusals.specs.Rings.{total}
+use Rattle.book_layout.specs.Layout.{fieldBytes, vertexBytes, entryBytes, entries}
+use Rattle.refusals.proofs.Counts.{total-on}
 use Rattle.book_writer.proofs.Storing.{entries-start, entries-on, entries-end}
 use Rattle.book_writer.proofs.store.put_entries.Statement.{statement}
 use Rattle.book_writer.proofs.store.put_entries.Tie as tie
@@ -17,8 +19,8 @@ abbrev Inv-loop : tie.InvT-loop
 Inv-loop counts room₀ from before₀ i₀ room before i =
     (i ≤ length counts)
     × (length room ≡ length room₀)
-    × (before + 16 * total (drop i counts) ≡ 16 * total counts)
-    × (sets room₀ from (entries 0 counts) ≡ sets room (from + 8 * i) (entries before (drop i counts)))
+    × (before + vertexBytes * total (drop i counts) ≡ vertexBytes * total counts)
+    × (sets room₀ from (entries 0 counts) ≡ sets room (from + entryBytes * i) (entries before (drop i counts)))
 
 abbrev μ-loop : tie.MeasureT-loop
 μ-loop counts room₀ from before₀ i₀ room before i = length counts - i
@@ -79,18 +81,18 @@ loop-again c =
     let i = l .loop .i in
     let n = getD ns i 0 in
     let room = l .loop .room in
-    let a = s .args .from + 8 * i in
+    let a = s .args .from + entryBytes * i in
     let b = l .loop .before in
     let d = c .before .before .before .before .before .before .put .last .0 in
-    let e : d ≡ sets room a (bytesOf 4 b) = c .before .before .before .before .before .before .put .ensures in
-    let f : c .before .before .put2 .last .0 ≡ sets (sets room a (bytesOf 4 b)) (a + 4) (bytesOf 4 n) =
-    c .before .before .put2 .ensures ∙ ap (λ (r : List ℕ). sets r (a + 4) (bytesOf 4 n)) e in (
+    let e : d ≡ sets room a (bytesOf fieldBytes b) = c .before .before .before .before .before .before .put .ensures in
+    let f : c .before .before .put2 .last .0 ≡ sets (sets room a (bytesOf fieldBytes b)) (a + fieldBytes) (bytesOf fieldBytes n) =
+    c .before .before .put2 .ensures ∙ ap (λ (r : List ℕ). sets r (a + fieldBytes) (bytesOf fieldBytes n)) e in (
       (omega arith),
-      ap length f ∙ length-sets (sets room a (bytesOf 4 b)) (a + 4) (bytesOf 4 n) ∙ length-sets room a (bytesOf 4 b) ∙ l .loop .inv .1,
+      ap length f ∙ length-sets (sets room a (bytesOf fieldBytes b)) (a + fieldBytes) (bytesOf fieldBytes n) ∙ length-sets room a (bytesOf fieldBytes b) ∙ l .loop .inv .1,
       (omega (arith, part k)),
       l .loop .inv .3
           ∙ entries-on room ns (s .args .from) b i (k .loop-test .taken)
-          ∙ ap (λ (r : List ℕ). sets r (s .args .from + 8 * (i + 1)) (entries (b + 16 * n) (drop (i + 1) ns))) (sym f),
+          ∙ ap (λ (r : List ℕ). sets r (s .args .from + entryBytes * (i + 1)) (entries (b + vertexBytes * n) (drop (i + 1) ns))) (sym f),
     )
 
 same-length : tie.Need-same-length Inv-loop μ-loop

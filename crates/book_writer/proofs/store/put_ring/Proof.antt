@@ -10,7 +10,8 @@ use lib.Seq.{sets, length-sets}
 use Rattle.reading.specs.Reading.{flat, choice}
 use Rattle.reading.specs.Lent.{ringOf}
 use Rattle.reading.proofs.Places.{length-choice}
-use Rattle.book_layout.specs.Layout.{bytesOf, coordBytes}
+use Rattle.number_bytes.specs.Bytes.{bytesOf}
+use Rattle.book_layout.specs.Layout.{coordinateBytes, coordBytes}
 use Rattle.book_writer.proofs.Storing.{ring-start, ring-on, ring-end}
 use Rattle.book_writer.proofs.store.put_ring.Statement.{statement}
 use Rattle.book_writer.proofs.store.put_ring.Tie as tie
@@ -19,7 +20,7 @@ abbrev Inv-loop : tie.InvT-loop
 Inv-loop ring c room₀ at j₀ room j =
     (j ≤ length ring)
     × (length room ≡ length room₀)
-    × (sets room₀ at (coordBytes (flat (choice (ringOf ring) c))) ≡ sets room (at + 8 * j) (coordBytes (drop j (flat (choice (ringOf ring) c)))))
+    × (sets room₀ at (coordBytes (flat (choice (ringOf ring) c))) ≡ sets room (at + coordinateBytes * j) (coordBytes (drop j (flat (choice (ringOf ring) c)))))
 
 abbrev μ-loop : tie.MeasureT-loop
 μ-loop ring c room₀ at j₀ room j = length ring - j
@@ -55,15 +56,15 @@ loop-again c =
     let xs = s .args .ring .now in
     let f = flat (choice (ringOf xs) (s .args .c)) in
     let j = l .loop .j in
-    let p = s .args .at + 8 * j in
+    let p = s .args .at + coordinateBytes * j in
     let n = length-choice xs (s .pre .0 .even) (s .args .c) in
-    let e : c .before .before .put .last .0 ≡ sets (l .loop .room) p (bytesOf 8 (getD f j 0)) =
-    c .before .before .put .ensures ∙ ap (λ (v : ℕ). sets (l .loop .room) p (bytesOf 8 v)) (k .coordinate .ensures) in (
+    let e : c .before .before .put .last .0 ≡ sets (l .loop .room) p (bytesOf coordinateBytes (getD f j 0)) =
+    c .before .before .put .ensures ∙ ap (λ (v : ℕ). sets (l .loop .room) p (bytesOf coordinateBytes v)) (k .coordinate .ensures) in (
       (omega arith),
-      ap length e ∙ length-sets (l .loop .room) p (bytesOf 8 (getD f j 0)) ∙ l .loop .inv .1,
+      ap length e ∙ length-sets (l .loop .room) p (bytesOf coordinateBytes (getD f j 0)) ∙ l .loop .inv .1,
       l .loop .inv .2
           ∙ ring-on (l .loop .room) f (s .args .at) j (omega arith)
-          ∙ ap (λ (r : List ℕ). sets r (s .args .at + 8 * (j + 1)) (coordBytes (drop (j + 1) f))) (sym e),
+          ∙ ap (λ (r : List ℕ). sets r (s .args .at + coordinateBytes * (j + 1)) (coordBytes (drop (j + 1) f))) (sym e),
     )
 
 same-length : tie.Need-same-length Inv-loop μ-loop

@@ -11,9 +11,9 @@ use lib.Seq.{sets, length-sets}
 use lib.Ieee.{Float}
 use Rattle.reading.specs.Reading.{flat, leastReading}
 use Rattle.reading.specs.Lent.{ringOf}
-use Rattle.book_layout.specs.Layout.{coordBytes, total}
-use Rattle.book_layout.specs.Writer.{sizedAll}
-use Rattle.book_layout.proofs.Counts.{total-on, sized-here}
+use Rattle.refusals.specs.Rings.{verticesLeast, verticesMost, total, sizedAll}
+use Rattle.book_layout.specs.Layout.{coordinateBytes, coordBytes}
+use Rattle.refusals.proofs.Counts.{total-on, sized-here}
 use Rattle.book_writer.proofs.Storing.{stored, rings-on, rings-end}
 use Rattle.book_writer.proofs.Part.{part-is, part-length, part-lent}
 use Rattle.book_writer.proofs.store.put_rings.Statement.{statement}
@@ -25,7 +25,7 @@ Inv-loop xs counts room₀ at₀ i₀ room at i =
     × (length room ≡ length room₀)
     × (at + 2 * total (drop i counts) ≡ length xs)
     × (sizedAll (drop i counts) ≡ true)
-    × (sets room₀ 0 (stored counts xs) ≡ sets room (8 * at) (stored (drop i counts) (drop at xs)))
+    × (sets room₀ 0 (stored counts xs) ≡ sets room (coordinateBytes * at) (stored (drop i counts) (drop at xs)))
 
 abbrev μ-loop : tie.MeasureT-loop
 μ-loop xs counts room₀ at₀ i₀ room at i = length counts - i
@@ -49,13 +49,13 @@ module _ (c : tie.In-loop Inv-loop μ-loop) where
   abbrev n : ℕ
   n = getD ns (l .loop .i) 0
 
-  sized : (3 ≤ n) × (n ≤ 256) × (sizedAll (drop (l .loop .i + 1) ns) ≡ true)
+  sized : (verticesLeast ≤ n) × (n ≤ verticesMost) × (sizedAll (drop (l .loop .i + 1) ns) ≡ true)
   sized = sized-here ns (l .loop .i) (c .loop-test .taken) (l .loop .inv .3)
 
   left : l .loop .at + 2 * n + 2 * total (drop (l .loop .i + 1) ns) ≡ length xs
   left = omega (arith, total-on ns (l .loop .i) (c .loop-test .taken), l .loop .inv .2)
 
-  inside : (n ≤ 256) × (l .loop .at + 2 * n ≤ length xs)
+  inside : (n ≤ verticesMost) × (l .loop .at + 2 * n ≤ length xs)
   inside = (sized .1, (omega (arith, left)))
 
 mul-n : tie.Need-mul-n Inv-loop μ-loop
@@ -111,16 +111,16 @@ loop-again c =
     let i = l k .loop .i in
     let room = l k .loop .room in
     let u = coordBytes (flat (leastReading (ringOf (take (2 * n k) (drop at (xs k)))))) in
-    let e : c .before .before .put-least .last .1 .0 ≡ sets room (8 * at) u =
+    let e : c .before .before .put-least .last .1 .0 ≡ sets room (coordinateBytes * at) u =
     c .before .before .put-least .ensures
-    ∙ ap (λ (p : List Float). sets room (8 * at) (coordBytes (flat (leastReading (ringOf p))))) (part-is (xs k) at (n k) (l k .before .before .before .before .pre .0 .bounded) (inside k .1)) in (
+    ∙ ap (λ (p : List Float). sets room (coordinateBytes * at) (coordBytes (flat (leastReading (ringOf p))))) (part-is (xs k) at (n k) (l k .before .before .before .before .pre .0 .bounded) (inside k .1)) in (
       (omega arith),
-      ap length e ∙ length-sets room (8 * at) u ∙ l k .loop .inv .1,
+      ap length e ∙ length-sets room (coordinateBytes * at) u ∙ l k .loop .inv .1,
       left k,
       sized k .2,
       l k .loop .inv .4
           ∙ rings-on room (ns k) (xs k) at i (k .loop-test .taken) (omega (arith, sized k .0)) (inside k .1)
-          ∙ ap (λ (r : List ℕ). sets r (8 * (at + 2 * n k)) (stored (drop (i + 1) (ns k)) (drop (at + 2 * n k) (xs k)))) (sym e),
+          ∙ ap (λ (r : List ℕ). sets r (coordinateBytes * (at + 2 * n k)) (stored (drop (i + 1) (ns k)) (drop (at + 2 * n k) (xs k)))) (sym e),
     )
 
 same-length : tie.Need-same-length Inv-loop μ-loop

@@ -3,16 +3,16 @@ use native.Mathlib.Omega.{arith}
 use borrow.Author.Needs.{needs}
 use Prim.Native.Nat.{_-_, _<_}
 use mathlib.Core.Path.{_≡_, refl, ap, _∙_}
-use Rattle.plane.specs.Segment.{onSegmentOf}
+use Rattle.plane.specs.Segment.{nearSegmentOf}
 use Rattle.ring.specs.Ring.{pointAt}
-use Rattle.bounds.proofs.Widened.{next-start}
+use Rattle.frames.proofs.Widened.{next-start}
 use Rattle.contacts.specs.Rows.{alongEdge}
 use Rattle.contacts.proofs.Rowing.{Sought, begun, onward, found, none-found, is-along}
 use Rattle.contacts.proofs.rows.edge_along.Statement.{statement}
 use Rattle.contacts.proofs.rows.edge_along.Tie as tie
 
 abbrev Inv-loop : tie.InvT-loop
-Inv-loop a b ring from tol n c₀ starts₀ i₀ c starts i = Sought (alongEdge a b ring tol) from n i × (i < n → c ≡ pointAt ring i) × (i < n → starts ≡ onSegmentOf (pointAt ring i) a b tol)
+Inv-loop a b ring from tol n c₀ starts₀ i₀ c starts i = Sought (alongEdge a b ring tol) from n i × (i < n → c ≡ pointAt ring i) × (i < n → starts ≡ nearSegmentOf (pointAt ring i) a b tol)
 
 abbrev μ-loop : tie.MeasureT-loop
 μ-loop a b ring from tol n c₀ starts₀ i₀ c starts i = n - i

@@ -4,8 +4,8 @@ use Rattle.contacts.proofs.rows.edge_along_within.Statement.{statement}
 use Rattle.contacts.proofs.rows.edge_along_within.Tie as tie
 use Rattle.contacts.proofs.Skipped.{no-along}
 
-bounds-at-requires : tie.Need-bounds-at-requires
-bounds-at-requires c κs = search needs
+frame-at-requires : tie.Need-frame-at-requires
+frame-at-requires c κs = search needs
 
 with-edge-requires : tie.Need-with-edge-requires
 with-edge-requires c κs = search needs
@@ -26,7 +26,7 @@ pub edge-along-within-spec : {M : Type 1} → statement M
 edge-along-within-spec =
     tie.close
     (tie.spec
-    bounds-at-requires
+    frame-at-requires
     with-edge-requires
     is-apart-requires
     returns

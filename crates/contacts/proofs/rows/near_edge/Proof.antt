@@ -4,7 +4,7 @@ use borrow.Author.Needs.{needs}
 use Prim.Native.Nat.{_-_, _<_}
 use mathlib.Core.Path.{_≡_, ap, _∙_}
 use Rattle.ring.specs.Ring.{pointAt}
-use Rattle.bounds.proofs.Widened.{next-start}
+use Rattle.frames.proofs.Widened.{next-start}
 use Rattle.contacts.specs.Rows.{onEdge}
 use Rattle.contacts.proofs.Rowing.{Sought, begun, onward, found, none-found, on-edge}
 use Rattle.contacts.proofs.rows.near_edge.Statement.{statement}

@@ -4,14 +4,14 @@ use Rattle.contacts.proofs.rows.near_edge_within.Statement.{statement}
 use Rattle.contacts.proofs.rows.near_edge_within.Tie as tie
 use Rattle.contacts.proofs.Skipped.{no-near}
 
-bounds-at-requires : tie.Need-bounds-at-requires
-bounds-at-requires c κs = search needs
+frame-at-requires : tie.Need-frame-at-requires
+frame-at-requires c κs = search needs
 
 is-apart-requires : tie.Need-is-apart-requires
 is-apart-requires c κs = search needs
 
 returns : tie.Need-returns
-returns c = no-near _ _ _ _ _ (c .before .before .before .before .pre .0) (c .before .before .before .before .pre .1) _ (c .before .before .bounds-at .ensures) (c .before .is-apart .ensures) (c .if1 .taken)
+returns c = no-near _ _ _ _ _ (c .before .before .before .before .pre .0) (c .before .before .before .before .pre .1) _ (c .before .before .frame-at .ensures) (c .before .is-apart .ensures) (c .if1 .taken)
 
 near-edge-requires : tie.Need-near-edge-requires
 near-edge-requires c κs = search needs
@@ -21,4 +21,4 @@ returns-2 c = search needs
 
 pub near-edge-within-spec : {M : Type 1} → statement M
 near-edge-within-spec =
-    tie.close (tie.spec bounds-at-requires is-apart-requires returns near-edge-requires returns-2)
+    tie.close (tie.spec frame-at-requires is-apart-requires returns near-edge-requires returns-2)

@@ -14,7 +14,7 @@ use Rattle.ring_copies.proofs.calls.mirror_polygon.Tie as tie
 
 -- what the tests found is what the definition says, and where they pass the ring and its copy fit
 refusal : (c : tie.After-first) → c .first .result ≡ copyRefusal (c .before .before .before .before .before .args .ring .now) (count (c .before .before .before .before .before .args .ring .now)) (length (c .before .before .before .before .before .args .room .now))
-refusal c = screened _ _ _ refl (c .before .before .ring .ensures) (c .before .room .ensures) (c .first .ensures)
+refusal c = screened _ _ _ (c .before .before .ring .ensures) (rw (c .before .room .ensures) at (c .first .ensures))
 
 fine : (c : tie.Then1) → Sized (c .before .before .before .before .before .before .before .args .ring .now) × (2 * count (c .before .before .before .before .before .before .before .args .ring .now) ≤ length (c .before .before .before .before .before .before .before .args .room .now))
 fine c = passing _ _ _ (refusal (c .before .before)) (c .before .passed .ensures) (c .if1 .taken)

@@ -15,39 +15,36 @@ use Rattle.ring_copies.proofs.calls.open_ring.Statement.{statement}
 use Rattle.ring_copies.proofs.calls.open_ring.Tie as tie
 
 -- what the tests found is what the definition says, and where they pass the ring and its copy fit
-refusal : (c : tie.After-first) → c .first .result ≡ copyRefusal (c .before .before .before .before .before .before .args .ring .now) (openCount (c .before .before .before .before .before .before .args .ring .now)) (length (c .before .before .before .before .before .before .args .room .now))
-refusal c = screened _ _ _ (c .before .before .before .open-count .ensures) (c .before .before .ring .ensures) (c .before .room .ensures) (c .first .ensures)
+refusal : (c : tie.After-open-fits) → c .open-fits .result ≡ copyRefusal (c .before .before .before .before .args .ring .now) (openCount (c .before .before .before .before .args .ring .now)) (length (c .before .before .before .before .args .room .now))
+refusal c = screened _ _ _ (c .before .ring .ensures) (c .open-fits .ensures)
 
-fine : (c : tie.Then1) → Sized (c .before .before .before .before .before .before .before .before .args .ring .now) × (2 * openCount (c .before .before .before .before .before .before .before .before .args .ring .now) ≤ length (c .before .before .before .before .before .before .before .before .args .room .now))
+fine : (c : tie.Then1) → Sized (c .before .before .before .before .before .before .args .ring .now) × (2 * openCount (c .before .before .before .before .before .before .args .ring .now) ≤ length (c .before .before .before .before .before .before .args .room .now))
 fine c = passing _ _ _ (refusal (c .before .before)) (c .before .passed .ensures) (c .if1 .taken)
-
-open-count-requires : tie.Need-open-count-requires
-open-count-requires c κs = search needs
 
 ring-requires : tie.Need-ring-requires
 ring-requires c κs = search needs
 
-room-requires : tie.Need-room-requires
-room-requires c κs = search needs
-
-first-requires : tie.Need-first-requires
-first-requires c κs = search needs
+open-fits-requires : tie.Need-open-fits-requires
+open-fits-requires c κs = search needs
 
 passed-requires : tie.Need-passed-requires
 passed-requires c κs = search needs
 
+open-count-requires : tie.Need-open-count-requires
+open-count-requires c κs = search needs
+
 mul-copy : tie.Need-mul-copy
 mul-copy c =
-    let f = fine c in
-    let n = c .before .before .before .before .before .open-count .ensures in
-    omega (arith, open-le (c .before .before .before .before .before .before .before .before .args .ring .now))
+    let f = fine (c .before) in
+    let n = c .open-count .ensures in
+    omega (arith, open-le (c .before .before .before .before .before .before .before .args .ring .now))
 
 copy-requires : tie.Need-copy-requires
 copy-requires c κs =
-    let f = fine (c .before) in
-    let r = c .before .before .before .before .before .before in
-    let n = r .open-count .ensures in
-    let l = open-le (r .before .before .before .args .ring .now) in
+    let d = c .before in
+    let f = fine (d .before) in
+    let n = d .open-count .ensures in
+    let l = open-le (d .before .before .before .before .before .before .before .args .ring .now) in
     (omega arith, omega arith)
 
 same-length : tie.Need-same-length
@@ -55,10 +52,12 @@ same-length c = search needs
 
 returns : tie.Need-returns
 returns c =
-    let t = c .before .before .before .before in
+    let o = c .before .before .before .before in
+    let t = o .before in
     let n = refusal (t .before .before) in
     let p = t .before .passed .ensures in
-    (goes _ n p _ (t .if1 .taken) (t .before .before .before .before .before .open-count .ensures), wrote _ n p _ _ (t .if1 .taken) (rw (t .before .before .before .before .before .open-count .ensures) at (c .before .before .copy .ensures)))
+    let w = rw (o .open-count .ensures) at (c .before .before .copy .ensures) in
+    (goes _ n p _ (t .if1 .taken) (o .open-count .ensures), wrote _ n p _ _ (t .if1 .taken) w)
 
 returns-2 : tie.Need-returns-2
 returns-2 c =
@@ -70,11 +69,10 @@ pub open-ring-spec : {M : Type 1} → statement M
 open-ring-spec =
     tie.close
     (tie.spec
-    open-count-requires
     ring-requires
-    room-requires
-    first-requires
+    open-fits-requires
     passed-requires
+    open-count-requires
     mul-copy
     copy-requires
     same-length

@@ -9,27 +9,11 @@ use Rattle.simplify.proofs.calls.simplify_polygon.Statement.{statement}
 use Rattle.simplify.proofs.calls.simplify_polygon.Tie as tie
 
 -- what the tests found is what the definition says
-refusal : (c : tie.After-fits2) → c .fits2 .result ≡ simplifyRefusal (c .before .before .before .before .before .before .before .before .args .list .now) (c .before .before .before .before .before .before .before .before .args .tolerance) (length (c .before .before .before .before .before .before .before .before .args .room .now))
-refusal c =
-    let f = c .before in
-    let l = f .before in
-    let t = l .before in
-    screened _ _ _ (t .before .before .finite-numbers .ensures) (t .before .tolerance .ensures) (t .first .ensures) (l .list-length .ensures) (f .first2 .ensures) (c .fits2 .ensures)
+refusal : (c : tie.After-fits2) → c .fits2 .result ≡ simplifyRefusal (c .before .before .before .before .args .list .now) (c .before .before .before .before .args .tolerance) (length (c .before .before .before .before .args .room .now))
+refusal c = screened _ _ _ (c .before .list .ensures) (c .fits2 .ensures)
 
-finite-numbers-requires : tie.Need-finite-numbers-requires
-finite-numbers-requires c κs = search needs
-
-tolerance-requires : tie.Need-tolerance-requires
-tolerance-requires c κs = search needs
-
-first-requires : tie.Need-first-requires
-first-requires c κs = search needs
-
-list-length-requires : tie.Need-list-length-requires
-list-length-requires c κs = search needs
-
-first-requires-2 : tie.Need-first-requires-2
-first-requires-2 c κs = search needs
+list-requires : tie.Need-list-requires
+list-requires c κs = search needs
 
 fits-requires : tie.Need-fits-requires
 fits-requires c κs = search needs
@@ -61,11 +45,7 @@ pub simplify-polygon-spec : {M : Type 1} → statement M
 simplify-polygon-spec =
     tie.close
     (tie.spec
-    finite-numbers-requires
-    tolerance-requires
-    first-requires
-    list-length-requires
-    first-requires-2
+    list-requires
     fits-requires
     passed-requires
     simplify-requires

@@ -6,7 +6,8 @@ use mathlib.Core.Path.{_≡_, sym, ap, subst, _∙_}
 use Rattle.print.proofs.Puts.{reads}
 use Rattle.nfp_sliding.specs.declared.answer.Traced.{Traced}
 use Rattle.nfp_sliding.specs.declared.answer.Traced.the-variants.{Is}
-use Rattle.slide_trace.specs.Lines.{refusalLine, answerText, InList}
+use Rattle.lines.specs.Lines.{refusalLine}
+use Rattle.slide_trace.specs.Lines.{answerText, InList}
 use Rattle.slide_trace.proofs.say.put_answer.Statement.{statement}
 use Rattle.slide_trace.proofs.say.put_answer.Tie as tie
 

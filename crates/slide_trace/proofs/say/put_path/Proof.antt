@@ -1,5 +1,4 @@
 -- `slide_trace::say::put_path` meets its contract. Assumes nothing.
-use native.Mathlib.Omega.{arith}
 use borrow.Author.Needs.{needs}
 use Rattle.print.proofs.Puts.{then}
 use Rattle.slide_trace.proofs.say.put_path.Statement.{statement}
@@ -18,7 +17,7 @@ returns : tie.Need-returns
 returns c =
     let p = c .before .before in
     let h = p .before .before .before .before in
-    then (h .put-heading .ensures .0) (p .put-points .ensures)
+    then (h .put-heading .ensures .0) (p .put-points .ensures .0)
 
 pub put-path-spec : {M : Type 1} → statement M
 put-path-spec = tie.close (tie.spec put-heading-requires put-points-requires same-length returns)

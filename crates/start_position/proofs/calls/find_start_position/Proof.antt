@@ -7,8 +7,8 @@ use mathlib.Core.Bool.{Bool, true}
 use mathlib.Core.List.{List}
 use lib.Ieee.{Float}
 use Rattle.ring.specs.Ring.{count}
-use Rattle.refusals.specs.Refusals.{passed, first}
-use Rattle.refusals.specs.Screens.{wrongNumber, ofTwoPolygons}
+use Rattle.refusals.specs.Refusals.{passed}
+use Rattle.refusals.specs.Rows.{ofTwoPolygons}
 use Rattle.refusals.specs.declared.Refusal.{Refusal}
 use Rattle.refusals.proofs.Calls.{goes, stops}
 use Rattle.refusals.proofs.Sized.{two-polygons}
@@ -17,9 +17,8 @@ use Rattle.start_position.proofs.calls.find_start_position.Tie as tie
 
 -- polygons that are not refused have vertices
 peopled : (st orb : List Float) {n : Refusal} {p : Bool} → n ≡ ofTwoPolygons st orb → p ≡ passed n → p ≡ true → (0 < count st) × (0 < count orb)
-unfolding ofTwoPolygons
 peopled st orb e h t =
-    let f = two-polygons st orb (first (wrongNumber st) (wrongNumber orb)) (rw (← e, ← h) t) in
+    let f = two-polygons st orb (rw (← e, ← h) t) in
     (omega (arith, f .0 .least), omega (arith, f .1 .least))
 
 two-polygons-requires : tie.Need-two-polygons-requires

@@ -28,6 +28,7 @@ fn table(title: &str, rows: Vec<Row>, part: &str) {
 }
 
 fn main() {
+    compare::hold_interface();
     let arguments: Vec<String> = std::env::args().skip(1).collect();
     let words: Vec<&str> = arguments.iter().map(|word| &word[..]).collect();
     if let ["memory", name, side] = words[..] {

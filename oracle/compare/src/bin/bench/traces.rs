@@ -1,4 +1,4 @@
-//! Traces: shapes of 8 to 256 vertices, document 01's squares, and one that
+//! Traces: shapes of 8 to 256 vertices, docs/SCOPE.md's squares, and one that
 //! stores a point in every pass.
 
 use crate::rows::{Lent, Row, TOLERANCE};
@@ -101,7 +101,7 @@ fn row(name: &str, stationary: Vec<f64>, orbiting: Vec<f64>, passes: usize) -> R
     Row { name, sides: Box::new(move || sides(pair, passes)) }
 }
 
-/// Traces of shapes, by shape and size, and those of document 01.
+/// Traces of shapes, by shape and size, and those of docs/SCOPE.md.
 pub fn traces() -> Vec<Row> {
     let mut all = Vec::new();
     for n in [8, 32, 64, 256] {
@@ -114,8 +114,8 @@ pub fn traces() -> Vec<Row> {
         all.push(row("disc", disc(n, 10.0), disc(n, 10.0), MOST_PASSES));
         all.push(row("comb", comb_of(n), placed(&comb_of(n), 0.5, 0.0, 0.0), MOST_PASSES));
     }
-    all.push(row("01's S and Q", square(4.0), square(2.0), MOST_PASSES));
-    all.push(row("01's Q and S", square(2.0), square(4.0), MOST_PASSES));
+    all.push(row("squares S and Q", square(4.0), square(2.0), MOST_PASSES));
+    all.push(row("squares Q and S", square(2.0), square(4.0), MOST_PASSES));
     all
 }
 

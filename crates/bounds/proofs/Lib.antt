@@ -1,8 +1,0 @@
--- The modules that belong to no one function.
-pub mod Signed
-pub mod Ordered
-pub mod Sums
-pub mod Foot
-pub mod Beyond
-pub mod Clear
-pub mod Widened

@@ -1,2 +1,0 @@
--- The definitions that the contracts of bounds cite.
-pub mod Bounds

@@ -1,0 +1,38 @@
+-- `contacts_call::write::put_point` meets its contract: two stores. Assumes nothing.
+use borrow.Author.Needs.{needs}
+use mathlib.Core.Path.{refl}
+use Rattle.contacts_call.proofs.write.put_point.Statement.{statement}
+use Rattle.contacts_call.proofs.write.put_point.Tie as tie
+
+mul-room : tie.Need-mul-room
+mul-room c = search needs
+
+slice-write-room : tie.Need-slice-write-room
+slice-write-room c = search needs
+
+add-room : tie.Need-add-room
+add-room c = search needs
+
+mul-room-2 : tie.Need-mul-room-2
+mul-room-2 c = search needs
+
+slice-write-room-2 : tie.Need-slice-write-room-2
+slice-write-room-2 c = search needs
+
+same-length : tie.Need-same-length
+same-length c = search needs
+
+returns : tie.Need-returns
+returns c = refl
+
+pub put-point-spec : {M : Type 1} → statement M
+put-point-spec =
+    tie.close
+    (tie.spec
+    mul-room
+    slice-write-room
+    add-room
+    mul-room-2
+    slice-write-room-2
+    same-length
+    returns)

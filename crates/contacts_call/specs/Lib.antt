@@ -1,0 +1,2 @@
+-- The definitions that the contracts of contacts_call, and of the vectors' calls, cite.
+pub mod Calls

@@ -1,0 +1,157 @@
+// The contacts, counted, and written to rooms that the caller lends.
+use contacts::ENTRY;
+use contacts::Edges;
+use contacts::Next;
+use contacts::edges_of;
+use contacts::frames_of;
+use contacts::next_within;
+use pairs::Pair;
+use pairs::pair_at;
+use plane::Point;
+use refusals::answer::Count;
+use refusals::row::rooms;
+ghost use mathlib.Core.Path.{_≡_};
+ghost use Prim.Native.Nat.{_+_, _*_, _<_, _≤_};
+ghost use lib.ListN.{length, set};
+ghost use Rattle.ring.specs.Ring.{count};
+ghost use Rattle.ring.specs.Room.{laid};
+ghost use Rattle.pairs.specs.Pairs.{Sides, Within};
+ghost use Rattle.refusals.specs.Rows.{ofRooms};
+ghost use Rattle.refusals.specs.Answers.{counted, outcome, left};
+ghost use Rattle.contacts.specs.Touching.{pointBy, contactPoint};
+ghost use Rattle.contacts.specs.Contacts.{contactsOf, entry, whichOf, pointsOf};
+ghost use Rattle.contacts_call.specs.Calls.{contactCount};
+
+// The point at which a pair with these edges touches: the vertex, or the middle of the orbiting edge.
+fn point_by(kind: u8, e: Edges) -> Point
+    ensures { λ r. ⌜ r ≡ pointBy kind e ⌝ }
+{
+    match kind {
+        0 => e.c,
+        1 => e.a,
+        _ => Point {
+            x: (e.c.x + e.d.x) / 2.0,
+            y: (e.c.y + e.d.y) / 2.0,
+        },
+    }
+}
+
+// The point at which a pair touches.
+fn contact_point(stationary: &[f64], orbiting: &[f64], pair: Pair) -> Point
+    requires { ⌜ Within (count (now stationary)) (count (now orbiting)) pair ⌝ }
+    ensures { λ r. ⌜ r ≡ contactPoint (now (stationary .entry)) (now (orbiting .entry)) pair ⌝ }
+{
+    point_by(pair.kind, edges_of(stationary, orbiting, pair))
+}
+
+// How many contacts there are.
+fn count_contacts(stationary: &[f64], orbiting: &[f64], tol: f64) -> usize
+    requires { ⌜ Sides (count (now stationary)) (count (now orbiting)) ⌝ }
+    ensures { λ r. ⌜ (r ≡ length (contactsOf (now (stationary .entry)) (now (orbiting .entry)) tol)) × (r ≤ 196608) ⌝ }
+{
+    let frames = frames_of(stationary, orbiting);
+    let mut n = 0;
+    let mut k = 0;
+    loop {
+        match next_within(stationary, orbiting, frames, tol, k) {
+            Next::Nothing => return n,
+            Next::At(j) => {
+                n += 1;
+                k = j + 1;
+            }
+        }
+    }
+}
+
+// A pair's kind and indices, from at on.
+fn put_pair(room: &mut [u64], at: usize, pair: Pair)
+    requires { ⌜ at + 2 < length (now room) ⌝ }
+    ensures { λ _.
+        ⌜ now (room .exit) ≡ set (set (set (now (room .entry)) at (pair .kind)) (at + 1) (pair .stationary)) (at + 2) (pair .orbiting) ⌝ }
+{
+    room[at] = pair.kind as u64;
+    room[at + 1] = pair.stationary as u64;
+    room[at + 2] = pair.orbiting as u64;
+}
+
+// A point, from at on.
+fn put_point(room: &mut [f64], at: usize, p: Point)
+    requires { ⌜ at + 1 < length (now room) ⌝ }
+    ensures { λ _. ⌜ now (room .exit) ≡ set (set (now (room .entry)) at (p .x)) (at + 1) (p .y) ⌝ }
+{
+    room[at] = p.x;
+    room[at + 1] = p.y;
+}
+
+// Each contact's kind and indices, and its point, at the fronts of the rooms.
+fn write_contacts(
+    stationary: &[f64],
+    orbiting: &[f64],
+    tol: f64,
+    which: &mut [u64],
+    points: &mut [f64],
+)
+    requires { ⌜ Sides (count (now stationary)) (count (now orbiting)) ⌝ }
+    requires { ⌜ entry * length (contactsOf (now stationary) (now orbiting) tol) ≤ length (now which) ⌝ }
+    requires { ⌜ 2 * length (contactsOf (now stationary) (now orbiting) tol) ≤ length (now points) ⌝ }
+    ensures { λ _.
+        ⌜ now (which .exit) ≡ laid (whichOf (count (now (stationary .entry))) (count (now (orbiting .entry)))
+        (contactsOf (now (stationary .entry)) (now (orbiting .entry)) tol)) (now (which .entry)) ⌝ }
+    ensures { λ _.
+        ⌜ now (points .exit) ≡ laid (pointsOf (now (stationary .entry)) (now (orbiting .entry))
+        (contactsOf (now (stationary .entry)) (now (orbiting .entry)) tol)) (now (points .entry)) ⌝ }
+{
+    let sn = stationary.len() / 2;
+    let on = orbiting.len() / 2;
+    let frames = frames_of(stationary, orbiting);
+    let mut n = 0;
+    let mut k = 0;
+    loop {
+        match next_within(stationary, orbiting, frames, tol, k) {
+            Next::Nothing => return,
+            Next::At(j) => {
+                let pair = pair_at(j, sn, on);
+                put_pair(which, ENTRY * n, pair);
+                put_point(points, 2 * n, contact_point(stationary, orbiting, pair));
+                n += 1;
+                k = j + 1;
+            }
+        }
+    }
+}
+
+// The contacts in the rooms, and how many there are, or the refusal of a room that is too short.
+pub fn answer(
+    stationary: &[f64],
+    orbiting: &[f64],
+    tol: f64,
+    which: &mut [u64],
+    points: &mut [f64],
+) -> Count
+    requires { ⌜ Sides (count (now stationary)) (count (now orbiting)) ⌝ }
+    ensures { λ r.
+        ⌜ (counted r ≡ outcome
+        (ofRooms (entry * contactCount (now (stationary .entry)) (now (orbiting .entry)) tol) (length (now (which .entry)))
+        (2 * contactCount (now (stationary .entry)) (now (orbiting .entry)) tol) (length (now (points .entry))))
+        (contactCount (now (stationary .entry)) (now (orbiting .entry)) tol))
+        × (now (which .exit) ≡ left
+        (ofRooms (entry * contactCount (now (stationary .entry)) (now (orbiting .entry)) tol) (length (now (which .entry)))
+        (2 * contactCount (now (stationary .entry)) (now (orbiting .entry)) tol) (length (now (points .entry))))
+        (laid (whichOf (count (now (stationary .entry))) (count (now (orbiting .entry)))
+        (contactsOf (now (stationary .entry)) (now (orbiting .entry)) tol)) (now (which .entry)))
+        (now (which .entry)))
+        × (now (points .exit) ≡ left
+        (ofRooms (entry * contactCount (now (stationary .entry)) (now (orbiting .entry)) tol) (length (now (which .entry)))
+        (2 * contactCount (now (stationary .entry)) (now (orbiting .entry)) tol) (length (now (points .entry))))
+        (laid (pointsOf (now (stationary .entry)) (now (orbiting .entry))
+        (contactsOf (now (stationary .entry)) (now (orbiting .entry)) tol)) (now (points .entry)))
+        (now (points .entry))) ⌝ }
+{
+    let n = count_contacts(stationary, orbiting, tol);
+    let no = rooms(ENTRY * n, which.len(), 2 * n, points.len());
+    if no.passed() {
+        write_contacts(stationary, orbiting, tol, which, points);
+        return Count::Is(n);
+    }
+    Count::Refused(no)
+}

@@ -1,4 +1,0 @@
--- The modules that belong to no one function.
-pub mod Along
-pub mod FarOne
-pub mod Lengths

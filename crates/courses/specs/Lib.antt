@@ -1,2 +1,0 @@
--- The definitions that the contracts of courses cite.
-pub mod Courses

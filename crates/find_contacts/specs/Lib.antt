@@ -1,2 +1,0 @@
--- The definitions that the contracts of find_contacts, and of the vectors' calls, cite.
-pub mod Calls

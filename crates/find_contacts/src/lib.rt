@@ -1,4 +1,0 @@
-// The contacts of two polygons, written to lent rooms: `find_contacts` of `nfp_sliding.rs`.
-pub mod calls;
-pub mod screen;
-mod write;

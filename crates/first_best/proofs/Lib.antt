@@ -1,3 +1,0 @@
--- The modules of laws.
-pub mod Order
-pub mod Scan

@@ -1,2 +1,0 @@
--- The definitions that the crates that scan cite.
-pub mod Best

@@ -1,0 +1,2 @@
+-- The definitions that the contracts of frames cite.
+pub mod Frame

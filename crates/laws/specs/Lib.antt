@@ -1,0 +1,2 @@
+-- The definitions that the crates that scan cite.
+pub mod FirstBest

@@ -1,0 +1,44 @@
+-- `lines::put_fault` meets its contract. Assumes nothing.
+use borrow.Author.Needs.{needs}
+use Rattle.print.proofs.Puts.{then}
+use Rattle.lines.specs.Lines.{faultLine}
+use Rattle.lines.proofs.put_fault.Statement.{statement}
+use Rattle.lines.proofs.put_fault.Tie as tie
+
+slice-aggregate-put-text : tie.Need-slice-aggregate-put-text
+slice-aggregate-put-text c = search needs
+
+put-text-requires : tie.Need-put-text-requires
+put-text-requires c κs = search needs
+
+put-decimal-requires : tie.Need-put-decimal-requires
+put-decimal-requires c κs = search needs
+
+slice-aggregate-put-text-2 : tie.Need-slice-aggregate-put-text-2
+slice-aggregate-put-text-2 c = search needs
+
+put-text-requires-2 : tie.Need-put-text-requires-2
+put-text-requires-2 c κs = search needs
+
+same-length : tie.Need-same-length
+same-length c = search needs
+
+returns : tie.Need-returns
+unfolding faultLine
+returns c =
+    let newline = c .before .before in
+    let place = newline .before .before .before .before .before in
+    let first = place .before .before .before .before in
+    then (first .put-text .ensures) (then (place .put-decimal .ensures .0) (newline .put-text2 .ensures))
+
+pub put-fault-spec : {M : Type 1} → statement M
+put-fault-spec =
+    tie.close
+    (tie.spec
+    slice-aggregate-put-text
+    put-text-requires
+    put-decimal-requires
+    slice-aggregate-put-text-2
+    put-text-requires-2
+    same-length
+    returns)

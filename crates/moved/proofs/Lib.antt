@@ -1,6 +1,0 @@
--- The modules that belong to no one function.
-pub mod Points
-pub mod Moved
-pub mod Answers
-pub mod Lent
-pub mod Worked

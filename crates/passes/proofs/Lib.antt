@@ -1,3 +1,0 @@
--- The modules that belong to no one function.
-pub mod Turns
-pub mod Standstill

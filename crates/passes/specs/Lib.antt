@@ -1,3 +1,0 @@
--- The definitions that the contracts of passes cite.
-pub mod Still
-pub mod Run

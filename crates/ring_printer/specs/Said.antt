@@ -1,0 +1,43 @@
+-- What is printed for a book: every byte. Definitions only.
+use Prim.Native.Nat.{ℕ, zero, suc, _*_}
+use mathlib.Core.Bool.{cond}
+use mathlib.Core.List.{List, [], _∷_, _++_}
+use lib.ListN.{length, getD, take, drop}
+use lib.Ieee.{Float}
+use Rattle.print.specs.Digits.{decimal}
+use Rattle.print.specs.Text.{newline}
+use Rattle.lines.specs.Lines.{refusalLine, pointLines}
+use Rattle.refusals.specs.Refusals.{passed}
+use Rattle.refusals.specs.Rings.{total}
+use Rattle.book_layout.specs.Layout.{countsOf}
+use Rattle.book_layout.specs.Faults.{bookCheck}
+use Rattle.book_layout.specs.Reader.{numbersOf}
+
+-- "rings " and how many
+unfoldable pub ringsLine : ℕ → List ℕ
+ringsLine k = (114 ∷ 105 ∷ 110 ∷ 103 ∷ 115 ∷ 32 ∷ []) ++ (decimal k ++ newline)
+
+-- "ring " and which, " vertices " and how many
+unfoldable pub ringLine : ℕ → ℕ → List ℕ
+ringLine i n =
+    (114 ∷ 105 ∷ 110 ∷ 103 ∷ 32 ∷ [])
+    ++ (decimal i ++ ((32 ∷ 118 ∷ 101 ∷ 114 ∷ 116 ∷ 105 ∷ 99 ∷ 101 ∷ 115 ∷ 32 ∷ []) ++ (decimal n ++ newline)))
+
+-- ring i, of n vertices
+abbrev pub ringText : ℕ → ℕ → List Float → List ℕ
+ringText i n ring = ringLine i n ++ pointLines ring n
+
+-- the first k rings of these vertex counts, which lie in a list one after the other
+unfoldable pub ringTexts : List ℕ → List Float → ℕ → List ℕ
+ringTexts ns xs zero = []
+ringTexts ns xs (suc i) =
+    let n = getD ns i 0 in
+    ringTexts ns xs i ++ ringText i n (take (2 * n) (drop (2 * total (take i ns)) xs))
+
+-- the rings of these vertex counts
+abbrev pub ringsText : List ℕ → List Float → List ℕ
+ringsText ns xs = ringsLine (length ns) ++ ringTexts ns xs (length ns)
+
+-- a book: its rings, or its fault
+unfoldable pub bookText : List ℕ → List ℕ
+bookText f = cond (passed (bookCheck f)) (ringsText (countsOf f) (numbersOf f)) (refusalLine (bookCheck f))

@@ -1,4 +1,0 @@
--- The modules that belong to no one function.
-pub mod Passing
-pub mod Screened
-pub mod Worked

@@ -1,2 +1,0 @@
--- The definitions that the contracts of translation_vectors cite.
-pub mod Calls
