@@ -11,7 +11,7 @@ use lib.Dec.{ltb, leb}
 use lib.Ieee.{Float}
 use borrow.Author.Tests.{le-ltb}
 use Rattle.refusals.specs.Refusals.{passed, unless, first}
-use Rattle.refusals.specs.Bounds.{coordinatesOf as bounded-by, polygonLength, settingsOk, workOk}
+use Rattle.refusals.specs.Bounds.{coordinates as bounded-by, polygonLength, settingsOk, workOk}
 use Rattle.refusals.specs.Screens.{wrongPolygon, wrongNumber, wrongSettings, wrongWork}
 use Rattle.refusals.specs.Rows.{ofTwoPolygons, ofTrace}
 use Rattle.refusals.specs.declared.Refusal.{Refusal}
