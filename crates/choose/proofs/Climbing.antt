@@ -13,12 +13,12 @@ use Rattle.laws.specs.FirstBest.{over, better}
 use Rattle.pairs.specs.Pairs.{pairCount}
 use Rattle.contacts.specs.Contacts.{contactsFrom}
 use Rattle.contacts.proofs.Following.{FoundAt}
-use Rattle.vectors.specs.Vectors.{Sourced, sourced, numbersOf, vectorOf, vectorsFrom, vectorsOf}
-use Rattle.vectors.specs.Fit.{kept}
+use Rattle.vectors.specs.Vectors.{Sourced, sourced, vectorNumbers, vectorOf, vectorsFrom, vectorsOf}
+use Rattle.vectors.specs.Fit.{keptVectors}
 use Rattle.vectors.specs.declared.TranslationVector.{TranslationVector}
 use Rattle.vectors.proofs.Numbers.{numbers-length}
 use Rattle.selection.specs.Score.{scoreOf}
-use Rattle.selection.specs.Select.{vectorAt, scoreAt, scoredAt, above, startOf, selectOf}
+use Rattle.selection.specs.Select.{vectorAt, scoreAt, scoredAt, above, unscored, selectOf}
 use Rattle.selection.specs.declared.Previous.{Previous}
 use Rattle.selection.specs.declared.Scored.{Scored}
 use Rattle.choose.specs.Choose.{vectorNo, choiceOf, Standing, stands, standing, unset, raised, weighOf, raisedBy, weighedBy, takenBy, climbOf}
@@ -35,8 +35,8 @@ none-at zero e = absurd (let q : _≡_ {A = ℕ} 0 1 = cc in omega arith)
 none-at (suc k) e = absurd (let q : _≡_ {A = ℕ} 0 1 = cc in omega arith)
 
 -- what a list has at k
-number-at : (vs : List Sourced) (k : ℕ) {s : Sourced} {ss : List Sourced} → drop k vs ≡ s ∷ ss → vectorAt (numbersOf vs) k ≡ s .slide
-unfolding vectorAt numbersOf
+number-at : (vs : List Sourced) (k : ℕ) {s : Sourced} {ss : List Sourced} → drop k vs ≡ s ∷ ss → vectorAt (vectorNumbers vs) k ≡ s .slide
+unfolding vectorAt vectorNumbers
 number-at [] k e = none-at k e
 number-at (x ∷ xs) zero {s} e = let q : x ≡ s = cc in rw q refl
 number-at (x ∷ xs) (suc k) e =
@@ -62,7 +62,7 @@ chosenBy b = cond (b .found) (Vector (b .best)) Nothing
 
 module _ (vs : List Sourced) (previous : Previous) (ccw : Point) where
   abbrev till : ℕ → Scored
-  till k = over above (scoredAt (numbersOf vs) previous ccw) startOf k
+  till k = over above (scoredAt (vectorNumbers vs) previous ccw) unscored k
 
   record Same (k : ℕ) (b : Standing) : Type 0 where
     score-same : till k .score ≡ b .score
@@ -70,7 +70,7 @@ module _ (vs : List Sourced) (previous : Previous) (ccw : Point) where
     none-yet : b .found ≡ false → k ≡ 0
 
   begin : Same 0 unset
-  unfolding unset startOf over
+  unfolding unset unscored over
   begin = record { score-same = refl; vector-same = λ t. cc; none-yet = λ t. refl }
 
   -- once there is a vector one is found
@@ -84,7 +84,7 @@ module _ (vs : List Sourced) (previous : Previous) (ccw : Point) where
       by false false e h = true≢false h
 
   at-zero : (k : ℕ) {s : Sourced} {ss : List Sourced} → k ≡ 0 → drop k vs ≡ s ∷ ss → vectorNo vs (till k .index) ≡ Vector (s .slide)
-  unfolding startOf over
+  unfolding unscored over
   at-zero zero z e = vector-at vs 0 e
   at-zero (suc k) z e = absurd (omega (arith, z))
 
@@ -134,18 +134,18 @@ module _ (vs : List Sourced) (previous : Previous) (ccw : Point) where
 pub climbed : (vs : List Sourced) (previous : Previous) (ccw : Point) → chosenBy (climbOf previous ccw unset vs) ≡ choiceOf vs previous ccw
 unfolding choiceOf selectOf
 climbed vs previous ccw =
-    let z : 0 + length vs ≡ length (numbersOf vs) / 3 = omega (arith, numbers-length vs) in
-    ends vs previous ccw (length (numbersOf vs) / 3) {b = climbOf previous ccw unset vs} (omega (arith, numbers-length vs)) (rw (← z) (climbs vs previous ccw vs 0 refl (begin vs previous ccw)))
+    let z : 0 + length vs ≡ length (vectorNumbers vs) / 3 = omega (arith, numbers-length vs) in
+    ends vs previous ccw (length (vectorNumbers vs) / 3) {b = climbOf previous ccw unset vs} (omega (arith, numbers-length vs)) (rw (← z) (climbs vs previous ccw vs 0 refl (begin vs previous ccw)))
 
 -- the vectors of one contact
 module _ (keep : TranslationVector → Bool) (previous : Previous) (ccw : Point) where
   weighs : (b : Standing) (s : Sourced) (rest : List Sourced)
-      → climbOf previous ccw b (kept keep (s ∷ rest)) ≡ climbOf previous ccw (weighOf keep previous ccw b (s .slide)) (kept keep rest)
-  unfolding kept climbOf weighOf
+      → climbOf previous ccw b (keptVectors keep (s ∷ rest)) ≡ climbOf previous ccw (weighOf keep previous ccw b (s .slide)) (keptVectors keep rest)
+  unfolding keptVectors climbOf weighOf
   weighs b s rest = by (keep (s .slide)) refl
     where
       by : (t : Bool) → keep (s .slide) ≡ t
-          → climbOf previous ccw b (kept keep (s ∷ rest)) ≡ climbOf previous ccw (weighOf keep previous ccw b (s .slide)) (kept keep rest)
+          → climbOf previous ccw b (keptVectors keep (s ∷ rest)) ≡ climbOf previous ccw (weighOf keep previous ccw b (s .slide)) (keptVectors keep rest)
       by true t = rw t refl
       by false t = rw t refl
 
@@ -200,19 +200,19 @@ module _ (keep : TranslationVector → Bool) (previous : Previous) (ccw : Point)
 -- the loop of `climb`: from where it is on, the vectors left give what all of them give from nothing
 module _ (st orb : List Float) (tol : Float) (keep : TranslationVector → Bool) (previous : Previous) (ccw : Point) where
   abbrev all : Standing
-  all = climbOf previous ccw unset (kept keep (vectorsOf st orb tol))
+  all = climbOf previous ccw unset (keptVectors keep (vectorsOf st orb tol))
 
   pub record Climbing (b : Standing) (k : ℕ) : Type 0 where
     pub source : ℕ
-    pub same : all ≡ climbOf previous ccw b (kept keep (vectorsFrom st orb source (contactsFrom st orb tol k)))
+    pub same : all ≡ climbOf previous ccw b (keptVectors keep (vectorsFrom st orb source (contactsFrom st orb tol k)))
     pub most : k ≤ pairCount (count st) (count orb)
 
   pub at-first : {b : Standing} → b ≡ unset → Climbing b 0
   at-first e = record { source = 0; same = rw e refl; most = omega arith }
 
   two : (b : Standing) (i j : ℕ) (ks : List ℕ)
-      → climbOf previous ccw b (kept keep (vectorsFrom st orb i (j ∷ ks)))
-      ≡ climbOf previous ccw (weighOf keep previous ccw (weighOf keep previous ccw b (vectorOf st orb j 0)) (vectorOf st orb j 1)) (kept keep (vectorsFrom st orb (suc i) ks))
+      → climbOf previous ccw b (keptVectors keep (vectorsFrom st orb i (j ∷ ks)))
+      ≡ climbOf previous ccw (weighOf keep previous ccw (weighOf keep previous ccw b (vectorOf st orb j 0)) (vectorOf st orb j 1)) (keptVectors keep (vectorsFrom st orb (suc i) ks))
   unfolding vectorsFrom
   two b i j ks =
       weighs keep previous ccw b (sourced (vectorOf st orb j 0) i) (sourced (vectorOf st orb j 1) i ∷ vectorsFrom st orb (suc i) ks)
@@ -229,7 +229,7 @@ module _ (st orb : List Float) (tol : Float) (keep : TranslationVector → Bool)
         }
 
     pub top : contactsFrom st orb tol k ≡ [] → b ≡ all
-    unfolding vectorsFrom kept climbOf
+    unfolding vectorsFrom keptVectors climbOf
     top e = sym (i .same ∙ (rw e refl))
 
 -- what `choose` makes of the best

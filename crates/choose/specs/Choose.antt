@@ -6,7 +6,7 @@ use lib.Ieee.{Float, inf, lt}
 use Rattle.scalar.specs.Float.{f0}
 use Rattle.plane.specs.Vector.{point}
 use Rattle.plane.specs.declared.Point.{Point}
-use Rattle.vectors.specs.Vectors.{Sourced, vector, numbersOf}
+use Rattle.vectors.specs.Vectors.{Sourced, vector, vectorNumbers}
 use Rattle.vectors.specs.declared.TranslationVector.{TranslationVector}
 use Rattle.vectors.specs.Courses.{vectorIs}
 use Rattle.selection.specs.Score.{scoreOf}
@@ -26,7 +26,7 @@ vectorNo (s ∷ ss) (suc i) = vectorNo ss i
 
 -- the one whose index selection answers
 unfoldable pub choiceOf : List Sourced → Previous → Point → Choice
-choiceOf vs previous ccw = vectorNo vs (selectOf (numbersOf vs) previous ccw)
+choiceOf vs previous ccw = vectorNo vs (selectOf (vectorNumbers vs) previous ccw)
 
 -- the best vector so far and its score, where one is found
 pub record Standing : Type 0 where

@@ -8,7 +8,7 @@ use lib.Ieee.{Float}
 use Rattle.plane.specs.declared.Point.{Point}
 use Rattle.ring.specs.Ring.{count}
 use Rattle.pairs.proofs.Numbers.{first-pairs, second-pairs}
-use Rattle.laws.specs.FirstBest.{over, nest, flat}
+use Rattle.laws.specs.FirstBest.{over, nest, flatRows}
 use Rattle.laws.proofs.FirstBest.{over-split, over-ext, nest-flat}
 use Rattle.collision.specs.Hit.{countedOf, nearer}
 use Rattle.collision.specs.Check.{hitOf, scanOf, backOf, bothOf, sweepOf}
@@ -29,7 +29,7 @@ module _ (st orb : List Float) (move : Point) (tol : Float) where
       let p = pairNo st orb k in
       countedOf (rayAt st orb move tol p) (sweepOf move tol) (p .kind) (p .stationary) (p .orbiting)
 
-  first-kind : (k : ℕ) → k < half → flat (hitOf orb st (sweepOf move tol) 0) (count st) k ≡ found k
+  first-kind : (k : ℕ) → k < half → flatRows (hitOf orb st (sweepOf move tol) 0) (count st) k ≡ found k
   unfolding found hitOf rayAt sweepOf
   first-kind k h = rw (first-pairs (count st) (count orb) k h)
 
@@ -37,7 +37,7 @@ module _ (st orb : List Float) (move : Point) (tol : Float) where
   unfolding backOf
   back-tolerance w = refl
 
-  second-kind : (k : ℕ) → k < half → flat (hitOf st orb (backOf (sweepOf move tol)) 1) (count orb) k ≡ found (half + k)
+  second-kind : (k : ℕ) → k < half → flatRows (hitOf st orb (backOf (sweepOf move tol)) 1) (count orb) k ≡ found (half + k)
   unfolding found hitOf rayAt sweepOf
   second-kind k h =
       counted-back (sweepOf move tol) 1 (k / count orb) (k % count orb) _

@@ -25,5 +25,5 @@ nearer (Hit d k s o) Nothing = true
 nearer (Hit d k s o) (Hit e l t p) = lt d e
 
 -- of what was found so far and a new one
-abbrev pub keptOf : Collision → Collision → Collision
-keptOf best new = better nearer best new
+abbrev pub keptHit : Collision → Collision → Collision
+keptHit best new = better nearer best new

@@ -52,7 +52,7 @@ abbrev pub Clear : List Float → List Float → Point → Float → Type 0
 Clear st orb move tol = (lt (lengthOf move) tol ≡ true) ⊎ ((k : ℕ) (d : Float) → Blocks st orb move tol k d → ⊥)
 
 -- such a hit: no other is strictly smaller, and each that is scanned before it is strictly larger
-pub record Nearest (st orb : List Float) (move : Point) (tol : Float) (d : Float) (p : Pair) : Type 0 where
+pub record NearestHit (st orb : List Float) (move : Point) (tol : Float) (d : Float) (p : Pair) : Type 0 where
   pub number : ℕ
   pub is : pairNo st orb number ≡ p
   pub blocks : Blocks st orb move tol number d
@@ -62,4 +62,4 @@ pub record Nearest (st orb : List Float) (move : Point) (tol : Float) (d : Float
 -- the answer: nothing where the move is clear, and else the nearest hit
 pub data Told (st orb : List Float) (move : Point) (tol : Float) : Collision → Type 0 where
   nothing : Clear st orb move tol → Told st orb move tol Nothing
-  hit : {d : Float} {k s o : ℕ} → (Clear st orb move tol → ⊥) → Nearest st orb move tol d (pair k s o) → Told st orb move tol (Hit d k s o)
+  hit : {d : Float} {k s o : ℕ} → (Clear st orb move tol → ⊥) → NearestHit st orb move tol d (pair k s o) → Told st orb move tol (Hit d k s o)

@@ -14,7 +14,7 @@ ghost use Prim.Native.Nat.{_<_};
 ghost use Rattle.ring.specs.Ring.{count};
 ghost use Rattle.collision.specs.Ray.{rayOf, edgeRay};
 ghost use Rattle.collision.specs.Parts.{withinSegment, inFront, pairBy};
-ghost use Rattle.collision.specs.Hit.{countedOf, keptOf};
+ghost use Rattle.collision.specs.Hit.{countedOf, keptHit};
 ghost use Rattle.collision.specs.Check.{rowOf, scanOf, backOf, bothOf, collisionOf};
 
 // A ray against a segment: it misses, or it meets the segment at a distance.
@@ -118,7 +118,7 @@ fn counted(ray: Ray, sweep: Sweep, kind: u8, stationary: usize, orbiting: usize)
 
 // Of what was found so far and a new one: only a strictly smaller distance replaces.
 fn keep(best: Collision, new: Collision) -> Collision
-    ensures { λ r. ⌜ r ≡ keptOf best new ⌝ }
+    ensures { λ r. ⌜ r ≡ keptHit best new ⌝ }
 {
     let Collision::Hit {
         distance: e,

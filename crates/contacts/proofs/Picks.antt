@@ -5,7 +5,7 @@ use mathlib.Core.Bool.{Bool, true, false}
 use mathlib.Core.List.{List, [], _∷_}
 use native.Mathlib.Omega.{arith}
 use native.Mathlib.Numerals.{add-one}
-use Rattle.contacts.specs.Contacts.{picks, nextOf}
+use Rattle.contacts.specs.Contacts.{picks, firstContact}
 use Rattle.contacts.specs.declared.Next.the-variants.{Nothing, At}
 
 module _ (p : ℕ → Bool) (n : ℕ) where
@@ -31,10 +31,10 @@ module _ (p : ℕ → Bool) (n : ℕ) where
     pub holds : p j ≡ true
     pub then : picks p k (n - k) ≡ j ∷ picks p (j + 1) (n - (j + 1))
 
-  pub found : (k j : ℕ) → nextOf (picks p k (n - k)) ≡ At j → Found k j
+  pub found : (k j : ℕ) → firstContact (picks p k (n - k)) ≡ At j → Found k j
   found k j e = go (n - k) k refl e
     where
-      by : (b : Bool) (k : ℕ) → k < n → p k ≡ b → nextOf (picks p k (n - k)) ≡ At j → (nextOf (picks p (k + 1) (n - (k + 1))) ≡ At j → Found (k + 1) j) → Found k j
+      by : (b : Bool) (k : ℕ) → k < n → p k ≡ b → firstContact (picks p k (n - k)) ≡ At j → (firstContact (picks p (k + 1) (n - (k + 1))) ≡ At j → Found (k + 1) j) → Found k j
       by true k l t e more =
           let q : k ≡ j = cc (picks-on k l t) in
           rw (← q) (record { least = omega arith; below = l; holds = t; then = picks-on k l t })
@@ -42,13 +42,13 @@ module _ (p : ℕ → Bool) (n : ℕ) where
           let f = more (rw (picks-off k l t) at e) in
           record { least = omega (arith, f .least); below = f .below; holds = f .holds; then = picks-off k l t ∙ f .then }
 
-      go : (more k : ℕ) → n - k ≡ more → nextOf (picks p k (n - k)) ≡ At j → Found k j
+      go : (more k : ℕ) → n - k ≡ more → firstContact (picks p k (n - k)) ≡ At j → Found k j
       go zero k z e = absurd (let q : _≡_ {A = ℕ} 0 1 = cc (picks-end k (omega arith)) in omega arith)
       go (suc more) k z e = by (p k) k (omega arith) refl e (go more (k + 1) (omega arith))
 
-  pub none-left : (k : ℕ) → nextOf (picks p k (n - k)) ≡ Nothing → picks p k (n - k) ≡ []
+  pub none-left : (k : ℕ) → firstContact (picks p k (n - k)) ≡ Nothing → picks p k (n - k) ≡ []
   none-left k e = go (picks p k (n - k)) refl e
     where
-      go : (l : List ℕ) → picks p k (n - k) ≡ l → nextOf l ≡ Nothing → l ≡ []
+      go : (l : List ℕ) → picks p k (n - k) ≡ l → firstContact l ≡ Nothing → l ≡ []
       go [] q z = refl
       go (j ∷ l) q z = cc

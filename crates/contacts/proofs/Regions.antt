@@ -11,8 +11,8 @@ use Rattle.ring.specs.Ring.{count}
 use Rattle.pairs.specs.Pairs.{Sides, pairCount}
 use Rattle.pairs.proofs.Numbers.{some, at-first, at-later, div-of, mod-of}
 use Rattle.contacts.specs.Touching.{edgesOf, touchesBy, touching}
-use Rattle.contacts.specs.Contacts.{picks, touchesAt, contactsFrom, nextOf}
-use Rattle.contacts.specs.Rows.{First, onEdge, alongEdge, onEdgeAt, alongEdgeAt}
+use Rattle.contacts.specs.Contacts.{picks, touchesAt, contactsFrom, firstContact}
+use Rattle.contacts.specs.Rows.{FirstFrom, onEdge, alongEdge, onEdgeAt, alongEdgeAt}
 use Rattle.contacts.specs.declared.Next.{Next}
 use Rattle.contacts.specs.declared.Next.the-variants.{Nothing, At}
 use Rattle.contacts.proofs.Picks.{picks-on, picks-off, picks-end}
@@ -24,7 +24,7 @@ module _ (p : ℕ → Bool) (n : ℕ) where
       picks-off p n a (omega arith) (c a (omega arith) (omega arith)) ∙ skip more (a + 1) b (omega arith) h (λ k l u. c k (omega (arith, l)) u)
 
   -- the numbers from base on, of which m have a test F of their own
-  module _ (F : ℕ → Bool) (base m from k a : ℕ) (e : a ≡ base + from) (l : base + m ≤ n) (same : (j : ℕ) → j < m → p (base + j) ≡ F j) (w : First F from m k) where
+  module _ (F : ℕ → Bool) (base m from k a : ℕ) (e : a ≡ base + from) (l : base + m ≤ n) (same : (j : ℕ) → j < m → p (base + j) ≡ F j) (w : FirstFrom F from m k) where
     past : picks p a (n - a) ≡ picks p (base + k) (n - (base + k))
     past = skip (k - from) a (base + k) (omega (arith, w .least)) (omega (arith, w .most)) clear
       where
@@ -33,7 +33,7 @@ module _ (p : ℕ → Bool) (n : ℕ) where
             let q : base + (x - base) ≡ x = omega (arith, g) in
             rw (← q) (same (x - base) (omega (arith, g, u, w .most)) ∙ w .clear (x - base) (omega (arith, g)) (omega (arith, g, u)))
 
-    pub region-hit : (r : ℕ) → r ≡ base + k → k < m → At r ≡ nextOf (picks p a (n - a))
+    pub region-hit : (r : ℕ) → r ≡ base + k → k < m → At r ≡ firstContact (picks p a (n - a))
     region-hit r q h = rw (past, picks-on p n (base + k) (omega arith) (same k h ∙ w .hit h), q) refl
 
     pub region-end : (b : ℕ) → b ≡ base + m → m ≤ k → picks p a (n - a) ≡ picks p b (n - b)
@@ -72,39 +72,39 @@ module _ (st orb : List Float) (tol : Float) (d : Sides (count st) (count orb)) 
   kind-2 j h = rw (← at-later sn on d (2 * each + j) (omega arith), div-of 2 each j h, mod-of 2 each j h) refl
 
   -- orbiting vertices by stationary edges
-  module _ (from k : ℕ) (l : from < each) (w : First (onEdgeAt orb st tol) (from / sn * sn + from % sn) (on * sn) k) where
-    rows-0 : First (onEdgeAt orb st tol) from each k
+  module _ (from k : ℕ) (l : from < each) (w : FirstFrom (onEdgeAt orb st tol) (from / sn * sn + from % sn) (on * sn) k) where
+    rows-0 : FirstFrom (onEdgeAt orb st tol) from each k
     rows-0 = rw (div-add-mod' from sn, mul-comm on sn) at w
 
-    pub first-hit : k < each → At k ≡ nextOf (contactsFrom st orb tol from)
+    pub first-hit : k < each → At k ≡ firstContact (contactsFrom st orb tol from)
     first-hit h = region-hit (touchesAt st orb tol) (3 * each) (onEdgeAt orb st tol) 0 each from k from (omega arith) (omega arith) kind-0 rows-0 k (omega arith) h
 
     pub first-end : each ≤ k → contactsFrom st orb tol from ≡ contactsFrom st orb tol each
     first-end h = region-end (touchesAt st orb tol) (3 * each) (onEdgeAt orb st tol) 0 each from k from (omega arith) (omega arith) kind-0 rows-0 each (omega arith) h
 
   -- stationary vertices by orbiting edges
-  module _ (from k : ℕ) (g : each ≤ from) (w : First (onEdgeAt st orb tol) ((from - each) / on * on + (from - each) % on) each k) where
-    rows-1 : First (onEdgeAt st orb tol) (from - each) each k
+  module _ (from k : ℕ) (g : each ≤ from) (w : FirstFrom (onEdgeAt st orb tol) ((from - each) / on * on + (from - each) % on) each k) where
+    rows-1 : FirstFrom (onEdgeAt st orb tol) (from - each) each k
     rows-1 = rw (div-add-mod' (from - each) on) at w
 
-    pub later-hit : k < each → At (each + k) ≡ nextOf (contactsFrom st orb tol from)
+    pub later-hit : k < each → At (each + k) ≡ firstContact (contactsFrom st orb tol from)
     later-hit h = region-hit (touchesAt st orb tol) (3 * each) (onEdgeAt st orb tol) each each (from - each) k from (omega arith) (omega arith) kind-1 rows-1 (each + k) refl h
 
     pub later-end : each ≤ k → contactsFrom st orb tol from ≡ contactsFrom st orb tol (2 * each)
     later-end h = region-end (touchesAt st orb tol) (3 * each) (onEdgeAt st orb tol) each each (from - each) k from (omega arith) (omega arith) kind-1 rows-1 (2 * each) (omega arith) h
 
   -- stationary edges by orbiting edges
-  pub none-past : (from : ℕ) → 3 * each ≤ from → Nothing ≡ nextOf (contactsFrom st orb tol from)
+  pub none-past : (from : ℕ) → 3 * each ≤ from → Nothing ≡ firstContact (contactsFrom st orb tol from)
   none-past from h = rw (picks-end (touchesAt st orb tol) (3 * each) from h) refl
 
-  module _ (from k : ℕ) (g : 2 * each ≤ from) (w : First (alongEdgeAt st orb tol) ((from - 2 * each) / on * on + (from - 2 * each) % on) each k) where
-    rows-2 : First (alongEdgeAt st orb tol) (from - 2 * each) each k
+  module _ (from k : ℕ) (g : 2 * each ≤ from) (w : FirstFrom (alongEdgeAt st orb tol) ((from - 2 * each) / on * on + (from - 2 * each) % on) each k) where
+    rows-2 : FirstFrom (alongEdgeAt st orb tol) (from - 2 * each) each k
     rows-2 = rw (div-add-mod' (from - 2 * each) on) at w
 
-    pub last-hit : k < each → At (2 * each + k) ≡ nextOf (contactsFrom st orb tol from)
+    pub last-hit : k < each → At (2 * each + k) ≡ firstContact (contactsFrom st orb tol from)
     last-hit h = region-hit (touchesAt st orb tol) (3 * each) (alongEdgeAt st orb tol) (2 * each) each (from - 2 * each) k from (omega arith) (omega arith) kind-2 rows-2 (2 * each + k) refl h
 
-    pub last-none : each ≤ k → Nothing ≡ nextOf (contactsFrom st orb tol from)
+    pub last-none : each ≤ k → Nothing ≡ firstContact (contactsFrom st orb tol from)
     last-none h =
         none-past (3 * each) (omega arith)
-        ∙ sym (ap nextOf (region-end (touchesAt st orb tol) (3 * each) (alongEdgeAt st orb tol) (2 * each) each (from - 2 * each) k from (omega arith) (omega arith) kind-2 rows-2 (3 * each) (omega arith) h))
+        ∙ sym (ap firstContact (region-end (touchesAt st orb tol) (3 * each) (alongEdgeAt st orb tol) (2 * each) each (from - 2 * each) k from (omega arith) (omega arith) kind-2 rows-2 (3 * each) (omega arith) h))

@@ -14,7 +14,7 @@ use Rattle.plane.specs.declared.Point.{Point}
 use Rattle.ring.specs.Ring.{count, pointAt, nextOf}
 use Rattle.pairs.proofs.Numbers.{below, div-of, mod-of}
 use Rattle.contacts.specs.Touching.{edgeEnd, edgesTouch}
-use Rattle.contacts.specs.Rows.{First, onEdge, alongEdge, onEdgeAt, alongEdgeAt}
+use Rattle.contacts.specs.Rows.{FirstFrom, onEdge, alongEdge, onEdgeAt, alongEdgeAt}
 
 module _ (f : ℕ → Bool) (from n : ℕ) where
   pub record Sought (i : ℕ) : Type 0 where
@@ -34,10 +34,10 @@ module _ (f : ℕ → Bool) (from n : ℕ) where
           clear = λ k l u. elim (eq-or-lt-of-le {n = k} {m = i} (omega arith)) [ inl q ↦ rw q e | inr b ↦ s .clear k l b ];
         }
 
-    pub found : i < n → f i ≡ true → First f from n i
+    pub found : i < n → f i ≡ true → FirstFrom f from n i
     found h e = record { least = s .least; most = s .most; clear = s .clear; hit = λ l. e }
 
-    pub none-found : n ≤ i → First f from n n
+    pub none-found : n ≤ i → FirstFrom f from n n
     none-found h =
         let e : i ≡ n = omega (arith, s .most) in
         record {
@@ -64,7 +64,7 @@ module _ (F : ℕ → Bool) (G : ℕ → ℕ → Bool) (vn en base : ℕ) (same 
     row-end : (i + 1) * en ≤ vn * en
     row-end = mul-le-mul-right en (omega arith)
 
-    module _ {j : ℕ} (w : First (G i) from en j) where
+    module _ {j : ℕ} (w : FirstFrom (G i) from en j) where
       along-row : Sought F base (vn * en) (i * en + j)
       along-row =
           record {
@@ -82,7 +82,7 @@ module _ (F : ℕ → Bool) (G : ℕ → ℕ → Bool) (vn en base : ℕ) (same 
           by k l u (yes g) = inside k g u
           by k l u (no g) = s .clear k l (omega (arith, g))
 
-      pub in-row : j < en → First F base (vn * en) (i * en + j)
+      pub in-row : j < en → FirstFrom F base (vn * en) (i * en + j)
       in-row l = found F base (vn * en) along-row (omega (arith, row-end)) (same i j l ∙ w .hit l)
 
       pub next-row : en ≤ j → Sought F base (vn * en) ((i + 1) * en + 0)
@@ -102,7 +102,7 @@ along-rows st orb tol i e h = rw (div-of i (count orb) e h, mod-of i (count orb)
 
 -- the row of an edge, by its ends
 pub edged : (st orb : List Float) (tol : Float) (i : ℕ) {a b : Point} {from n j : ℕ} → a ≡ pointAt st i → b ≡ pointAt st (nextOf i (count st))
-    → First (alongEdge a b orb tol) from n j → First (alongEdge (pointAt st i) (edgeEnd st i) orb tol) from n j
+    → FirstFrom (alongEdge a b orb tol) from n j → FirstFrom (alongEdge (pointAt st i) (edgeEnd st i) orb tol) from n j
 unfolding edgeEnd
 edged st orb tol i e f w = rw (← e, ← f) w
 

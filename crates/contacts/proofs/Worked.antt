@@ -2,14 +2,14 @@
 use mathlib.Core.Path.{_≡_, refl}
 use mathlib.Core.List.{List, [], _∷_}
 use lib.Ieee.{Float, add, sub, mul, div, lt, neg, ofBits}
-use Rattle.scalar.specs.Float.{float, f0, f1}
+use Rattle.scalar.specs.Float.{float, f0, f1, f2}
 use Rattle.scalar.specs.Scalar.{absOf, clampOf}
 use Rattle.square_root.specs.Root.{sqrtOf}
 use Rattle.plane.specs.Vector.{minusOf, dotOf, crossOf, lengthOf, distanceOf, parallelOf}
 use Rattle.plane.specs.Segment.{clampedFoot, projectOf, alongOf, toSegmentOf, nearSegmentOf}
 use Rattle.ring.specs.Ring.{pointAt}
 use Rattle.pairs.specs.Pairs.{pairOf}
-use Rattle.contacts.specs.Touching.{edgeEnd, edgesOf, edgesTouch, touchesBy, touching, f2, pointBy, contactPoint}
+use Rattle.contacts.specs.Touching.{edgeEnd, edgesOf, edgesTouch, touchesBy, touching, pointBy, contactPoint}
 use Rattle.contacts.specs.Contacts.{picks, contactsOf, whichOf, pointsOf}
 
 abbrev pub four : Float

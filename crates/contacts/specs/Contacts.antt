@@ -38,9 +38,9 @@ someOf (k ∷ ks) = true
 abbrev pub hasContact : List Float → List Float → Float → Bool
 hasContact st orb tol = someOf (contactsOf st orb tol)
 
-abbrev pub nextOf : List ℕ → Next
-nextOf [] = Nothing
-nextOf (k ∷ ks) = At k
+abbrev pub firstContact : List ℕ → Next
+firstContact [] = Nothing
+firstContact (k ∷ ks) = At k
 
 -- how many numbers a contact takes of those that say which it is
 abbrev pub entry : ℕ

@@ -12,7 +12,7 @@ use Rattle.contacts.specs.Touching.{edgeEnd, edgesTouch}
 use Rattle.contacts.specs.declared.Frames.{Frames}
 
 -- r is the first number from `from` on, below n, of which a test holds, or n
-pub record First (f : ℕ → Bool) (from n r : ℕ) : Type 0 where
+pub record FirstFrom (f : ℕ → Bool) (from n r : ℕ) : Type 0 where
   pub least : from ≤ r
   pub most : r ≤ n
   pub clear : (k : ℕ) → from ≤ k → k < r → f k ≡ false

@@ -4,7 +4,7 @@ use mathlib.Core.Bool.{Bool, _&&_, cond}
 use mathlib.Core.List.{List}
 use lib.Dec.{eqb}
 use lib.Ieee.{Float}
-use Rattle.scalar.specs.Float.{_⊕_, _⊘_, float}
+use Rattle.scalar.specs.Float.{_⊕_, _⊘_, float, f2}
 use Rattle.plane.specs.Vector.{point, minusOf, parallelOf}
 use Rattle.plane.specs.Segment.{nearSegmentOf}
 use Rattle.plane.specs.declared.Point.{Point}
@@ -38,10 +38,6 @@ touchesBy kd e tol = byKind kd (nearSegmentOf (e .c) (e .a) (e .b) tol) (nearSeg
 
 unfoldable pub touching : List Float → List Float → Float → Pair → Bool
 touching st orb tol p = touchesBy (p .kind) (edgesOf st orb p) tol
-
--- 2.0
-abbrev pub f2 : Float
-f2 = float 0x4000_0000_0000_0000
 
 abbrev pub middle : Point → Point → Point
 middle p q = point ((p .x ⊕ q .x) ⊘ f2) ((p .y ⊕ q .y) ⊘ f2)

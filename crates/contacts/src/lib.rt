@@ -15,7 +15,7 @@ ghost use Rattle.ring.specs.Ring.{count};
 ghost use Rattle.pairs.specs.Pairs.{Sides, Within, pairCount, vertexPairs};
 ghost use Rattle.contacts.specs.Touching.{edgeEnd, edgesOf};
 ghost use Rattle.contacts.specs.Rows.{Framed};
-ghost use Rattle.contacts.specs.Contacts.{contactsFrom, nextOf, hasContact};
+ghost use Rattle.contacts.specs.Contacts.{contactsFrom, firstContact, hasContact};
 
 // How many numbers a contact takes of those that say which it is: its kind, its stationary and its orbiting index.
 pub const ENTRY: usize = 3;
@@ -69,7 +69,7 @@ fn next_edges(stationary: &[f64], orbiting: &[f64], frames: Frames, tol: f64, fr
     requires { ⌜ (vertexPairs (count (now stationary)) (count (now orbiting)) ≤ from)
         × (from ≤ pairCount (count (now stationary)) (count (now orbiting))) ⌝ }
     requires { ⌜ Framed frames (now stationary) (now orbiting) ⌝ }
-    ensures { λ r. ⌜ r ≡ nextOf (contactsFrom (now (stationary .entry)) (now (orbiting .entry)) tol from) ⌝ }
+    ensures { λ r. ⌜ r ≡ firstContact (contactsFrom (now (stationary .entry)) (now (orbiting .entry)) tol from) ⌝ }
 {
     let on = orbiting.len() / 2;
     let m = stationary.len() / 2 * on;
@@ -92,7 +92,7 @@ fn next_later(stationary: &[f64], orbiting: &[f64], frames: Frames, tol: f64, fr
     requires { ⌜ (count (now stationary) * count (now orbiting) ≤ from)
         × (from ≤ pairCount (count (now stationary)) (count (now orbiting))) ⌝ }
     requires { ⌜ Framed frames (now stationary) (now orbiting) ⌝ }
-    ensures { λ r. ⌜ r ≡ nextOf (contactsFrom (now (stationary .entry)) (now (orbiting .entry)) tol from) ⌝ }
+    ensures { λ r. ⌜ r ≡ firstContact (contactsFrom (now (stationary .entry)) (now (orbiting .entry)) tol from) ⌝ }
 {
     let on = orbiting.len() / 2;
     let m = stationary.len() / 2 * on;
@@ -118,7 +118,7 @@ pub fn next_within(
     requires { ⌜ Sides (count (now stationary)) (count (now orbiting)) ⌝ }
     requires { ⌜ from ≤ pairCount (count (now stationary)) (count (now orbiting)) ⌝ }
     requires { ⌜ Framed frames (now stationary) (now orbiting) ⌝ }
-    ensures { λ r. ⌜ r ≡ nextOf (contactsFrom (now (stationary .entry)) (now (orbiting .entry)) tol from) ⌝ }
+    ensures { λ r. ⌜ r ≡ firstContact (contactsFrom (now (stationary .entry)) (now (orbiting .entry)) tol from) ⌝ }
 {
     let sn = stationary.len() / 2;
     let m = sn * (orbiting.len() / 2);
@@ -154,7 +154,7 @@ pub fn frames_of(stationary: &[f64], orbiting: &[f64]) -> Frames
 pub fn next_contact(stationary: &[f64], orbiting: &[f64], tol: f64, from: usize) -> Next
     requires { ⌜ Sides (count (now stationary)) (count (now orbiting)) ⌝ }
     requires { ⌜ from ≤ pairCount (count (now stationary)) (count (now orbiting)) ⌝ }
-    ensures { λ r. ⌜ r ≡ nextOf (contactsFrom (now (stationary .entry)) (now (orbiting .entry)) tol from) ⌝ }
+    ensures { λ r. ⌜ r ≡ firstContact (contactsFrom (now (stationary .entry)) (now (orbiting .entry)) tol from) ⌝ }
 {
     next_within(
         stationary,

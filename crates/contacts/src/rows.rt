@@ -17,7 +17,7 @@ ghost use Rattle.plane.specs.Vector.{minusOf, parallelOf};
 ghost use Rattle.plane.specs.Segment.{nearSegmentOf};
 ghost use Rattle.ring.specs.Ring.{count};
 ghost use Rattle.frames.specs.Frame.{Around};
-ghost use Rattle.contacts.specs.Rows.{First, onEdge, alongEdge, onEdgeAt, alongEdgeAt};
+ghost use Rattle.contacts.specs.Rows.{FirstFrom, onEdge, alongEdge, onEdgeAt, alongEdgeAt};
 
 // Whether a point is nearer to a segment than tol; its foot is worked out only where the segment is not beside it.
 fn is_on(p: Point, a: Point, b: Point, tol: f64) -> bool
@@ -32,7 +32,7 @@ fn is_on(p: Point, a: Point, b: Point, tol: f64) -> bool
 // The first edge of a ring, from one on, that a point is near to, or their number.
 fn near_edge(p: Point, ring: &[f64], from: usize, tol: f64) -> usize
     requires { ⌜ from < count (now ring) ⌝ }
-    ensures { λ r. ⌜ First (onEdge p (now (ring .entry)) tol) from (count (now (ring .entry))) r ⌝ }
+    ensures { λ r. ⌜ FirstFrom (onEdge p (now (ring .entry)) tol) from (count (now (ring .entry))) r ⌝ }
 {
     let n = ring.len() / 2;
     let mut a = point_at(ring, from);
@@ -52,7 +52,7 @@ fn near_edge(p: Point, ring: &[f64], from: usize, tol: f64) -> usize
 fn near_edge_within(p: Point, ring: &[f64], around: Frame, from: usize, tol: f64) -> usize
     requires { ⌜ from < count (now ring) ⌝ }
     requires { ⌜ Around around (now ring) (count (now ring)) ⌝ }
-    ensures { λ r. ⌜ First (onEdge p (now (ring .entry)) tol) from (count (now (ring .entry))) r ⌝ }
+    ensures { λ r. ⌜ FirstFrom (onEdge p (now (ring .entry)) tol) from (count (now (ring .entry))) r ⌝ }
 {
     if is_apart(around, frame_at(p), tol) {
         return ring.len() / 2;
@@ -78,7 +78,7 @@ fn aligned(starts: bool, ends: bool, a: Point, b: Point, c: Point, d: Point) -> 
 // The first edge of a ring, from one on, that lies along the edge a b, or their number.
 fn edge_along(a: Point, b: Point, ring: &[f64], from: usize, tol: f64) -> usize
     requires { ⌜ from < count (now ring) ⌝ }
-    ensures { λ r. ⌜ First (alongEdge a b (now (ring .entry)) tol) from (count (now (ring .entry))) r ⌝ }
+    ensures { λ r. ⌜ FirstFrom (alongEdge a b (now (ring .entry)) tol) from (count (now (ring .entry))) r ⌝ }
 {
     let n = ring.len() / 2;
     let mut c = point_at(ring, from);
@@ -108,7 +108,7 @@ fn edge_along_within(
 ) -> usize
     requires { ⌜ from < count (now ring) ⌝ }
     requires { ⌜ Around around (now ring) (count (now ring)) ⌝ }
-    ensures { λ r. ⌜ First (alongEdge a b (now (ring .entry)) tol) from (count (now (ring .entry))) r ⌝ }
+    ensures { λ r. ⌜ FirstFrom (alongEdge a b (now (ring .entry)) tol) from (count (now (ring .entry))) r ⌝ }
 {
     if is_apart(with_edge(frame_at(a), a, b), around, tol) {
         return ring.len() / 2;
@@ -130,7 +130,7 @@ pub fn scan_vertices(
     requires { ⌜ (count (now points) ≤ 256) × (count (now ring) ≤ 256) ⌝ }
     requires { ⌜ Around around (now ring) (count (now ring)) ⌝ }
     ensures { λ r.
-        ⌜ First (onEdgeAt (now (points .entry)) (now (ring .entry)) tol) (v * count (now (ring .entry)) + e)
+        ⌜ FirstFrom (onEdgeAt (now (points .entry)) (now (ring .entry)) tol) (v * count (now (ring .entry)) + e)
         (count (now (points .entry)) * count (now (ring .entry))) r ⌝ }
 {
     let vn = points.len() / 2;
@@ -161,7 +161,7 @@ pub fn scan_edges(
     requires { ⌜ (count (now stationary) ≤ 256) × (count (now orbiting) ≤ 256) ⌝ }
     requires { ⌜ Around around (now orbiting) (count (now orbiting)) ⌝ }
     ensures { λ r.
-        ⌜ First (alongEdgeAt (now (stationary .entry)) (now (orbiting .entry)) tol) (s * count (now (orbiting .entry)) + o)
+        ⌜ FirstFrom (alongEdgeAt (now (stationary .entry)) (now (orbiting .entry)) tol) (s * count (now (orbiting .entry)) + o)
         (count (now (stationary .entry)) * count (now (orbiting .entry))) r ⌝ }
 {
     let sn = stationary.len() / 2;

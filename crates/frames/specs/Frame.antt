@@ -19,29 +19,29 @@ pub record Inside (q : Frame) (p : Point) : Type 0 where
   pub not-above : lt (q .high) (p .y) ≡ false
 
 -- the coordinates are an f64's
-abbrev pub Held : Point → Type 0
-Held p = T (fits binary64 (p .x)) × T (fits binary64 (p .y))
+abbrev pub HeldPoint : Point → Type 0
+HeldPoint p = T (fits binary64 (p .x)) × T (fits binary64 (p .y))
 
 -- both ends of the edge a b are, the second as it is worked out from the first
 pub record Spans (q : Frame) (a b : Point) : Type 0 where
   pub first : Inside q a
   pub second : Inside q (plusOf a (minusOf b a))
-  pub held : Held a
+  pub held : HeldPoint a
 
 -- the edges of a ring are, as many as are counted
 abbrev pub Around : Frame → List Float → ℕ → Type 0
 Around q r n = (i : ℕ) → i < n → Spans q (pointAt r i) (pointAt r (nextOf i (count r)))
 
 -- what is in the first bounds is in the second
-abbrev pub Within : Frame → Frame → Type 0
-Within q r = (p : Point) → Inside q p → Inside r p
+abbrev pub WithinFrame : Frame → Frame → Type 0
+WithinFrame q r = (p : Point) → Inside q p → Inside r p
 
 -- a bound lowered to a number, or raised to it; a NaN leaves it
-unfoldable pub lowerOf : Float → Float → Float
-lowerOf bound x = cond (lt x bound) x bound
+unfoldable pub lowerNumber : Float → Float → Float
+lowerNumber bound x = cond (lt x bound) x bound
 
-unfoldable pub higherOf : Float → Float → Float
-higherOf bound x = cond (lt bound x) x bound
+unfoldable pub higherNumber : Float → Float → Float
+higherNumber bound x = cond (lt bound x) x bound
 
 -- so far is above zero and its square above that of a tolerance, which is above zero too
 unfoldable pub wide : Float → Float → Bool

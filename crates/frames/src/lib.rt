@@ -11,7 +11,7 @@ ghost use lib.Dec.{T};
 ghost use lib.Ieee.{binary64, fits};
 ghost use Rattle.plane.specs.Segment.{nearSegmentOf};
 ghost use Rattle.ring.specs.Ring.{count};
-ghost use Rattle.frames.specs.Frame.{lowerOf, higherOf, Inside, Within, Held, Spans, Around, wide, marginOf, beyond, apart, past};
+ghost use Rattle.frames.specs.Frame.{lowerNumber, higherNumber, Inside, WithinFrame, HeldPoint, Spans, Around, wide, marginOf, beyond, apart, past};
 
 // The least and the greatest coordinate along each axis.
 pub struct Frame {
@@ -102,20 +102,20 @@ pub fn frame_at(p: Point) -> Frame
 
 // The lower of a bound and a number, and the higher: a NaN leaves the bound.
 fn lower(bound: f64, x: f64) -> f64
-    ensures { λ r. ⌜ (r ≡ lowerOf bound x) × T (fits binary64 x) ⌝ }
+    ensures { λ r. ⌜ (r ≡ lowerNumber bound x) × T (fits binary64 x) ⌝ }
 {
     if x < bound { x } else { bound }
 }
 
 fn higher(bound: f64, x: f64) -> f64
-    ensures { λ r. ⌜ r ≡ higherOf bound x ⌝ }
+    ensures { λ r. ⌜ r ≡ higherNumber bound x ⌝ }
 {
     if bound < x { x } else { bound }
 }
 
 // Bounds with a point taken in.
 fn with_point(q: Frame, p: Point) -> Frame
-    ensures { λ r. ⌜ Inside r p × (Within q r × Held p) ⌝ }
+    ensures { λ r. ⌜ Inside r p × (WithinFrame q r × HeldPoint p) ⌝ }
 {
     Frame {
         left: lower(q.left, p.x),
@@ -127,7 +127,7 @@ fn with_point(q: Frame, p: Point) -> Frame
 
 // Bounds with the edge a b taken in.
 pub fn with_edge(q: Frame, a: Point, b: Point) -> Frame
-    ensures { λ r. ⌜ Spans r a b × Within q r ⌝ }
+    ensures { λ r. ⌜ Spans r a b × WithinFrame q r ⌝ }
 {
     with_point(with_point(q, a), plus(a, minus(b, a)))
 }

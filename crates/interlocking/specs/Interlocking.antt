@@ -3,16 +3,16 @@ use Prim.Native.Nat.{ℕ, zero, suc}
 use mathlib.Core.Bool.{Bool, not, _&&_, cond}
 use mathlib.Core.List.{List}
 use lib.Ieee.{Float, lt}
-use Rattle.scalar.specs.Float.{_⊖_, _⊗_, f0}
+use Rattle.scalar.specs.Float.{_⊖_, _⊗_, f0, f0·5, f1e-6}
 use Rattle.scalar.specs.Scalar.{absOf, smallerOf}
-use Rattle.plane.specs.Vector.{minusOf, dotOf, normalizeOf, turnOf, root, aheadOf, half}
+use Rattle.plane.specs.Vector.{minusOf, dotOf, normalizeOf, turnOf, root, aheadOf}
 use Rattle.plane.specs.declared.Point.{Point}
 use Rattle.ring.specs.Ring.{count, pointAt, nextOf, previousVertex}
 use Rattle.ring.specs.Moved.{movedOf}
 use Rattle.refusals.specs.declared.answer.Found.{Found}
 use Rattle.refusals.specs.declared.answer.Found.the-variants.{Nothing, At}
 use Rattle.overlap.specs.Extent.{boxOf}
-use Rattle.overlap.specs.Overlap.{edgeOf, overlapOf, f1e-6}
+use Rattle.overlap.specs.Overlap.{edgeOf, overlapOf}
 
 -- the turn at vertex i is clockwise
 unfoldable pub concaveOf : List Float → ℕ → Bool
@@ -22,11 +22,11 @@ concaveOf r i = lt (turnOf (pointAt r (previousVertex i (count r))) (pointAt r i
 unfoldable pub openingOf : List Float → ℕ → Float
 openingOf r i = root (absOf (dotOf (edgeOf r (previousVertex i (count r))) (edgeOf r i)))
 
--- half of the smaller side of the bounding box
+-- f0·5 of the smaller side of the bounding box
 unfoldable pub leastOf : List Float → Float
 leastOf r =
     let b = boxOf r in
-    smallerOf (b .x .max ⊖ b .x .min) (b .y .max ⊖ b .y .min) ⊗ half
+    smallerOf (b .x .max ⊖ b .x .min) (b .y .max ⊖ b .y .min) ⊗ f0·5
 
 -- o moved there does not overlap s
 unfoldable pub fitsOf : List Float → List Float → Point → Bool

@@ -6,7 +6,7 @@ use native.Mathlib.Omega.{arith}
 use mathlib.Core.Path.{_≡_, refl, sym, ap, _∙_}
 use mathlib.Core.Bool.{Bool, true, false, cond}
 use borrow.Author.Count.{below-more, below-none}
-use Rattle.laws.specs.FirstBest.{better, over, nest, flat, First, none, some}
+use Rattle.laws.specs.FirstBest.{better, over, nest, flatRows, First, none, some}
 
 -- what holds of each number below i, and of i, holds of each below suc i
 pub below-suc : (P : ℕ → Type 0) (i : ℕ) → ((k : ℕ) → k < i → P k) → P i → (k : ℕ) → k < suc i → P k
@@ -35,7 +35,7 @@ module _ {C : Type 0} (ahead : C → C → Bool) where
   over-ext f g r zero h = refl
   over-ext f g r (suc n) h = rw (over-ext f g r n (λ k l. h k (omega arith)), h n (omega arith))
 
-  in-row : (g : ℕ → ℕ → C) (n o k : ℕ) → k < n → flat g n (o * n + k) ≡ g o k
+  in-row : (g : ℕ → ℕ → C) (n o k : ℕ) → k < n → flatRows g n (o * n + k) ≡ g o k
   in-row g n o k l =
       let h : 0 < n = omega arith in
       let a : (o * n + k) / n ≡ o = mul-add-div-right h o k ∙ (rw (div-eq-of-lt l) (add-zero o)) in
@@ -43,14 +43,14 @@ module _ {C : Type 0} (ahead : C → C → Bool) where
       rw (a, b)
 
   -- m rows of n candidates are m * n candidates in one row
-  pub nest-flat : (g : ℕ → ℕ → C) (n : ℕ) (r : C) (m : ℕ) → nest ahead g n r m ≡ over ahead (flat g n) r (m * n)
+  pub nest-flat : (g : ℕ → ℕ → C) (n : ℕ) (r : C) (m : ℕ) → nest ahead g n r m ≡ over ahead (flatRows g n) r (m * n)
   unfolding nest over
   nest-flat g n r zero = rw zero-mul
   nest-flat g n r (suc o) =
       ap (λ (q : C). over ahead (g o) q n) (nest-flat g n r o)
-      ∙ over-ext (g o) (λ (k : ℕ). flat g n (o * n + k)) (over ahead (flat g n) r (o * n)) n (λ k l. sym (in-row g n o k l))
-      ∙ sym (over-split (flat g n) r (o * n) n)
-      ∙ ap (over ahead (flat g n) r) (sym (suc-mul o n))
+      ∙ over-ext (g o) (λ (k : ℕ). flatRows g n (o * n + k)) (over ahead (flatRows g n) r (o * n)) n (λ k l. sym (in-row g n o k l))
+      ∙ sym (over-split (flatRows g n) r (o * n) n)
+      ∙ ap (over ahead (flatRows g n) r) (sym (suc-mul o n))
 
 -- ---- the first of the best
 

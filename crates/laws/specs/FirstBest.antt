@@ -17,8 +17,8 @@ nest ahead g n from zero = from
 nest ahead g n from (suc o) = over ahead (g o) (nest ahead g n from o) n
 
 -- the candidates of rows of n in one row
-abbrev pub flat : {C : Type 0} → (ℕ → ℕ → C) → ℕ → ℕ → C
-flat g n k = g (k / n) (k % n)
+abbrev pub flatRows : {C : Type 0} → (ℕ → ℕ → C) → ℕ → ℕ → C
+flatRows g n k = g (k / n) (k % n)
 
 -- r is the answer for f 0 .. f (n - 1): what was found before, where no candidate is ahead of it, and else the first of
 -- those that no other is ahead of

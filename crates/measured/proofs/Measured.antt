@@ -13,7 +13,7 @@ use Rattle.ring.specs.Moved.{movedOf}
 use Rattle.refusals.specs.Rows.{ofPoints3, ofRing, ofTwoPolygons, ofTouching, ofMoving, ofRooms, ofList}
 use Rattle.refusals.specs.Bounds.{coordinate, finite, every}
 use Rattle.laws.specs.FirstBest.{better, over, nest}
-use Rattle.start_position.specs.Start.{lowerOf, upperOf, vertexOf, startOf}
+use Rattle.start_position.specs.Start.{lowerOf, upperOf, extremeVertex, startOf}
 use Rattle.pairs.specs.Pairs as pairs
 use Rattle.contacts.specs.Touching.{edgeEnd, edgesOf, edgesTouch, touchesBy, touching, pointBy, contactPoint}
 use Rattle.contacts.specs.Contacts.{picks, contactsOf, whichOf, pointsOf}
@@ -43,7 +43,7 @@ unfolding foot ofPoints3 coordinate toSegmentOf alongOf projectOf clampedFoot cl
 foot-holds = (refl, (refl, record {}))
 
 starting-holds : AllHold starting
-unfolding starting ofTwoPolygons every coordinate startOf vertexOf over better lowerOf upperOf pointAt minusOf sub lt round neg
+unfolding starting ofTwoPolygons every coordinate startOf extremeVertex over better lowerOf upperOf pointAt minusOf sub lt round neg
 starting-holds = (refl, record {})
 
 -- the contacts' numbers in the scan

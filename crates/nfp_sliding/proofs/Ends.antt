@@ -26,7 +26,7 @@ use Rattle.pass.specs.declared.Step.{Step}
 use Rattle.pass.specs.declared.Step.the-variants.{Stop, Stay, Store}
 use Rattle.pass.proofs.Reasons.{pass-reason}
 use Rattle.simplify.specs.Simplify.{simplified}
-use Rattle.nfp_sliding.specs.Path.{Trace, ended, coordinates, follow, traceOf, atStart, marginsOf, traceFrom, tracedOf}
+use Rattle.nfp_sliding.specs.Path.{Trace, ended, coordinatesOf, follow, traceOf, atStart, marginsOf, traceFrom, tracedOf}
 use Rattle.nfp_sliding.specs.Calls.{Answer, traces, denied, overfull, tooShort, refusalOf, brief, cameTo, traceCall}
 use Rattle.nfp_sliding.proofs.Traced.{lent-ready}
 
@@ -60,7 +60,7 @@ module _ (s : Scene) (room : ℕ) where
     where
       full : Claim k → (pose : Pose) (b : Bool) → ltb (room - length path) 2 ≡ b
           → Bounded room (suc k) passes (length path)
-          (cond b (ended true 0 (passes + 1) path) (traceOf s room k (passes + 1) pose (path ++ coordinates (pose .position))))
+          (cond b (ended true 0 (passes + 1) path) (traceOf s room k (passes + 1) pose (path ++ coordinatesOf (pose .position))))
       full ih pose true e =
           record {
             reasoned = λ f. absurd (true≢false f);
@@ -69,8 +69,8 @@ module _ (s : Scene) (room : ℕ) where
             holds = λ h. sym e ∙ le-ltb (room - length path) 2 (omega arith);
           }
       full ih pose false e =
-          let longer = path ++ coordinates (pose .position) in
-          let n : length longer ≡ length path + 2 = length-append path (coordinates (pose .position)) in
+          let longer = path ++ coordinatesOf (pose .position) in
+          let n : length longer ≡ length path + 2 = length-append path (coordinatesOf (pose .position)) in
           one-more k passes (length path) (length longer) _ (omega (arith, n)) (ih (passes + 1) pose longer)
 
       by : Claim k → (step : Step) → passOf s path pose ≡ step
@@ -101,7 +101,7 @@ module _ (st orb : List Float) (s : Settings) (work : ℕ) where
   unfolding tracedOf traceFrom
   from-start =
       let start = startOf (ccwOf st) (ccwOf orb) in
-      bounded (scene (ccwOf st) (ccwOf orb) (marginsOf s) (centroidOf (ccwOf st)) start) work (s .«max_iterations») 0 (atStart start) (coordinates start)
+      bounded (scene (ccwOf st) (ccwOf orb) (marginsOf s) (centroidOf (ccwOf st)) start) work (s .«max_iterations») 0 (atStart start) (coordinatesOf start)
 
   pub trace-reason : tracedOf st orb s work .full ≡ false
       → (1 ≤ tracedOf st orb s work .reason) × (tracedOf st orb s work .reason ≤ 5)

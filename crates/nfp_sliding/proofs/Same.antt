@@ -21,7 +21,7 @@ use Rattle.pass.specs.declared.Step.{Step}
 use Rattle.pass.specs.declared.Step.the-variants.{Stop, Stay, Store}
 use Rattle.pass_run.specs.declared.run.State.{State}
 use Rattle.pass_run.specs.Run.{Done, afterOf, afterBy, runOf, done, onward, state}
-use Rattle.nfp_sliding.specs.Path.{Trace, traceOf, follow, ended, coordinates, endOf}
+use Rattle.nfp_sliding.specs.Path.{Trace, traceOf, follow, ended, coordinatesOf, endOf}
 
 -- what a run over the room and a trace have to do with each other
 pub record Same (room : List Float) (d : Done) (t : Trace) : Type 0 where
@@ -31,10 +31,10 @@ pub record Same (room : List Float) (d : Done) (t : Trace) : Type 0 where
   pub whole : length (t .path) ≡ 2 * count (t .path)
 
 pub put-path : (path rest : List Float) (n : ℕ) (p : Point) → 2 * n ≡ length path → length path + 2 ≤ length (path ++ rest)
-    → putAt (path ++ rest) n p ≡ (path ++ coordinates p) ++ drop (length path + 2) (path ++ rest)
+    → putAt (path ++ rest) n p ≡ (path ++ coordinatesOf p) ++ drop (length path + 2) (path ++ rest)
 unfolding putAt
 put-path path rest n p e l =
-    rw (e, add-one) (sets-eq (coordinates p) (path ++ rest) (length path) l ∙ (rw take-append-seam refl))
+    rw (e, add-one) (sets-eq (coordinatesOf p) (path ++ rest) (length path) l ∙ (rw take-append-seam refl))
 
 -- the claim of the induction, at k more passes: whatever the path and the pose
 abbrev Claim : Scene → List Float → ℕ → Type 0
@@ -65,10 +65,10 @@ same-run s held (suc k) passes stored pose path l e = go (same-run s held k) (pa
     passed-so : (o : Step) → passOf s path pose ≡ o → afterOf s st room ≡ afterBy o st room
     passed-so o h = rw (take-at path (drop (length path) held) (2 * stored) (sym e), h) refl
 
-    long : (p : Point) → length (path ++ coordinates p) ≡ length path + 2
-    long p = length-append path (coordinates p)
+    long : (p : Point) → length (path ++ coordinatesOf p) ≡ length path + 2
+    long p = length-append path (coordinatesOf p)
 
-    put : (p : Point) → length path + 2 ≤ length held → putAt room stored p ≡ laid (path ++ coordinates p) held
+    put : (p : Point) → length path + 2 ≤ length held → putAt room stored p ≡ laid (path ++ coordinatesOf p) held
     put p h =
         put-path path (drop (length path) held) stored p e (rw size h)
         ∙ (rw (drop-append-add, drop-drop, long) refl)
@@ -84,7 +84,7 @@ same-run s held (suc k) passes stored pose path l e = go (same-run s held k) (pa
     store ih q false b t =
         let b' : 2 ≤ length held - length path = ltb-false _ _ b in
         rw (t, size, e, b, put (q .position) (omega arith))
-        (ih (passes + 1) (stored + 1) q (path ++ coordinates (q .position)) (omega (arith, long (q .position))) (omega (arith, long (q .position))))
+        (ih (passes + 1) (stored + 1) q (path ++ coordinatesOf (q .position)) (omega (arith, long (q .position))) (omega (arith, long (q .position))))
 
     go : Claim s held k → (o : Step) → passOf s path pose ≡ o
         → Same held (runOf s (suc k) passes st room) (traceOf s (length held) (suc k) passes pose path)

@@ -28,13 +28,13 @@ use Rattle.centroid.specs.Centroid.{centroidOf}
 use Rattle.pass.specs.Pass.{Scene, scene}
 use Rattle.pass_run.specs.declared.run.End.{End}
 use Rattle.pass_run.specs.Run.{Done, runOf, state}
-use Rattle.nfp_sliding.specs.Path.{Trace, ended, endOf, coordinates, atStart, marginsOf, Ready, traceFrom, tracedOf}
+use Rattle.nfp_sliding.specs.Path.{Trace, ended, endOf, coordinatesOf, atStart, marginsOf, TraceReady, traceFrom, tracedOf}
 use Rattle.nfp_sliding.specs.Calls.{traced, cameTo, resultAfter, traceCall, traceWork, traceResult}
 use Rattle.nfp_sliding.specs.declared.answer.Traced.{Traced}
 use Rattle.nfp_sliding.specs.declared.answer.Traced.the-variants.{Refused}
 use Rattle.nfp_sliding.proofs.Same.{Same, put-path, same-run}
 
-pub sides : {st orb : List Float} {s : Settings} {n : ℕ} → Ready st orb s n → Sides (count st) (count orb)
+pub sides : {st orb : List Float} {s : Settings} {n : ℕ} → TraceReady st orb s n → Sides (count st) (count orb)
 sides r =
     record {
       stationary-some = omega (arith, r .st-least);
@@ -43,16 +43,16 @@ sides r =
       orbiting-most = omega (arith, r .orb-most);
     }
 
-put-start : (held : List Float) (p : Point) → 2 ≤ length held → putAt held 0 p ≡ laid (coordinates p) held
+put-start : (held : List Float) (p : Point) → 2 ≤ length held → putAt held 0 p ≡ laid (coordinatesOf p) held
 put-start held p l = put-path [] held 0 p refl l
 
 module _ (st orb : List Float) (s : Settings) (held : List Float) (l : 2 ≤ length held) where
   abbrev from : Point → Point → List Float → Done
   from middle start room = runOf (scene st orb (marginsOf s) middle start) (s .«max_iterations») 0 (state (atStart start) 1) room
 
-  from-start : Same held (from (centroidOf st) (startOf st orb) (laid (coordinates (startOf st orb)) held)) (traceFrom st orb s (length held))
+  from-start : Same held (from (centroidOf st) (startOf st orb) (laid (coordinatesOf (startOf st orb)) held)) (traceFrom st orb s (length held))
   unfolding traceFrom
-  from-start = same-run (scene st orb (marginsOf s) (centroidOf st) (startOf st orb)) held (s .«max_iterations») 0 1 (atStart (startOf st orb)) (coordinates (startOf st orb)) l refl
+  from-start = same-run (scene st orb (marginsOf s) (centroidOf st) (startOf st orb)) held (s .«max_iterations») 0 1 (atStart (startOf st orb)) (coordinatesOf (startOf st orb)) l refl
 
   -- what the run from the start leaves
   pub followed : {start middle : Point} {room out : List Float} {r : End} → start ≡ startOf st orb → middle ≡ centroidOf st → room ≡ putAt held 0 start
@@ -69,7 +69,7 @@ module _ (st orb : List Float) (s : Settings) (held : List Float) (l : 2 ≤ len
   from-whole = from-start .whole
 
 -- a polygon made counter-clockwise is one
-pub ready : {st orb : List Float} {s : Settings} {n : ℕ} → Ready st orb s n → Ready (ccwOf st) (ccwOf orb) s n
+pub ready : {st orb : List Float} {s : Settings} {n : ℕ} → TraceReady st orb s n → TraceReady (ccwOf st) (ccwOf orb) s n
 ready {st} {orb} r =
     let a = ccw-length st (r .st-even) in
     let b = ccw-length orb (r .orb-even) in
@@ -114,7 +114,7 @@ within s h =
 
 -- what the tests leave of what is lent
 pub lent-ready : (st orb : List Float) (s : Settings) (work result : ℕ) {n : Refusal} {p : Bool} → n ≡ ofTrace st orb s work result → p ≡ passed n → p ≡ true
-    → Ready st orb s work × (work ≤ result)
+    → TraceReady st orb s work × (work ≤ result)
 unfolding ofTrace
 lent-ready st orb s work result e h t =
     let g : passed (ofTrace st orb s work result) ≡ true = rw (← e, ← h) t in

@@ -31,15 +31,15 @@ pub record Trace : Type 0 where
 abbrev pub ended : Bool → ℕ → ℕ → List Float → Trace
 ended full reason passes path = record { full = full; reason = reason; passes = passes; path = path }
 
-abbrev pub coordinates : Point → List Float
-coordinates p = p .x ∷ p .y ∷ []
+abbrev pub coordinatesOf : Point → List Float
+coordinatesOf p = p .x ∷ p .y ∷ []
 
 -- what follows a pass in a room for so many numbers; go is the rest of the trace
 abbrev pub follow : Step → ℕ → ℕ → List Float → (Pose → List Float → Trace) → Trace
 follow (Stop reason) room passes path go = ended false reason (passes + 1) path
 follow (Stay pose) room passes path go = go pose path
 follow (Store pose) room passes path go =
-    cond (ltb (room - length path) 2) (ended true 0 (passes + 1) path) (go pose (path ++ coordinates (pose .position)))
+    cond (ltb (room - length path) 2) (ended true 0 (passes + 1) path) (go pose (path ++ coordinatesOf (pose .position)))
 
 -- at most k more passes, so many having been begun: each is the pass from the pose that the one before left, over the path so far
 unfoldable pub traceOf : Scene → ℕ → ℕ → ℕ → Pose → List Float → Trace
@@ -51,7 +51,7 @@ abbrev pub endOf : Trace → End
 endOf t = record { full = t .full; reason = t .reason; passes = t .passes; stored = count (t .path) }
 
 -- what a trace is given: two polygons of 3 to 256 vertices, a pass limit, and a work room for one point at least
-pub record Ready (st orb : List Float) (s : Settings) (work : ℕ) : Type 0 where
+pub record TraceReady (st orb : List Float) (s : Settings) (work : ℕ) : Type 0 where
   pub st-even : length st % 2 ≡ 0
   pub st-least : 6 ≤ length st
   pub st-most : length st ≤ 512
@@ -72,7 +72,7 @@ marginsOf s = record { tolerance = s .«contact_tolerance»; smallest = s .«min
 unfoldable pub traceFrom : List Float → List Float → Settings → ℕ → Trace
 traceFrom st orb s room =
     let start = startOf st orb in
-    traceOf (scene st orb (marginsOf s) (centroidOf st) start) room (s .«max_iterations») 0 (atStart start) (coordinates start)
+    traceOf (scene st orb (marginsOf s) (centroidOf st) start) room (s .«max_iterations») 0 (atStart start) (coordinatesOf start)
 
 -- the trace of two polygons, each made counter-clockwise first
 unfoldable pub tracedOf : List Float → List Float → Settings → ℕ → Trace

@@ -16,12 +16,12 @@ ghost use mathlib.Core.Path.{_≡_};
 ghost use Prim.Native.Nat.{_*_, _≤_};
 ghost use lib.ListN.{length, take};
 ghost use Rattle.ring.specs.Room.{laid};
-ghost use Rattle.nfp_sliding.specs.Path.{ended, endOf, Ready, traceFrom, tracedOf};
+ghost use Rattle.nfp_sliding.specs.Path.{ended, endOf, TraceReady, traceFrom, tracedOf};
 ghost use Rattle.nfp_sliding.specs.Calls.{traced, cameTo, resultAfter};
 
 // The trace of two counter-clockwise polygons.
 fn follow(stationary: &[f64], orbiting: &[f64], settings: Settings, work: &mut [f64]) -> End
-    requires { ⌜ Ready (now stationary) (now orbiting) settings (length (now work)) ⌝ }
+    requires { ⌜ TraceReady (now stationary) (now orbiting) settings (length (now work)) ⌝ }
     ensures { λ r.
         ⌜ r ≡ endOf (traceFrom (now (stationary .entry)) (now (orbiting .entry)) settings (length (now (work .entry)))) ⌝ }
     ensures { λ _.
@@ -58,7 +58,7 @@ fn follow(stationary: &[f64], orbiting: &[f64], settings: Settings, work: &mut [
 
 // The trace of two polygons, each made counter-clockwise.
 pub fn trace(stationary: &[f64], orbiting: &[f64], settings: Settings, work: &mut [f64]) -> End
-    requires { ⌜ Ready (now stationary) (now orbiting) settings (length (now work)) ⌝ }
+    requires { ⌜ TraceReady (now stationary) (now orbiting) settings (length (now work)) ⌝ }
     ensures { λ r.
         ⌜ r ≡ endOf (tracedOf (now (stationary .entry)) (now (orbiting .entry)) settings (length (now (work .entry)))) ⌝ }
     ensures { λ _.

@@ -4,7 +4,7 @@ use mathlib.Core.Path.{_≡_, refl}
 use mathlib.Core.Bool.{true, false}
 use mathlib.Core.List.{List, [], _∷_}
 use lib.Ieee.{Float, add, sub, mul, div, lt, le, eq, neg, ofBits}
-use Rattle.scalar.specs.Float.{float, f0, f1}
+use Rattle.scalar.specs.Float.{float, f0, f1, f1e-6}
 use Rattle.scalar.specs.Scalar.{absOf, minusZero, ahead, orNumber, smallerOf, largerOf}
 use Rattle.square_root.specs.Root.{sqrtOf}
 use Rattle.plane.specs.Vector.{minusOf, dotOf, lengthOf, normalizeOf}
@@ -16,7 +16,7 @@ use Rattle.refusals.specs.Bounds.{coordinate, every}
 use Rattle.refusals.specs.Answers.{answers, refuses}
 use Rattle.ring.proofs.Worked.{f2, f3, f4, S}
 use Rattle.overlap.specs.Extent.{widerOf, extentTo, apartOf, boxOf, shadowOf}
-use Rattle.overlap.specs.Overlap.{edgeOf, axisOf, noAxis, meetsOn, meetsAlong, boxesApart, overlapOf, f1e-6}
+use Rattle.overlap.specs.Overlap.{edgeOf, axisOf, noAxis, meetsOn, meetsAlong, boxesApart, overlapOf}
 use Rattle.overlap.specs.Calls.{overlapCall, overlapWithCall}
 
 abbrev minus2 : Float

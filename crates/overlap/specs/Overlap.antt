@@ -45,7 +45,3 @@ boxesApart a b tol =
 -- `polygons_overlap_with_tolerance`: the boxes are not apart, and no edge of a and then none of b gives an axis with a gap
 unfoldable pub overlapOf : List Float → List Float → Float → Bool
 overlapOf a b tol = not (boxesApart a b tol) && (meetsAlong a b a tol && meetsAlong a b b tol)
-
--- 1e-6
-abbrev pub f1e-6 : Float
-f1e-6 = float 0x3eb0_c6f7_a0b5_ed8d

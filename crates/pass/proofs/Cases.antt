@@ -11,7 +11,7 @@ use borrow.Author.Tests.{lt-ltb, le-ltb}
 use Rattle.plane.specs.declared.Point.{Point}
 use Rattle.contacts.specs.Contacts.{contactsOf, hasContact}
 use Rattle.contacts.proofs.Following.{none-there}
-use Rattle.vectors.specs.Fit.{kept, fitOf}
+use Rattle.vectors.specs.Fit.{keptVectors, fitOf}
 use Rattle.vectors.specs.Vectors.{vectorsFrom}
 use Rattle.selection.specs.Score.{preferredOf}
 use Rattle.ring.specs.Ring.{count}
@@ -59,7 +59,7 @@ module _ (s : Scene) (moved path : List Float) (pose : Pose) where
 
   -- a vector is that of a contact
   no-vector : (ccw : Point) → hasContact (s .stationary) moved tol ≡ false → choiceOf (fitOf (s .stationary) moved (pose .position) path tol) (pose .previous) ccw ≡ Nothing
-  unfolding kept vectorsFrom choiceOf vectorNo
+  unfolding keptVectors vectorsFrom choiceOf vectorNo
   no-vector ccw e = rw (none-there (contactsOf (s .stationary) moved tol) e) refl
 
   pub slides : {ccw : Point} {v : Choice} {r : Step} {w : TranslationVector} → ccw ≡ preferredOf (s .centroid) (pose .position)

@@ -14,10 +14,10 @@ use Rattle.laws.specs.FirstBest.{better, over, nest}
 use Rattle.pairs.specs.Pairs as pairs
 use Rattle.contacts.specs.Touching.{edgeEnd, edgesOf, edgesTouch, touchesBy, touching}
 use Rattle.contacts.specs.Contacts.{picks}
-use Rattle.vectors.specs.Vectors.{oppositeOf, directionOf, vertexEdge, edgeVertex, edgeEdge, vectorBy, vectorOf, vectorsFrom, numbersOf}
-use Rattle.vectors.specs.Fit.{apart, visitedOf, potentialOf, keeps, kept}
+use Rattle.vectors.specs.Vectors.{oppositeOf, directionOf, vertexEdge, edgeVertex, edgeEdge, vectorBy, vectorOf, vectorsFrom, vectorNumbers}
+use Rattle.vectors.specs.Fit.{apartFrom, visitedOf, potentialOf, keeps, keptVectors}
 use Rattle.selection.specs.Score.{preferredOf, continuedOf, scoreOf}
-use Rattle.selection.specs.Select.{vectorAt, scoreAt, scoredAt, startOf, selectOf}
+use Rattle.selection.specs.Select.{vectorAt, scoreAt, scoredAt, unscored, selectOf}
 use Rattle.selection.specs.declared.Previous.the-variants.{None, Direction}
 use Rattle.collision.specs.Ray.{rayWithin, rayOf, edgeRay}
 use Rattle.collision.specs.Hit.{countedOf, nearer}
@@ -41,5 +41,5 @@ margins = record { tolerance = float 0x3eb0_c6f7_a0b5_ed8d; smallest = float 0x3
 
 first-pass : passOf (scene S Q margins (point f2 f2) (point f0 m2)) (f0 ∷ m2 ∷ []) (record { position = point f0 m2; previous = None; stuck = 0 })
     ≡ Store (record { position = point f2 m2; previous = Direction (point f1 f0); stuck = 0 })
-unfolding passOf passAt movedOf points picks touching touchesBy edgesOf edgeEnd edgesTouch pairs.pairOf pointAt nearSegmentOf toSegmentOf alongOf projectOf clampedFoot clampOf parallelOf absOf crossOf minusOf plusOf dotOf lengthOf distanceOf normalizeOf sqrtOf chosen choiceOf vectorNo selectOf over better startOf scoredAt scoreAt vectorAt scoreOf continuedOf preferredOf numbersOf kept keeps visitedOf apart each potentialOf aheadOf smallerOf largerOf orNumber ahead minusZero vectorsFrom vectorOf vectorBy vertexEdge edgeVertex edgeEdge directionOf oppositeOf slideOf landOf closesOf blockedOf madeOf timesOf collisionOf sweepOf bothOf backOf scanOf hitOf nest nearer countedOf edgeRay rayOf rayWithin add sub mul div lt le eq neg ofBits
+unfolding passOf passAt movedOf points picks touching touchesBy edgesOf edgeEnd edgesTouch pairs.pairOf pointAt nearSegmentOf toSegmentOf alongOf projectOf clampedFoot clampOf parallelOf absOf crossOf minusOf plusOf dotOf lengthOf distanceOf normalizeOf sqrtOf chosen choiceOf vectorNo selectOf over better unscored scoredAt scoreAt vectorAt scoreOf continuedOf preferredOf vectorNumbers keptVectors keeps visitedOf apartFrom each potentialOf aheadOf smallerOf largerOf orNumber ahead minusZero vectorsFrom vectorOf vectorBy vertexEdge edgeVertex edgeEdge directionOf oppositeOf slideOf landOf closesOf blockedOf madeOf timesOf collisionOf sweepOf bothOf backOf scanOf hitOf nest nearer countedOf edgeRay rayOf rayWithin add sub mul div lt le eq neg ofBits
 first-pass = refl

@@ -58,7 +58,3 @@ turnOf a b c = crossOf (minusOf b a) (minusOf c a)
 -- so far from a point in a direction
 unfoldable pub aheadOf : Point → Point → Float → Point
 aheadOf at dir far = point (at .x ⊕ dir .x ⊗ far) (at .y ⊕ dir .y ⊗ far)
-
--- 0.5
-abbrev pub half : Float
-half = float 0x3fe0_0000_0000_0000

@@ -13,7 +13,7 @@ use lib.Dec.{ltb}
 use lib.Ieee.{Float, nan}
 use borrow.Author.Tests.{ltb-true, ltb-false, lt-ltb, le-ltb}
 use Rattle.reading.specs.Reading.{rot, reading, Vertex, flat, vertices, ord, less, choice}
-use Rattle.reading.specs.Lent.{kept, ringOf, wrap, vertexOf}
+use Rattle.reading.specs.Lent.{kept, ringOf, wrap, vertexPlace}
 use Rattle.reading.proofs.Turning.{length-rot, length-reading}
 use Rattle.reading.proofs.Leasts.{length-flat}
 use Rattle.reading.proofs.Order.{less-lower, less-higher, less-equal, ord-inj}
@@ -26,26 +26,26 @@ wrap-low n i h = rw (lt-ltb i n h)
 wrap-high : (n i : ℕ) → n ≤ i → wrap n i ≡ i - n
 wrap-high n i h = rw (le-ltb i n h)
 
-vertex-onward : (n c i : ℕ) → c < n → vertexOf n c i ≡ wrap n (c + i)
-unfolding vertexOf
+vertex-onward : (n c i : ℕ) → c < n → vertexPlace n c i ≡ wrap n (c + i)
+unfolding vertexPlace
 vertex-onward n c i h = rw (lt-ltb c n h)
 
-vertex-back : (n c i : ℕ) → n ≤ c → vertexOf n c i ≡ wrap n (c - i)
-unfolding vertexOf
+vertex-back : (n c i : ℕ) → n ≤ c → vertexPlace n c i ≡ wrap n (c - i)
+unfolding vertexPlace
 vertex-back n c i h = rw (le-ltb c n h)
 
 -- the four ends of `vertex`
 module _ (n c i : ℕ) (low : c < 2 * n) (k : i < n) where
-  pub onward-low : c < n → c + i < n → (c + i ≡ vertexOf n c i) × (c + i < n)
+  pub onward-low : c < n → c + i < n → (c + i ≡ vertexPlace n c i) × (c + i < n)
   onward-low h l = (sym (vertex-onward n c i h ∙ wrap-low n (c + i) l), l)
 
-  pub onward-high : c < n → n ≤ c + i → (c + i - n ≡ vertexOf n c i) × (c + i - n < n)
+  pub onward-high : c < n → n ≤ c + i → (c + i - n ≡ vertexPlace n c i) × (c + i - n < n)
   onward-high h l = (sym (vertex-onward n c i h ∙ wrap-high n (c + i) l), (omega arith))
 
-  pub back-low : n ≤ c → c - i < n → (c - i ≡ vertexOf n c i) × (c - i < n)
+  pub back-low : n ≤ c → c - i < n → (c - i ≡ vertexPlace n c i) × (c - i < n)
   back-low h l = (sym (vertex-back n c i h ∙ wrap-low n (c - i) l), l)
 
-  pub back-high : n ≤ c → n ≤ c - i → (c - i - n ≡ vertexOf n c i) × (c - i - n < n)
+  pub back-high : n ≤ c → n ≤ c - i → (c - i - n ≡ vertexPlace n c i) × (c - i - n < n)
   back-high h l = (sym (vertex-back n c i h ∙ wrap-high n (c - i) l), (omega arith))
 
 module _ {A : Type 0} (d : A) where
@@ -82,10 +82,10 @@ module _ {A : Type 0} (d : A) where
           let z : suc (length r) - suc i ≡ 0 = omega arith in
           getD-at (reverse r) a [] d i (omega (arith, e)) ∙ ap (λ (j : ℕ). getD (a ∷ r) j d) (sym z)
 
-  choice-at : (r : List A) (c i : ℕ) → c < 2 * length r → i < length r → getD (choice r c) i d ≡ getD r (vertexOf (length r) c i) d
+  choice-at : (r : List A) (c i : ℕ) → c < 2 * length r → i < length r → getD (choice r c) i d ≡ getD r (vertexPlace (length r) c i) d
   choice-at r c i h l = go (ltb c (length r)) refl
     where
-      go : (b : Bool) → ltb c (length r) ≡ b → getD (reading r (cond b c (c - length r)) (not b)) i d ≡ getD r (vertexOf (length r) c i) d
+      go : (b : Bool) → ltb c (length r) ≡ b → getD (reading r (cond b c (c - length r)) (not b)) i d ≡ getD r (vertexPlace (length r) c i) d
       go true e =
           let m : c < length r = ltb-true _ _ e in
           rot-at c r i (omega arith) l ∙ ap (λ (j : ℕ). getD r j d) (sym (vertex-onward (length r) c i m))
@@ -161,13 +161,13 @@ module _ (xs : List Float) (even : length xs % 2 ≡ 0) where
       ∙ List·getD-map kept xs i nan
 
   -- coordinate j of the reading c, where the vertex that it belongs to is v
-  pub coord-at : (c j v : ℕ) → c < length xs → j < length xs → v ≡ vertexOf (length xs / 2) c (j / 2) → v < length xs / 2
+  pub coord-at : (c j v : ℕ) → c < length xs → j < length xs → v ≡ vertexPlace (length xs / 2) c (j / 2) → v < length xs / 2
       → kept (getD xs (2 * v + j % 2) nan) ≡ getD (flat (choice (ringOf xs) c)) j 0
   coord-at c j v h k e l =
       let r = ringOf xs in
       let n : length xs / 2 ≡ length r = omega (arith, length-ringOf) in
       sym
-      (coord-of-vertex (choice r c) r v j (choice-at nowhere r c (j / 2) (omega (arith, length-ringOf)) (omega (arith, length-ringOf)) ∙ ap (λ (i : ℕ). getD r i nowhere) (ap (λ (m : ℕ). vertexOf m c (j / 2)) (sym n) ∙ sym e))
+      (coord-of-vertex (choice r c) r v j (choice-at nowhere r c (j / 2) (omega (arith, length-ringOf)) (omega (arith, length-ringOf)) ∙ ap (λ (i : ℕ). getD r i nowhere) (ap (λ (m : ℕ). vertexPlace m c (j / 2)) (sym n) ∙ sym e))
       ∙ lent-at (2 * v + j % 2) (omega arith))
 
   pub length-choice : (c : ℕ) → length (flat (choice (ringOf xs) c)) ≡ length xs

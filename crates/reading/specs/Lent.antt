@@ -27,5 +27,5 @@ abbrev pub wrap : ℕ → ℕ → ℕ
 wrap n i = cond (ltb i n) i (i - n)
 
 -- vertex i of the reading c of a ring of n vertices: onward from c, or back from c - n
-unfoldable pub vertexOf : ℕ → ℕ → ℕ → ℕ
-vertexOf n c i = wrap n (cond (ltb c n) (c + i) (c - i))
+unfoldable pub vertexPlace : ℕ → ℕ → ℕ → ℕ
+vertexPlace n c i = wrap n (cond (ltb c n) (c + i) (c - i))

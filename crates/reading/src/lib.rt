@@ -6,7 +6,7 @@ ghost use lib.ListN.{length, getD};
 ghost use lib.Dec.{T};
 ghost use lib.Ieee.{isNan};
 ghost use Rattle.reading.specs.Reading.{ord, flat, choice, earlier, bestOf, isLeast};
-ghost use Rattle.reading.specs.Lent.{kept, ringOf, Lent, vertexOf};
+ghost use Rattle.reading.specs.Lent.{kept, ringOf, Lent, vertexPlace};
 
 // A coordinate's bits as a book keeps them.
 fn bits(x: f64) -> u64
@@ -30,7 +30,7 @@ fn key(b: u64) -> u64
 // Where vertex i of the reading c lies on a ring of n vertices.
 fn vertex(n: usize, c: usize, i: usize) -> usize
     requires { ⌜ (n ≤ 256) × (c < 2 * n) × (i < n) ⌝ }
-    ensures { λ r. ⌜ (r ≡ vertexOf n c i) × (r < n) ⌝ }
+    ensures { λ r. ⌜ (r ≡ vertexPlace n c i) × (r < n) ⌝ }
 {
     if c < n {
         let v = c + i;

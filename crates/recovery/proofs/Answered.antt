@@ -6,7 +6,7 @@ use mathlib.Core.Path.{_≡_}
 use mathlib.Core.Bool.{Bool, true, false, cond}
 use mathlib.Core.List.{List}
 use lib.Ieee.{Float}
-use Rattle.laws.specs.FirstBest.{flat, First}
+use Rattle.laws.specs.FirstBest.{flatRows, First}
 use Rattle.plane.specs.declared.Point.{Point}
 use Rattle.ring.specs.Ring.{count}
 use Rattle.refusals.specs.Refusals.{passed}
@@ -15,7 +15,7 @@ use Rattle.refusals.specs.Answers.{answers, refuses, found, position}
 use Rattle.refusals.specs.declared.answer.Found.{Found}
 use Rattle.refusals.specs.declared.answer.Position.the-variants.{Is}
 use Rattle.refusals.proofs.Calls.{position-only}
-use Rattle.recovery.specs.Recovery.{closestAt, nearer, afar, closestOf, moveTo, recoverOf}
+use Rattle.recovery.specs.Recovery.{closestAt, nearerPoint, afar, closestOf, moveTo, recoverOf}
 use Rattle.recovery.specs.Calls.{recoverCall}
 use Rattle.recovery.specs.declared.Closest.{Closest}
 use Rattle.recovery.proofs.Nearest.{closest-first}
@@ -24,7 +24,7 @@ module _ (s o : List Float) (current : Point) (tol : Float) where
   -- f is the move to a point c that is the first of the nearest, or nothing
   abbrev ToNearest : Found → Type 0
   ToNearest f =
-      (c : Closest) × First nearer (flat (closestAt s o) (count s)) afar (count o * count s) c × (f ≡ moveTo (c .target) (c .distance) o current tol)
+      (c : Closest) × First nearerPoint (flatRows (closestAt s o) (count s)) afar (count o * count s) c × (f ≡ moveTo (c .target) (c .distance) o current tol)
 
   pub answer-nearest : (f : Found) → position (Is f) ≡ recoverCall s o current tol → ToNearest f
   unfolding recoverOf

@@ -3,8 +3,8 @@ use Prim.Native.Nat.{ℕ}
 use mathlib.Core.Bool.{Bool, false, cond}
 use mathlib.Core.List.{List}
 use lib.Ieee.{Float, inf, lt}
-use Rattle.scalar.specs.Float.{_⊖_, _⊗_}
-use Rattle.plane.specs.Vector.{minusOf, distanceOf, normalizeOf, aheadOf, half}
+use Rattle.scalar.specs.Float.{_⊖_, _⊗_, f0·5}
+use Rattle.plane.specs.Vector.{minusOf, distanceOf, normalizeOf, aheadOf}
 use Rattle.plane.specs.Segment.{projectOf, alongOf}
 use Rattle.plane.specs.declared.Point.{Point}
 use Rattle.ring.specs.Ring.{count, pointAt, nextOf}
@@ -26,8 +26,8 @@ closestOn v r i =
 abbrev pub closestAt : List Float → List Float → ℕ → ℕ → Closest
 closestAt s o k i = closestOn (pointAt o k) s i
 
-abbrev pub nearer : Closest → Closest → Bool
-nearer new best = lt (new .distance) (best .distance)
+abbrev pub nearerPoint : Closest → Closest → Bool
+nearerPoint new best = lt (new .distance) (best .distance)
 
 -- nothing found
 abbrev pub afar : Closest
@@ -35,7 +35,7 @@ afar = record { distance = inf false; target = Nothing }
 
 -- the vertices of the orbiting polygon in turn, each against every edge of the stationary one
 unfoldable pub closestOf : List Float → List Float → Closest
-closestOf s o = nest nearer (closestAt s o) (count s) afar (count o)
+closestOf s o = nest nearerPoint (closestAt s o) (count s) afar (count o)
 
 -- so far in the direction from the orbiting polygon's centroid to a target
 unfoldable pub towardOf : Point → List Float → Point → Float → Point
@@ -44,7 +44,7 @@ towardOf target o current far = aheadOf current (normalizeOf (minusOf target (ce
 -- the move to what was found, where it is farther than the tolerance
 unfoldable pub moveTo : Found → Float → List Float → Point → Float → Found
 moveTo Nothing d o current tol = Nothing
-moveTo (At p) d o current tol = cond (lt tol d) (At (towardOf p o current (d ⊖ tol ⊗ half))) Nothing
+moveTo (At p) d o current tol = cond (lt tol d) (At (towardOf p o current (d ⊖ tol ⊗ f0·5))) Nothing
 
 -- `recover_contact`
 unfoldable pub recoverOf : List Float → List Float → Point → Float → Found

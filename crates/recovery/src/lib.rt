@@ -16,7 +16,7 @@ ghost use mathlib.Core.Path.{_≡_};
 ghost use Prim.Native.Nat.{_<_};
 ghost use Rattle.ring.specs.Ring.{count};
 ghost use Rattle.laws.specs.FirstBest.{better, over};
-ghost use Rattle.recovery.specs.Recovery.{closestOn, nearer, closestOf, towardOf, recoverOf};
+ghost use Rattle.recovery.specs.Recovery.{closestOn, nearerPoint, closestOf, towardOf, recoverOf};
 
 // A point and its distance, or +infinity and nothing.
 pub struct Closest {
@@ -40,7 +40,7 @@ fn foot(v: Point, ring: &[f64], i: usize) -> Closest
 
 // Only a strictly smaller distance replaces.
 fn keep(best: Closest, new: Closest) -> Closest
-    ensures { λ r. ⌜ r ≡ better nearer best new ⌝ }
+    ensures { λ r. ⌜ r ≡ better nearerPoint best new ⌝ }
 {
     if new.distance < best.distance {
         new
@@ -51,7 +51,7 @@ fn keep(best: Closest, new: Closest) -> Closest
 
 // The nearest so far, and those of the edges of a ring.
 fn row(best: Closest, v: Point, ring: &[f64]) -> Closest
-    ensures { λ r. ⌜ r ≡ over nearer (closestOn v (now (ring .entry))) best (count (now (ring .entry))) ⌝ }
+    ensures { λ r. ⌜ r ≡ over nearerPoint (closestOn v (now (ring .entry))) best (count (now (ring .entry))) ⌝ }
 {
     let n = ring.len() / 2;
     let mut near = best;

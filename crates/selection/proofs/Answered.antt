@@ -17,7 +17,7 @@ use Rattle.refusals.specs.Answers.{Outcome, answers, refuses}
 use Rattle.selection.specs.Score.{preferredOf}
 use Rattle.selection.specs.Select.{vectorCount, scoreAt, selectOf}
 use Rattle.selection.specs.Chosen.{Chosen}
-use Rattle.selection.specs.Calls.{selected, choice, selectCall}
+use Rattle.selection.specs.Calls.{selected, chosenIndex, selectCall}
 use Rattle.selection.specs.declared.Previous.{Previous}
 use Rattle.selection.specs.declared.answer.Selected.the-variants.{Nothing, Index}
 use Rattle.selection.proofs.Greatest.{select-chosen}
@@ -27,7 +27,7 @@ module _ (vs : List Float) (previous : Previous) (centroid position : Point) whe
   ccw = preferredOf centroid position
 
   pub answer-chosen : (i : ℕ) → selected (Index i) ≡ selectCall vs previous centroid position → Chosen (scoreAt vs previous ccw) (vectorCount vs) i
-  unfolding choice
+  unfolding chosenIndex
   answer-chosen i h = go (passed (wrongVectors vs)) (eqb (length vs) 0) h
     where
       go : (a b : Bool) → answers (some i) ≡ cond a (answers (cond b none (some (selectOf vs previous ccw)))) (refuses (wrongVectors vs))
@@ -37,7 +37,7 @@ module _ (vs : List Float) (previous : Previous) (centroid position : Point) whe
       go false b e = absurd (let z : _≡_ {A = ℕ} 0 1 = cc in omega arith)
 
   pub answer-nothing : selected Nothing ≡ selectCall vs previous centroid position → length vs ≡ 0
-  unfolding choice
+  unfolding chosenIndex
   answer-nothing h = go (passed (wrongVectors vs)) (eqb (length vs) 0) refl h
     where
       go : (a b : Bool) → eqb (length vs) 0 ≡ b

@@ -8,7 +8,7 @@ use Rattle.plane.specs.declared.Point.{Point}
 use Rattle.laws.specs.FirstBest.{First, none, some}
 use Rattle.laws.proofs.Order.{lt-irrefl, lt-asym}
 use Rattle.laws.proofs.FirstBest.{over-first}
-use Rattle.selection.specs.Select.{vectorCount, scoreAt, scoredAt, above, startOf, selectOf}
+use Rattle.selection.specs.Select.{vectorCount, scoreAt, scoredAt, above, unscored, selectOf}
 use Rattle.selection.specs.Chosen.{Chosen, greatest}
 use Rattle.selection.specs.Chosen as chosen-is
 use Rattle.selection.specs.declared.Previous.{Previous}
@@ -16,8 +16,8 @@ use Rattle.selection.specs.declared.Scored.{Scored}
 use Rattle.selection.proofs.Above.{least, below, weave}
 
 module _ (vs : List Float) (previous : Previous) (ccw : Point) where
-  chosen : (n : ℕ) (r : Scored) → First above (scoredAt vs previous ccw) startOf n r → Chosen (scoreAt vs previous ccw) n (r .index)
-  unfolding scoredAt startOf
+  chosen : (n : ℕ) (r : Scored) → First above (scoredAt vs previous ccw) unscored n r → Chosen (scoreAt vs previous ccw) n (r .index)
+  unfolding scoredAt unscored
   chosen n r (none z all) = rw z (chosen-is.none all)
   chosen n r (some k l q h first most) =
       rw q
@@ -31,10 +31,10 @@ module _ (vs : List Float) (previous : Previous) (ccw : Point) where
 
   -- the theorem
   pub select-chosen : Chosen (scoreAt vs previous ccw) (vectorCount vs) (selectOf vs previous ccw)
-  unfolding selectOf startOf
+  unfolding selectOf unscored
   select-chosen =
       chosen (vectorCount vs) _
-      (over-first above (scoredAt vs previous ccw) startOf
+      (over-first above (scoredAt vs previous ccw) unscored
       (λ x y j t h k. weave (x .score) (y .score) (scoredAt vs previous ccw j .score) t h k)
       (λ x. lt-irrefl (x .score))
       (λ x y h. lt-asym (y .score) (x .score) h)

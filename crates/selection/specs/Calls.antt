@@ -22,8 +22,8 @@ selected (Index i) = answers (some i)
 selected (Refused r) = refuses r
 
 -- an empty list gives nothing
-unfoldable pub choice : List Float → Previous → Point → Point → Option ℕ
-choice vs previous centroid position = cond (eqb (length vs) 0) none (some (selectOf vs previous (preferredOf centroid position)))
+unfoldable pub chosenIndex : List Float → Previous → Point → Point → Option ℕ
+chosenIndex vs previous centroid position = cond (eqb (length vs) 0) none (some (selectOf vs previous (preferredOf centroid position)))
 
 abbrev pub selectCall : List Float → Previous → Point → Point → Outcome (Option ℕ)
-selectCall vs previous centroid position = outcome (wrongVectors vs) (choice vs previous centroid position)
+selectCall vs previous centroid position = outcome (wrongVectors vs) (chosenIndex vs previous centroid position)

@@ -1,22 +1,16 @@
 -- The score of a translation vector, in the order of operations of `nfp_sliding.rs`. Definitions only.
 use mathlib.Core.Bool.{cond}
 use lib.Ieee.{Float, lt, neg}
-use Rattle.scalar.specs.Float.{_⊕_, _⊖_, _⊗_, float}
+use Rattle.scalar.specs.Float.{_⊕_, _⊖_, _⊗_, float, f0·5, f1e-6}
 use Rattle.plane.specs.Vector.{point, minusOf, dotOf, normalizeOf}
 use Rattle.plane.specs.declared.Point.{Point}
 use Rattle.vectors.specs.declared.TranslationVector.{TranslationVector}
 use Rattle.selection.specs.declared.Previous.{Previous}
 use Rattle.selection.specs.declared.Previous.the-variants.{None, Direction}
 
--- 0.5, 100.0, 1e-6
-abbrev pub f0·5 : Float
-f0·5 = float 0x3fe0_0000_0000_0000
-
+-- 100.0
 abbrev pub f100 : Float
 f100 = float 0x4059_0000_0000_0000
-
-abbrev pub f1e-6 : Float
-f1e-6 = float 0x3eb0_c6f7_a0b5_ed8d
 
 -- at right angles to the way from the centroid to the position, counter-clockwise
 unfoldable pub preferredOf : Point → Point → Point

@@ -34,12 +34,12 @@ scoredAt vs previous ccw i = scored i (scoreAt vs previous ccw i)
 abbrev pub above : Scored → Scored → Bool
 above new best = lt (best .score) (new .score)
 
-abbrev pub keptOf : Scored → Scored → Scored
-keptOf best new = better above best new
+abbrev pub keptScore : Scored → Scored → Scored
+keptScore best new = better above best new
 
 -- index 0, -infinity
-unfoldable pub startOf : Scored
-startOf = scored 0 (inf true)
+unfoldable pub unscored : Scored
+unscored = scored 0 (inf true)
 
 unfoldable pub selectOf : List Float → Previous → Point → ℕ
-selectOf vs previous ccw = over above (scoredAt vs previous ccw) startOf (vectorCount vs) .index
+selectOf vs previous ccw = over above (scoredAt vs previous ccw) unscored (vectorCount vs) .index

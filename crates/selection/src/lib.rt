@@ -11,7 +11,7 @@ ghost use mathlib.Core.Path.{_≡_};
 ghost use Prim.Native.Nat.{_+_, _*_, _<_};
 ghost use lib.ListN.{length};
 ghost use Rattle.selection.specs.Score.{preferredOf, continuedOf, scoreOf};
-ghost use Rattle.selection.specs.Select.{vectorAt, keptOf, startOf, selectOf};
+ghost use Rattle.selection.specs.Select.{vectorAt, keptScore, unscored, selectOf};
 
 // The direction of the slide before, where there was one.
 pub enum Previous {
@@ -72,7 +72,7 @@ fn vector_at(vectors: &[f64], i: usize) -> TranslationVector
 
 // What is chosen before any vector is scored: index 0, with a score of -infinity.
 pub fn start() -> Scored
-    ensures { λ r. ⌜ r ≡ startOf ⌝ }
+    ensures { λ r. ⌜ r ≡ unscored ⌝ }
 {
     Scored {
         index: 0,
@@ -82,7 +82,7 @@ pub fn start() -> Scored
 
 // Of the best so far and a new one: only a strictly greater score replaces.
 pub fn keep(best: Scored, new: Scored) -> Scored
-    ensures { λ r. ⌜ r ≡ keptOf best new ⌝ }
+    ensures { λ r. ⌜ r ≡ keptScore best new ⌝ }
 {
     if new.score > best.score { new } else { best }
 }

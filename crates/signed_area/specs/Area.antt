@@ -4,7 +4,7 @@ use mathlib.Core.Bool.{cond}
 use mathlib.Core.List.{List}
 use lib.Dec.{ltb}
 use lib.Ieee.{Float}
-use Rattle.scalar.specs.Float.{_⊕_, _⊖_, _⊗_, _⊘_, float, f0}
+use Rattle.scalar.specs.Float.{_⊕_, _⊖_, _⊗_, _⊘_, float, f0, f2}
 use Rattle.ring.specs.Ring.{count, pointAt, nextOf}
 use Rattle.signed_area.specs.declared.Kahan.{Kahan}
 
@@ -35,10 +35,6 @@ addedOf k term =
 unfoldable pub kahanTo : List Float → ℕ → Kahan
 kahanTo r zero = record { sum = f0; c = f0 }
 kahanTo r (suc k) = addedOf (kahanTo r k) (termOf r k)
-
--- 2.0
-abbrev pub f2 : Float
-f2 = float 0x4000_0000_0000_0000
 
 unfoldable pub robustOf : List Float → Float
 robustOf r = cond (ltb (count r) 3) f0 (kahanTo r (count r) .sum ⊘ f2)

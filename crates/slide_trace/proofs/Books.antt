@@ -21,7 +21,7 @@ use Rattle.refusals.proofs.Counts.{is-within}
 use Rattle.book_reader.proofs.Files.{Promised}
 use Rattle.book_reader.proofs.Handed.{a-book, book-held, room-is, counts-are, no-book}
 use Rattle.lines.specs.Lines.{refusalLine}
-use Rattle.slide_trace.specs.Said.{verticesOf, traceText, ringsText, bookText}
+use Rattle.slide_trace.specs.Said.{verticesOf, traceText, tracedRingsText, tracedBookText}
 
 -- ---- counts
 
@@ -90,8 +90,8 @@ module _ (f : List ℕ) (bytes : (i : ℕ) → getD f i 0 < 256) (s : Settings) 
     pub both-inside : 2 * getD n 0 0 + 2 * getD n 1 0 ≤ length x
     both-inside = omega (arith, vertices 0, vertices 1, bounds .sum, held .whole, numbers-are)
 
-    pub rings-said : ringsText x (getD n 0 0) (getD n 1 0) s ≡ bookText f s
-    unfolding bookText
+    pub rings-said : tracedRingsText x (getD n 0 0) (getD n 1 0) s ≡ tracedBookText f s
+    unfolding tracedBookText
     rings-said =
         let l = numbersOf f in
         let rest = drop (length l) room in
@@ -103,8 +103,8 @@ module _ (f : List ℕ) (bytes : (i : ℕ) → getD f i 0 < 256) (s : Settings) 
         rw (vertices 0, vertices 1, room-holds, a-book f bytes room x counts n r p k e) (ap₂ (λ (u v : List Float). traceText u v s) (take-append-le a l rest (omega arith)) t)
 
   module _ (told : Refusal) (e : r ≡ Refused told) where
-    pub fault-told : refusalLine told ≡ bookText f s
-    unfolding bookText
+    pub fault-told : refusalLine told ≡ tracedBookText f s
+    unfolding tracedBookText
     fault-told =
         let b = no-book f bytes room x counts n r p (omega (arith, length-replicate numbersMost (ofBits binary64 0))) (omega (arith, length-replicate {A = ℕ} ringsMost 0)) told e in
         rw (b .0) (ap refusalLine (b .1))

@@ -9,22 +9,22 @@ use lib.Ieee.{Float, binary64, ofBits}
 use Rattle.refusals.specs.declared.Settings.{Settings}
 use Rattle.book_layout.specs.Faults.{faultAt, bookCheck}
 use Rattle.lines.specs.Lines.{refusalLine}
-use Rattle.slide_trace.specs.Said.{settingsBytes, wordAt, settingsOf, bookText, inputText}
+use Rattle.slide_trace.specs.Said.{settingsBytes, wordAt, settingsIn, tracedBookText, inputText}
 
 pub settings-are : (l : List ℕ) {a b : Float} (x y : ℕ) {z : ℕ} → a ≡ ofBits binary64 x → x ≡ wordAt l 0 → b ≡ ofBits binary64 y → y ≡ wordAt l 8 → z ≡ wordAt l 16
-    → _≡_ {A = Settings} (record { «contact_tolerance» = a; «min_translation» = b; «max_iterations» = z }) (settingsOf l)
+    → _≡_ {A = Settings} (record { «contact_tolerance» = a; «min_translation» = b; «max_iterations» = z }) (settingsIn l)
 settings-are l x y p q r s t = rw (p, q, r, s, t) refl
 
-no-book : (s : Settings) → refusalLine (faultAt 0) ≡ bookText [] s
-unfolding bookText bookCheck
+no-book : (s : Settings) → refusalLine (faultAt 0) ≡ tracedBookText [] s
+unfolding tracedBookText bookCheck
 no-book s = refl
 
 pub too-short : (l : List ℕ) → length l < settingsBytes → refusalLine (faultAt 0) ≡ inputText l
 unfolding inputText
 too-short l h =
     let k : length l ≤ settingsBytes = omega arith in
-    no-book (settingsOf l) ∙ ap (λ (b : List ℕ). bookText b (settingsOf l)) (sym (drop-of-length-le l k))
+    no-book (settingsIn l) ∙ ap (λ (b : List ℕ). tracedBookText b (settingsIn l)) (sym (drop-of-length-le l k))
 
-pub input-said : (l : List ℕ) {s : Settings} → s ≡ settingsOf l → bookText (take (length l - settingsBytes) (drop settingsBytes l)) s ≡ inputText l
+pub input-said : (l : List ℕ) {s : Settings} → s ≡ settingsIn l → tracedBookText (take (length l - settingsBytes) (drop settingsBytes l)) s ≡ inputText l
 unfolding inputText
 input-said l e = rw (e, take-all (length l - settingsBytes) (drop settingsBytes l) (omega (arith, length-drop settingsBytes l))) refl

@@ -32,17 +32,17 @@ unfoldable pub traceText : List Float → List Float → Settings → List ℕ
 traceText st orb s = textOf (traceCall st orb s roomSize roomSize) (simplified (tracedOf st orb s roomSize .path) (s .«contact_tolerance»))
 
 -- the first n vertices of a list, and the m after them
-abbrev pub ringsText : List Float → ℕ → ℕ → Settings → List ℕ
-ringsText xs n m s = traceText (take (2 * n) xs) (take (2 * m) (drop (2 * n) xs)) s
+abbrev pub tracedRingsText : List Float → ℕ → ℕ → Settings → List ℕ
+tracedRingsText xs n m s = traceText (take (2 * n) xs) (take (2 * m) (drop (2 * n) xs)) s
 
 -- vertices of ring i of a book, 0 where it has no such ring
 abbrev pub verticesOf : List ℕ → ℕ → ℕ
 verticesOf book i = getD (countsOf book) i 0
 
 -- a book: its fault, or the trace of its first two rings
-unfoldable pub bookText : List ℕ → Settings → List ℕ
-bookText book s =
-    cond (passed (bookCheck book)) (ringsText (numbersOf book) (verticesOf book 0) (verticesOf book 1) s) (refusalLine (bookCheck book))
+unfoldable pub tracedBookText : List ℕ → Settings → List ℕ
+tracedBookText book s =
+    cond (passed (bookCheck book)) (tracedRingsText (numbersOf book) (verticesOf book 0) (verticesOf book 1) s) (refusalLine (bookCheck book))
 
 -- bytes of the settings, three words
 abbrev pub settingsBytes : ℕ
@@ -53,8 +53,8 @@ abbrev pub wordAt : List ℕ → ℕ → ℕ
 wordAt input at = numberOf (take 8 (drop at input))
 
 -- the tolerance, the smallest move and the pass limit
-abbrev pub settingsOf : List ℕ → Settings
-settingsOf input = record {
+abbrev pub settingsIn : List ℕ → Settings
+settingsIn input = record {
   «contact_tolerance» = ofBits binary64 (wordAt input 0);
   «min_translation» = ofBits binary64 (wordAt input 8);
   «max_iterations» = wordAt input 16;
@@ -62,4 +62,4 @@ settingsOf input = record {
 
 -- the settings, and then the book
 unfoldable pub inputText : List ℕ → List ℕ
-inputText input = bookText (drop settingsBytes input) (settingsOf input)
+inputText input = tracedBookText (drop settingsBytes input) (settingsIn input)

@@ -20,7 +20,7 @@ ghost use mathlib.Core.Path.{_≡_};
 ghost use Prim.Native.Nat.{_+_, _*_, _≤_};
 ghost use lib.ListN.{length};
 ghost use Rattle.print.specs.Text.{Put};
-ghost use Rattle.slide_trace.specs.Said.{settingsBytes, settingsOf, traceText, ringsText, bookText, inputText};
+ghost use Rattle.slide_trace.specs.Said.{settingsBytes, settingsIn, traceText, tracedRingsText, tracedBookText, inputText};
 ghost use Rattle.refusals.specs.Rings.{verticesMost};
 
 // Bytes of the settings, three words.
@@ -29,7 +29,7 @@ const SETTINGS_BYTES: usize = 24;
 // The settings before the book.
 fn settings(input: &[u8]) -> Settings
     requires { ⌜ settingsBytes ≤ length (now input) ⌝ }
-    ensures { λ r. ⌜ r ≡ settingsOf (now (input .entry)) ⌝ }
+    ensures { λ r. ⌜ r ≡ settingsIn (now (input .entry)) ⌝ }
 {
     Settings {
         contact_tolerance: float_of(number8(input, 0)),
@@ -53,7 +53,7 @@ fn put_trace(stationary: &[f64], orbiting: &[f64], settings: Settings, out: &mut
 fn put_rings(xs: &[f64], n: usize, m: usize, settings: Settings, out: &mut [u8]) -> usize
     requires { ⌜ (n ≤ verticesMost) × (m ≤ verticesMost) × (2 * n + 2 * m ≤ length (now xs)) ⌝ }
     requires { ⌜ 340200 ≤ length (now out) ⌝ }
-    ensures { λ r. ⌜ Put (now (out .entry)) 0 (ringsText (now (xs .entry)) n m settings) (now (out .exit)) r ⌝ }
+    ensures { λ r. ⌜ Put (now (out .entry)) 0 (tracedRingsText (now (xs .entry)) n m settings) (now (out .exit)) r ⌝ }
 {
     let middle = 2 * n;
     let end = middle + 2 * m;
@@ -63,7 +63,7 @@ fn put_rings(xs: &[f64], n: usize, m: usize, settings: Settings, out: &mut [u8])
 // What is printed for a book. A book of one ring leaves the second count 0, and the trace refuses a polygon of no vertices.
 fn put_book(book: &[u8], settings: Settings, out: &mut [u8]) -> usize
     requires { ⌜ 340200 ≤ length (now out) ⌝ }
-    ensures { λ r. ⌜ Put (now (out .entry)) 0 (bookText (now (book .entry)) settings) (now (out .exit)) r ⌝ }
+    ensures { λ r. ⌜ Put (now (out .entry)) 0 (tracedBookText (now (book .entry)) settings) (now (out .exit)) r ⌝ }
 {
     let mut room = [0.0; NUMBERS_MOST];
     let mut counts = [0u32; RINGS_MOST];

@@ -13,7 +13,7 @@ use Rattle.refusals.specs.Refusals.{passed}
 use Rattle.refusals.specs.Rows.{ofTwoPolygons}
 use Rattle.refusals.specs.Answers.{answers, refuses}
 use Rattle.refusals.proofs.Sized.{two-polygons, two-bounded}
-use Rattle.start_position.specs.Start.{vertexOf, startOf}
+use Rattle.start_position.specs.Start.{extremeVertex, startOf}
 use Rattle.start_position.specs.Extreme.{Lowest, Highest}
 use Rattle.start_position.specs.Calls.{started, startCall}
 use Rattle.start_position.specs.declared.answer.Start.the-variants.{Is}
@@ -29,8 +29,8 @@ module _ (st orb : List Float) where
   extremes h =
       let z = two-polygons st orb h in
       let b = two-bounded st orb h in (
-        vertexOf false st,
-        vertexOf true orb,
+        extremeVertex false st,
+        extremeVertex true orb,
         vertex-lowest st (omega (arith, z .0 .least)) (b .0),
         vertex-highest orb (omega (arith, z .1 .least)) (b .1),
         refl,

@@ -13,7 +13,7 @@ use Rattle.ring.specs.Ring.{count, pointAt}
 use Rattle.refusals.specs.Bounds.{coordinates}
 use Rattle.laws.specs.FirstBest.{better, over}
 use Rattle.laws.proofs.FirstBest.{below-suc}
-use Rattle.start_position.specs.Start.{lowerOf, upperOf, higherOf, vertexOf}
+use Rattle.start_position.specs.Start.{lowerOf, upperOf, higherOf, extremeVertex}
 use Rattle.start_position.specs.Extreme.{Lowest, Highest}
 use Rattle.start_position.proofs.Lexical.{Real, reals, lower-irrefl, lower-asym, lower-weave, upper-irrefl, upper-asym, upper-weave}
 
@@ -99,14 +99,14 @@ module _ (r : List Float) where
 
   -- the theorems, of a ring that has vertices and whose coordinates are in bounds
   module _ (some : 0 < count r) (fine : coordinates r ≡ true) where
-    pub vertex-lowest : Lowest r (count r) (vertexOf false r)
-    unfolding vertexOf
+    pub vertex-lowest : Lowest r (count r) (extremeVertex false r)
+    unfolding extremeVertex
     vertex-lowest =
         let e : count r ≡ suc (count r - 1) = omega arith in
         rw e (lowest-of (count r - 1) (λ j h. reals r fine j (omega arith)))
 
-    pub vertex-highest : Highest r (count r) (vertexOf true r)
-    unfolding vertexOf
+    pub vertex-highest : Highest r (count r) (extremeVertex true r)
+    unfolding extremeVertex
     vertex-highest =
         let e : count r ≡ suc (count r - 1) = omega arith in
         rw e (highest-of (count r - 1) (λ j h. reals r fine j (omega arith)))

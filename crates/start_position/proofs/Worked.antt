@@ -12,7 +12,7 @@ use Rattle.refusals.specs.Bounds.{coordinate, every}
 use Rattle.refusals.specs.Rows.{ofTwoPolygons}
 use Rattle.refusals.specs.Answers.{answers, refuses}
 use Rattle.laws.specs.FirstBest.{better, over}
-use Rattle.start_position.specs.Start.{lowerOf, upperOf, vertexOf, startOf}
+use Rattle.start_position.specs.Start.{lowerOf, upperOf, extremeVertex, startOf}
 use Rattle.start_position.specs.Calls.{startCall}
 
 abbrev two : Float
@@ -31,19 +31,19 @@ abbrev Q : List Float
 Q = f0 ∷ f0 ∷ two ∷ f0 ∷ two ∷ two ∷ f0 ∷ two ∷ []
 
 starts : startCall S Q ≡ answers (point f0 (float 0xc000_0000_0000_0000))
-unfolding ofTwoPolygons every coordinate startOf vertexOf over better lowerOf upperOf pointAt minusOf sub lt ofBits
+unfolding ofTwoPolygons every coordinate startOf extremeVertex over better lowerOf upperOf pointAt minusOf sub lt ofBits
 starts = refl
 
 -- (0, 0), (-0.0, -0.0) and a third: the two are equal as numbers
 abbrev equals : Float → List Float
 equals y = f0 ∷ f0 ∷ minus-zero ∷ minus-zero ∷ f1 ∷ y ∷ []
 
-first-of-equals : vertexOf false (equals f1) ≡ point f0 f0
-unfolding vertexOf over better lowerOf pointAt lt ofBits
+first-of-equals : extremeVertex false (equals f1) ≡ point f0 f0
+unfolding extremeVertex over better lowerOf pointAt lt ofBits
 first-of-equals = refl
 
-last-of-equals : vertexOf true (equals (float 0xbff0_0000_0000_0000)) ≡ point minus-zero minus-zero
-unfolding vertexOf over better upperOf pointAt lt ofBits
+last-of-equals : extremeVertex true (equals (float 0xbff0_0000_0000_0000)) ≡ point minus-zero minus-zero
+unfolding extremeVertex over better upperOf pointAt lt ofBits
 last-of-equals = refl
 
 -- two vertices are no polygon

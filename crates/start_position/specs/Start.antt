@@ -27,13 +27,13 @@ abbrev pub orderOf : Bool → Point → Point → Bool
 orderOf true new best = higherOf new best
 orderOf false new best = lowerOf new best
 
-abbrev pub keptOf : Bool → Point → Point → Point
-keptOf top best new = better (orderOf top) best new
+abbrev pub keptVertex : Bool → Point → Point → Point
+keptVertex top best new = better (orderOf top) best new
 
 -- the vertices in turn, from the first
-unfoldable pub vertexOf : Bool → List Float → Point
-vertexOf top r = over (orderOf top) (pointAt r) (pointAt r 0) (count r)
+unfoldable pub extremeVertex : Bool → List Float → Point
+extremeVertex top r = over (orderOf top) (pointAt r) (pointAt r 0) (count r)
 
 -- stationary's lowest vertex less orbiting's highest
 unfoldable pub startOf : List Float → List Float → Point
-startOf st orb = minusOf (vertexOf false st) (vertexOf true orb)
+startOf st orb = minusOf (extremeVertex false st) (extremeVertex true orb)

@@ -8,7 +8,7 @@ use ring::point_at;
 ghost use mathlib.Core.Path.{_≡_};
 ghost use Prim.Native.Nat.{_<_};
 ghost use Rattle.ring.specs.Ring.{count};
-ghost use Rattle.start_position.specs.Start.{lowerOf, higherOf, keptOf, vertexOf, startOf};
+ghost use Rattle.start_position.specs.Start.{lowerOf, higherOf, keptVertex, extremeVertex, startOf};
 
 // Whether a vertex replaces the lowest so far: it is lower, or as low and further left. Of equal ones the first stays.
 fn is_lower(new: Point, best: Point) -> bool
@@ -38,7 +38,7 @@ fn is_higher(new: Point, best: Point) -> bool
 
 // Of the best vertex so far and a new one: the higher where the top is looked for, else the lower.
 fn keep(top: bool, best: Point, new: Point) -> Point
-    ensures { λ r. ⌜ r ≡ keptOf top best new ⌝ }
+    ensures { λ r. ⌜ r ≡ keptVertex top best new ⌝ }
 {
     if top {
         if is_higher(new, best) { new } else { best }
@@ -50,7 +50,7 @@ fn keep(top: bool, best: Point, new: Point) -> Point
 // The highest vertex of a ring where the top is looked for, else the lowest.
 fn vertex(top: bool, ring: &[f64]) -> Point
     requires { ⌜ 0 < count (now ring) ⌝ }
-    ensures { λ r. ⌜ r ≡ vertexOf top (now (ring .entry)) ⌝ }
+    ensures { λ r. ⌜ r ≡ extremeVertex top (now (ring .entry)) ⌝ }
 {
     let n = ring.len() / 2;
     let mut best = point_at(ring, 0);

@@ -4,9 +4,9 @@ use mathlib.Core.Path.{_≡_, refl}
 use mathlib.Core.List.{List, [], _∷_}
 use native.Mathlib.Omega.{arith}
 use lib.ListN.{length}
-use Rattle.vectors.specs.Vectors.{Sourced, numbersOf}
+use Rattle.vectors.specs.Vectors.{Sourced, vectorNumbers}
 
-pub numbers-length : (l : List Sourced) → length (numbersOf l) ≡ 3 * length l
-unfolding numbersOf
+pub numbers-length : (l : List Sourced) → length (vectorNumbers l) ≡ 3 * length l
+unfolding vectorNumbers
 numbers-length [] = refl
 numbers-length (s ∷ ss) = omega (arith, numbers-length ss)

@@ -13,7 +13,7 @@ use Rattle.pairs.specs.Pairs.{pairCount}
 use Rattle.contacts.specs.Contacts.{contactsFrom}
 use Rattle.contacts.proofs.Following.{FoundAt}
 use Rattle.vectors.specs.Vectors.{Sourced, sourced, vectorOf, vectorsFrom}
-use Rattle.vectors.specs.Fit.{kept}
+use Rattle.vectors.specs.Fit.{keptVectors}
 use Rattle.vectors.specs.Places.{Ready, Behind, leftAt, far, allLeft}
 use Rattle.vectors.specs.declared.TranslationVector.{TranslationVector}
 use Rattle.vectors.specs.declared.Place.{Place}
@@ -53,17 +53,17 @@ module _ (st orb : List Float) (tol : Float) (p : Place) (r : Ready st orb p) wh
 
 -- what a test keeps of the vectors at a place
 module _ (st orb : List Float) (tol : Float) (keep : TranslationVector → Bool) {p q : Place} {s : Sourced} (b : Behind st orb tol allLeft p s q) where
-  keep-first : keep (s .slide) ≡ true → kept keep (leftAt st orb tol p) ≡ s ∷ kept keep (leftAt st orb tol q)
-  unfolding kept
+  keep-first : keep (s .slide) ≡ true → keptVectors keep (leftAt st orb tol p) ≡ s ∷ keptVectors keep (leftAt st orb tol q)
+  unfolding keptVectors
   keep-first t = rw (b .then, t)
 
-  drop-first : keep (s .slide) ≡ false → kept keep (leftAt st orb tol p) ≡ kept keep (leftAt st orb tol q)
-  unfolding kept
+  drop-first : keep (s .slide) ≡ false → keptVectors keep (leftAt st orb tol p) ≡ keptVectors keep (leftAt st orb tol q)
+  unfolding keptVectors
   drop-first t = rw (b .then, t)
 
 module _ (st orb : List Float) (tol : Float) (keep : TranslationVector → Bool) where
   pub record Seeking (p q : Place) : Type 0 where
-    pub same : kept keep (leftAt st orb tol p) ≡ kept keep (leftAt st orb tol q)
+    pub same : keptVectors keep (leftAt st orb tol p) ≡ keptVectors keep (leftAt st orb tol q)
     pub ready : Ready st orb q
     pub farther : far p ≤ far q
 
@@ -79,7 +79,7 @@ module _ (st orb : List Float) (tol : Float) (keep : TranslationVector → Bool)
           farther = omega (arith, s .farther, b .farther);
         }
 
-    pub keeps-it : {v : Sourced} {t : Place} {k : Bool} → Behind st orb tol allLeft q v t → k ≡ keep (v .slide) → k ≡ true → Behind st orb tol (kept keep) p v t
+    pub keeps-it : {v : Sourced} {t : Place} {k : Bool} → Behind st orb tol allLeft q v t → k ≡ keep (v .slide) → k ≡ true → Behind st orb tol (keptVectors keep) p v t
     keeps-it b e f =
         record {
           then = s .same ∙ keep-first st orb tol keep b (sym e ∙ f);
@@ -87,8 +87,8 @@ module _ (st orb : List Float) (tol : Float) (keep : TranslationVector → Bool)
           farther = omega (arith, s .farther, b .farther);
         }
 
-    pub ends : leftAt st orb tol q ≡ [] → kept keep (leftAt st orb tol p) ≡ []
-    unfolding kept
+    pub ends : leftAt st orb tol q ≡ [] → keptVectors keep (leftAt st orb tol p) ≡ []
+    unfolding keptVectors
     ends e = rw (s .same, e)
 
 -- the measure of a loop over the vectors falls

@@ -17,11 +17,11 @@ abbrev pub f10 : Float
 f10 = float 0x4024_0000_0000_0000
 
 -- not nearer than ten tolerances to visited position i
-unfoldable pub apart : Point → List Float → Float → ℕ → Bool
-apart p visited tol i = not (lt (distanceOf p (pointAt visited i)) (tol ⊗ f10))
+unfoldable pub apartFrom : Point → List Float → Float → ℕ → Bool
+apartFrom p visited tol i = not (lt (distanceOf p (pointAt visited i)) (tol ⊗ f10))
 
 unfoldable pub visitedOf : Point → List Float → Float → Bool
-visitedOf p visited tol = not (each (apart p visited tol) 0 (count visited))
+visitedOf p visited tol = not (each (apartFrom p visited tol) 0 (count visited))
 
 -- where a vector leads, followed for 1.0 at most
 unfoldable pub potentialOf : Point → TranslationVector → Point
@@ -35,10 +35,10 @@ keepIf true s ss = s ∷ ss
 keepIf false s ss = ss
 
 -- those vectors of a list of which a test holds
-unfoldable pub kept : (TranslationVector → Bool) → List Sourced → List Sourced
-kept p [] = []
-kept p (s ∷ ss) = keepIf (p (s .slide)) s (kept p ss)
+unfoldable pub keptVectors : (TranslationVector → Bool) → List Sourced → List Sourced
+keptVectors p [] = []
+keptVectors p (s ∷ ss) = keepIf (p (s .slide)) s (keptVectors p ss)
 
 -- `handle_perfect_fit`: the vectors that lead to no visited position
 abbrev pub fitOf : List Float → List Float → Point → List Float → Float → List Sourced
-fitOf st orb from visited tol = kept (keeps from visited tol) (vectorsOf st orb tol)
+fitOf st orb from visited tol = keptVectors (keeps from visited tol) (vectorsOf st orb tol)

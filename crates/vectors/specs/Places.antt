@@ -10,7 +10,7 @@ use Rattle.ring.specs.Ring.{count}
 use Rattle.pairs.specs.Pairs.{pairCount}
 use Rattle.contacts.specs.Contacts.{contactsFrom}
 use Rattle.vectors.specs.Vectors.{Sourced, sourced, vectorOf, vectorsFrom}
-use Rattle.vectors.specs.Fit.{kept, keeps}
+use Rattle.vectors.specs.Fit.{keptVectors, keeps}
 use Rattle.vectors.specs.declared.Place.{Place}
 use Rattle.vectors.specs.declared.Step.{Step}
 use Rattle.vectors.specs.declared.Step.the-variants.{End, Vector}
@@ -51,4 +51,4 @@ abbrev pub allLeft : List Sourced → List Sourced
 allLeft l = l
 
 abbrev pub keptLeft : Point → List Float → Float → List Sourced → List Sourced
-keptLeft from visited tol l = kept (keeps from visited tol) l
+keptLeft from visited tol l = keptVectors (keeps from visited tol) l

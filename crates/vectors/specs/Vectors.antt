@@ -73,9 +73,9 @@ abbrev pub vectorsOf : List Float → List Float → Float → List Sourced
 vectorsOf st orb tol = vectorsFrom st orb 0 (contactsOf st orb tol)
 
 -- per vector its direction and its distance
-unfoldable pub numbersOf : List Sourced → List Float
-numbersOf [] = []
-numbersOf (s ∷ ss) = s .slide .direction .x ∷ s .slide .direction .y ∷ s .slide .distance ∷ numbersOf ss
+unfoldable pub vectorNumbers : List Sourced → List Float
+vectorNumbers [] = []
+vectorNumbers (s ∷ ss) = s .slide .direction .x ∷ s .slide .direction .y ∷ s .slide .distance ∷ vectorNumbers ss
 
 unfoldable pub sourcesOf : List Sourced → List ℕ
 sourcesOf [] = []

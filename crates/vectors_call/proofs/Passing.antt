@@ -12,8 +12,8 @@ use Rattle.ring.specs.Room.{laid}
 use Rattle.pairs.specs.Pairs.{Sides}
 use Rattle.pairs.proofs.Numbers.{most}
 use Rattle.contacts_call.proofs.Filling.{Filling, begun, put, fits, filled}
-use Rattle.vectors.specs.Vectors.{Sourced, sourced, vectorsOf, numbersOf, sourcesOf}
-use Rattle.vectors.specs.Fit.{kept}
+use Rattle.vectors.specs.Vectors.{Sourced, sourced, vectorsOf, vectorNumbers, sourcesOf}
+use Rattle.vectors.specs.Fit.{keptVectors}
 use Rattle.vectors.specs.Places.{Ready, Behind, leftAt, far, front}
 use Rattle.vectors.specs.declared.TranslationVector.{TranslationVector}
 use Rattle.vectors.specs.declared.Place.{Place}
@@ -26,10 +26,10 @@ sources-length (s ∷ ss) = omega (arith, sources-length ss)
 
 module _ (st orb : List Float) (tol : Float) (keep : TranslationVector → Bool) where
   abbrev all : List Sourced
-  all = kept keep (vectorsOf st orb tol)
+  all = keptVectors keep (vectorsOf st orb tol)
 
   abbrev rest : Place → List Sourced
-  rest q = kept keep (leftAt st orb tol q)
+  rest q = keptVectors keep (leftAt st orb tol q)
 
   pub record Passing (n : ℕ) (q : Place) : Type 0 where
     pub ready : Ready st orb q
@@ -41,7 +41,7 @@ module _ (st orb : List Float) (tol : Float) (keep : TranslationVector → Bool)
   pub small : Sides (count st) (count orb) → {n : ℕ} {q : Place} → Passing n q → n ≤ 393216
   small d p = omega (arith, p .few, p .ready .contact-most, most (count st) (count orb) d)
 
-  pub pass : {n : ℕ} {q t : Place} {s : Sourced} → Behind st orb tol (kept keep) q s t → Passing n q → Passing (n + 1) t
+  pub pass : {n : ℕ} {q t : Place} {s : Sourced} → Behind st orb tol (keptVectors keep) q s t → Passing n q → Passing (n + 1) t
   pass b p = record { ready = b .ready; few = omega (arith, p .few, b .farther) }
 
   pub record Counting (n : ℕ) (q : Place) : Type 0 where
@@ -52,7 +52,7 @@ module _ (st orb : List Float) (tol : Float) (keep : TranslationVector → Bool)
   unfolding leftAt
   count-none = record { passing = begin; sum = omega arith }
 
-  pub count-one : {n : ℕ} {q t : Place} {s : Sourced} → Counting n q → Behind st orb tol (kept keep) q s t → Counting (n + 1) t
+  pub count-one : {n : ℕ} {q t : Place} {s : Sourced} → Counting n q → Behind st orb tol (keptVectors keep) q s t → Counting (n + 1) t
   count-one c b = record { passing = pass b (c .passing); sum = omega (arith, c .sum, ap length (b .then)) }
 
   pub count-all : {n : ℕ} {q : Place} → Counting n q → rest q ≡ [] → n ≡ length all
@@ -61,7 +61,7 @@ module _ (st orb : List Float) (tol : Float) (keep : TranslationVector → Bool)
   module _ (v₀ : List Float) (s₀ : List ℕ) where
     pub record Writing (v : List Float) (s : List ℕ) (n : ℕ) (q : Place) : Type 0 where
       pub passing : Passing n q
-      pub vectors : Filling (numbersOf all) v₀ v (numbersOf (rest q)) (3 * n)
+      pub vectors : Filling (vectorNumbers all) v₀ v (vectorNumbers (rest q)) (3 * n)
       pub sources : Filling (sourcesOf all) s₀ s (sourcesOf (rest q)) n
 
     pub start : Writing v₀ s₀ 0 front
@@ -69,21 +69,21 @@ module _ (st orb : List Float) (tol : Float) (keep : TranslationVector → Bool)
     start = record { passing = begin; vectors = begun _ _; sources = begun _ _ }
 
     module _ (hv : 3 * length all ≤ length v₀) (hs : length all ≤ length s₀) where
-      room-vectors : length (numbersOf all) ≤ length v₀
+      room-vectors : length (vectorNumbers all) ≤ length v₀
       room-vectors = omega (arith, numbers-length all)
 
       room-sources : length (sourcesOf all) ≤ length s₀
       room-sources = omega (arith, sources-length all)
 
-      module _ {v : List Float} {s : List ℕ} {n i : ℕ} {q t : Place} {u : TranslationVector} (w : Writing v s n q) (b : Behind st orb tol (kept keep) q (sourced u i) t) where
-        left-vectors : Filling (numbersOf all) v₀ v (numbersOf (sourced u i ∷ rest t)) (3 * n)
+      module _ {v : List Float} {s : List ℕ} {n i : ℕ} {q t : Place} {u : TranslationVector} (w : Writing v s n q) (b : Behind st orb tol (keptVectors keep) q (sourced u i) t) where
+        left-vectors : Filling (vectorNumbers all) v₀ v (vectorNumbers (sourced u i ∷ rest t)) (3 * n)
         left-vectors = rw (b .then) at (w .vectors)
 
         left-sources : Filling (sourcesOf all) s₀ s (sourcesOf (sourced u i ∷ rest t)) n
         left-sources = rw (b .then) at (w .sources)
 
         pub vectors-fit : 3 * n + 2 < length v
-        unfolding numbersOf
+        unfolding vectorNumbers
         vectors-fit = omega (arith, fits room-vectors left-vectors)
 
         pub sources-fit : n < length s
@@ -92,12 +92,12 @@ module _ (st orb : List Float) (tol : Float) (keep : TranslationVector → Bool)
 
         pub turn : {v′ : List Float} → v′ ≡ set (set (set v (3 * n) (u .direction .x)) (3 * n + 1) (u .direction .y)) (3 * n + 2) (u .distance)
             → Writing v′ (set s n i) (n + 1) t
-        unfolding numbersOf sourcesOf
+        unfolding vectorNumbers sourcesOf
         turn e =
             let a : 3 * n + 1 + 1 ≡ 3 * n + 2 = omega arith in
             let d : 3 * n + 1 + 1 + 1 ≡ 3 * (n + 1) = omega arith in
             record { passing = pass b (w .passing); vectors = rw (e, ← a, ← d) (put (put (put left-vectors))); sources = put left-sources }
 
-      pub done : {v : List Float} {s : List ℕ} {n : ℕ} {q : Place} → Writing v s n q → rest q ≡ [] → (v ≡ laid (numbersOf all) v₀) × (s ≡ laid (sourcesOf all) s₀)
-      unfolding numbersOf sourcesOf
+      pub done : {v : List Float} {s : List ℕ} {n : ℕ} {q : Place} → Writing v s n q → rest q ≡ [] → (v ≡ laid (vectorNumbers all) v₀) × (s ≡ laid (sourcesOf all) s₀)
+      unfolding vectorNumbers sourcesOf
       done w e = (filled room-vectors (rw e at (w .vectors)), filled room-sources (rw e at (w .sources)))

@@ -15,11 +15,11 @@ use Rattle.refusals.proofs.Sized.{fit-polygons}
 use Rattle.pairs.specs.Pairs.{Sides}
 use Rattle.contacts_call.proofs.Screened.{sides}
 use Rattle.vectors.specs.Vectors.{Sourced, vectorsOf}
-use Rattle.vectors.specs.Fit.{visitedOf, keeps, kept, fitOf}
+use Rattle.vectors.specs.Fit.{visitedOf, keeps, keptVectors, fitOf}
 use Rattle.vectors_call.specs.Calls.{vectorsRefusal, fitRefusal}
 
-keep-all : (from : Point) (tol : Float) (l : List Sourced) → kept (keeps from [] tol) l ≡ l
-unfolding kept keeps visitedOf each
+keep-all : (from : Point) (tol : Float) (l : List Sourced) → keptVectors (keeps from [] tol) l ≡ l
+unfolding keptVectors keeps visitedOf each
 keep-all from tol [] = refl
 keep-all from tol (s ∷ ss) = rw (keep-all from tol ss)
 

@@ -9,7 +9,7 @@ use Rattle.refusals.specs.Refusals.{firstOf}
 use Rattle.refusals.specs.Rows.{ofTouching, ofFit, ofRooms}
 use Rattle.refusals.specs.Answers.{Outcome, outcome, left}
 use Rattle.refusals.specs.declared.Refusal.{Refusal}
-use Rattle.vectors.specs.Vectors.{vectorsOf, numbersOf, sourcesOf}
+use Rattle.vectors.specs.Vectors.{vectorsOf, vectorNumbers, sourcesOf}
 use Rattle.vectors.specs.Fit.{fitOf}
 
 -- so many vectors do not fit one of the two rooms
@@ -26,7 +26,7 @@ vectorsCall st orb tol vectors sources = outcome (vectorsRefusal st orb tol vect
 
 abbrev pub vectorsRoom : List Float → List Float → Float → List Float → List ℕ → List Float
 vectorsRoom st orb tol vectors sources =
-    left (vectorsRefusal st orb tol (length vectors) (length sources)) (laid (numbersOf (vectorsOf st orb tol)) vectors) vectors
+    left (vectorsRefusal st orb tol (length vectors) (length sources)) (laid (vectorNumbers (vectorsOf st orb tol)) vectors) vectors
 
 abbrev pub sourcesRoom : List Float → List Float → Float → List Float → List ℕ → List ℕ
 sourcesRoom st orb tol vectors sources =
@@ -50,7 +50,7 @@ fitCall st orb from visited tol vectors sources =
 
 abbrev pub fitRoom : List Float → List Float → Point → List Float → Float → List Float → List ℕ → List Float
 fitRoom st orb from visited tol vectors sources =
-    left (fitRefusal st orb from visited tol (length vectors) (length sources)) (laid (numbersOf (fitOf st orb from visited tol)) vectors) vectors
+    left (fitRefusal st orb from visited tol (length vectors) (length sources)) (laid (vectorNumbers (fitOf st orb from visited tol)) vectors) vectors
 
 abbrev pub fitSources : List Float → List Float → Point → List Float → Float → List Float → List ℕ → List ℕ
 fitSources st orb from visited tol vectors sources =

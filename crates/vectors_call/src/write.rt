@@ -12,7 +12,7 @@ ghost use lib.ListN.{length, set};
 ghost use Rattle.ring.specs.Ring.{count};
 ghost use Rattle.ring.specs.Room.{laid};
 ghost use Rattle.pairs.specs.Pairs.{Sides};
-ghost use Rattle.vectors.specs.Vectors.{numbersOf, sourcesOf};
+ghost use Rattle.vectors.specs.Vectors.{vectorNumbers, sourcesOf};
 ghost use Rattle.refusals.specs.Answers.{counted, outcome, left};
 ghost use Rattle.vectors.specs.Fit.{fitOf};
 ghost use Rattle.vectors_call.specs.Calls.{fitCount, fitRooms};
@@ -77,7 +77,7 @@ pub fn write_vectors(
     requires { ⌜ length (fitOf (now stationary) (now orbiting) from (now visited) tol) ≤ length (now sources) ⌝ }
     ensures { λ _.
         ⌜ now (vectors .exit) ≡ laid
-        (numbersOf (fitOf (now (stationary .entry)) (now (orbiting .entry)) from (now (visited .entry)) tol)) (now (vectors .entry)) ⌝ }
+        (vectorNumbers (fitOf (now (stationary .entry)) (now (orbiting .entry)) from (now (visited .entry)) tol)) (now (vectors .entry)) ⌝ }
     ensures { λ _.
         ⌜ now (sources .exit) ≡ laid
         (sourcesOf (fitOf (now (stationary .entry)) (now (orbiting .entry)) from (now (visited .entry)) tol)) (now (sources .entry)) ⌝ }
@@ -124,7 +124,7 @@ pub fn answer(
         × (now (vectors .exit) ≡ left
         (fitRooms (now (stationary .entry)) (now (orbiting .entry)) from (now (visited .entry)) tol
         (length (now (vectors .entry))) (length (now (sources .entry))))
-        (laid (numbersOf (fitOf (now (stationary .entry)) (now (orbiting .entry)) from (now (visited .entry)) tol)) (now (vectors .entry)))
+        (laid (vectorNumbers (fitOf (now (stationary .entry)) (now (orbiting .entry)) from (now (visited .entry)) tol)) (now (vectors .entry)))
         (now (vectors .entry)))
         × (now (sources .exit) ≡ left
         (fitRooms (now (stationary .entry)) (now (orbiting .entry)) from (now (visited .entry)) tol

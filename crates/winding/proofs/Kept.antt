@@ -15,13 +15,13 @@ use Rattle.ring.specs.Ring.{count, pointAt}
 use Rattle.refusals.specs.Bounds.{every, coordinates, coordinate}
 use Rattle.refusals.proofs.Every.{every-at, every-of}
 use Rattle.ring.proofs.Points.{points-at}
-use Rattle.winding.specs.Winding.{areaOf, vertexOf, ccwOf}
+use Rattle.winding.specs.Winding.{areaOf, orderedVertex, ccwOf}
 use Rattle.winding.proofs.Order.{chosen, ccw-length}
 
 module _ (r : List Float) (even : length r % 2 ≡ 0) where
   -- the vertex in its place is one of the polygon's
-  ordered : (reverse : Bool) (k : ℕ) → k < count r → (m : ℕ) × (m < count r) × (vertexOf r reverse k ≡ pointAt r m)
-  unfolding vertexOf
+  ordered : (reverse : Bool) (k : ℕ) → k < count r → (m : ℕ) × (m < count r) × (orderedVertex r reverse k ≡ pointAt r m)
+  unfolding orderedVertex
   ordered true k h = (count r - 1 - k, omega arith, refl)
   ordered false k h = (k, h, refl)
 
@@ -30,7 +30,7 @@ module _ (r : List Float) (even : length r % 2 ≡ 0) where
   vertex k h =
       let reverse = lt (areaOf r) f0 in
       let o = ordered reverse k h in
-      (o .0, o .1, rw (← chosen r reverse even) (points-at (vertexOf r reverse) (count r) k h ∙ o .2))
+      (o .0, o .1, rw (← chosen r reverse even) (points-at (orderedVertex r reverse) (count r) k h ∙ o .2))
 
   -- each number is one of the polygon's
   pub ccw-number : (i : ℕ) → i < length r → (j : ℕ) × (j < length r) × (getD (ccwOf r) i nan ≡ getD r j nan)

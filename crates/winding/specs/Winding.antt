@@ -3,31 +3,27 @@ use Prim.Native.Nat.{ℕ, zero, suc, _-_}
 use mathlib.Core.Bool.{Bool, cond}
 use mathlib.Core.List.{List}
 use lib.Ieee.{Float, lt}
-use Rattle.scalar.specs.Float.{_⊕_, _⊖_, _⊗_, _⊘_, float, f0}
+use Rattle.scalar.specs.Float.{_⊕_, _⊖_, _⊗_, _⊘_, float, f0, f2}
 use Rattle.plane.specs.declared.Point.{Point}
 use Rattle.ring.specs.Ring.{count, pointAt, nextOf}
 use Rattle.ring.specs.Points.{points}
 
 -- x_i * y_j is added, then x_j * y_i subtracted
-unfoldable pub addedOf : Float → Point → Point → Float
-addedOf area p q = area ⊕ p .x ⊗ q .y ⊖ q .x ⊗ p .y
+unfoldable pub areaAdded : Float → Point → Point → Float
+areaAdded area p q = area ⊕ p .x ⊗ q .y ⊖ q .x ⊗ p .y
 
 -- the sum over the first k edges, from 0.0
-unfoldable pub sumTo : List Float → ℕ → Float
-sumTo r zero = f0
-sumTo r (suc k) = addedOf (sumTo r k) (pointAt r k) (pointAt r (nextOf k (count r)))
-
--- 2.0
-abbrev pub f2 : Float
-f2 = float 0x4000_0000_0000_0000
+unfoldable pub areaSum : List Float → ℕ → Float
+areaSum r zero = f0
+areaSum r (suc k) = areaAdded (areaSum r k) (pointAt r k) (pointAt r (nextOf k (count r)))
 
 -- `signed_area`
 unfoldable pub areaOf : List Float → Float
-areaOf r = sumTo r (count r) ⊘ f2
+areaOf r = areaSum r (count r) ⊘ f2
 
 -- vertex i, from the end where the order is reversed
-unfoldable pub vertexOf : List Float → Bool → ℕ → Point
-vertexOf r reverse i = cond reverse (pointAt r (count r - 1 - i)) (pointAt r i)
+unfoldable pub orderedVertex : List Float → Bool → ℕ → Point
+orderedVertex r reverse i = cond reverse (pointAt r (count r - 1 - i)) (pointAt r i)
 
 -- the vertices in reverse order
 unfoldable pub reversed : List Float → List Float

@@ -9,11 +9,11 @@ ghost use lib.ListN.{length};
 ghost use Rattle.ring.specs.Ring.{count};
 ghost use Rattle.ring.specs.Room.{laid};
 ghost use Rattle.ring.specs.Points.{points};
-ghost use Rattle.winding.specs.Winding.{addedOf, areaOf, vertexOf, ccwOf};
+ghost use Rattle.winding.specs.Winding.{areaAdded, areaOf, orderedVertex, ccwOf};
 
 // An area sum with the edge from p to q: one product added, the other subtracted.
 fn added(area: f64, p: Point, q: Point) -> f64
-    ensures { λ r. ⌜ r ≡ addedOf area p q ⌝ }
+    ensures { λ r. ⌜ r ≡ areaAdded area p q ⌝ }
 {
     area + p.x * q.y - q.x * p.y
 }
@@ -35,7 +35,7 @@ fn signed_area(polygon: &[f64]) -> f64
 // Vertex i, from the end where the order is reversed.
 fn vertex(polygon: &[f64], reverse: bool, i: usize) -> Point
     requires { ⌜ i < count (now polygon) ⌝ }
-    ensures { λ r. ⌜ r ≡ vertexOf (now (polygon .entry)) reverse i ⌝ }
+    ensures { λ r. ⌜ r ≡ orderedVertex (now (polygon .entry)) reverse i ⌝ }
 {
     if reverse {
         point_at(polygon, polygon.len() / 2 - 1 - i)
@@ -48,7 +48,7 @@ fn vertex(polygon: &[f64], reverse: bool, i: usize) -> Point
 fn ordered(polygon: &[f64], reverse: bool, room: &mut [f64])
     requires { ⌜ length (now polygon) ≤ length (now room) ⌝ }
     ensures { λ _.
-        ⌜ now (room .exit) ≡ laid (points (vertexOf (now (polygon .entry)) reverse) (count (now (polygon .entry)))) (now (room .entry)) ⌝ }
+        ⌜ now (room .exit) ≡ laid (points (orderedVertex (now (polygon .entry)) reverse) (count (now (polygon .entry)))) (now (room .entry)) ⌝ }
 {
     let n = polygon.len() / 2;
     let mut i = 0;

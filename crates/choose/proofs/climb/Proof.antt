@@ -11,7 +11,7 @@ use Rattle.pairs.specs.Pairs.{pairCount}
 use Rattle.pairs.proofs.Numbers.{most}
 use Rattle.contacts.proofs.Following.{next-at, next-none}
 use Rattle.vectors.specs.Fit.{keeps}
-use Rattle.selection.specs.Select.{startOf}
+use Rattle.selection.specs.Select.{unscored}
 use Rattle.vectors.specs.Courses.{vectorIs}
 use Rattle.choose.specs.Choose.{standing, unset}
 use Rattle.choose.proofs.Climbing.{Climbing, at-first, up, top}
@@ -31,7 +31,7 @@ frames-of-requires : tie.Need-frames-of-requires Inv-loop μ-loop
 frames-of-requires c κs = search needs
 
 loop-holds : tie.Need-loop-holds Inv-loop μ-loop
-unfolding unset vectorIs startOf lengthOf dotOf sqrtOf add mul ofBits
+unfolding unset vectorIs unscored lengthOf dotOf sqrtOf add mul ofBits
 loop-holds c = at-first _ _ _ _ _ _ (rw (c .before .start .ensures) refl)
 
 next-within-requires : tie.Need-next-within-requires Inv-loop μ-loop

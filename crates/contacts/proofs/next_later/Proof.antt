@@ -2,7 +2,7 @@
 use native.Mathlib.Omega.{arith}
 use mathlib.Core.Path.{sym, ap, _∙_}
 use Rattle.pairs.proofs.Numbers.{most}
-use Rattle.contacts.specs.Contacts.{nextOf}
+use Rattle.contacts.specs.Contacts.{firstContact}
 use Rattle.contacts.proofs.Regions.{rows-in, later-hit, later-end}
 use Rattle.contacts.proofs.next_later.Statement.{statement}
 use Rattle.contacts.proofs.next_later.Tie as tie
@@ -45,7 +45,7 @@ returns-2 : tie.Need-returns-2
 returns-2 c =
     let e = c .before in
     let p = c .before .before .before .before .before .before .pre in
-    c .next-edges .ensures ∙ sym (ap nextOf (later-end _ _ _ (p .0) _ _ (p .1 .0 .0) (e .before .scan-vertices .ensures) (e .if2 .left)))
+    c .next-edges .ensures ∙ sym (ap firstContact (later-end _ _ _ (p .0) _ _ (p .1 .0 .0) (e .before .scan-vertices .ensures) (e .if2 .left)))
 
 next-edges-requires-2 : tie.Need-next-edges-requires-2
 next-edges-requires-2 c κs = (c .before .before .before .pre .0, ((c .if1 .left, c .before .before .before .pre .1 .0 .1), c .before .before .before .pre .1 .1))

@@ -2,7 +2,7 @@
 use native.Mathlib.Omega.{arith}
 use mathlib.Core.Path.{sym, ap, _∙_}
 use Rattle.pairs.proofs.Numbers.{most}
-use Rattle.contacts.specs.Contacts.{nextOf}
+use Rattle.contacts.specs.Contacts.{firstContact}
 use Rattle.contacts.proofs.Regions.{columns-in, first-hit, first-end}
 use Rattle.contacts.proofs.next_within.Statement.{statement}
 use Rattle.contacts.proofs.next_within.Tie as tie
@@ -33,7 +33,7 @@ returns-2 : tie.Need-returns-2
 returns-2 c =
     let e = c .before in
     let p = c .before .before .before .before .before .before .pre in
-    c .next-later .ensures ∙ sym (ap nextOf (first-end _ _ _ (p .0) _ _ (e .before .before .if1 .taken) (e .before .scan-vertices .ensures) (e .if2 .left)))
+    c .next-later .ensures ∙ sym (ap firstContact (first-end _ _ _ (p .0) _ _ (e .before .before .if1 .taken) (e .before .scan-vertices .ensures) (e .if2 .left)))
 
 next-later-requires-2 : tie.Need-next-later-requires-2
 next-later-requires-2 c κs = (c .before .before .before .pre .0, ((c .if1 .left, c .before .before .before .pre .1 .0), c .before .before .before .pre .1 .1))

@@ -8,11 +8,12 @@ use mathlib.Core.List.{List}
 use lib.ListN.{length, take}
 use lib.Seq.{length-take-le}
 use lib.Ieee.{Float}
+use Rattle.scalar.specs.Float.{f1e-6}
 use Rattle.plane.specs.declared.Point.{Point}
 use Rattle.ring.specs.Room.{laid}
 use Rattle.ring.specs.Moved.{movedOf}
 use Rattle.ring.proofs.Moved.{moved-front}
-use Rattle.overlap.specs.Overlap.{overlapOf, f1e-6}
+use Rattle.overlap.specs.Overlap.{overlapOf}
 use Rattle.interlocking.specs.Interlocking.{fitsOf}
 use Rattle.interlocking.proofs.fits.Statement.{statement}
 use Rattle.interlocking.proofs.fits.Tie as tie

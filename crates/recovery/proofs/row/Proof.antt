@@ -5,12 +5,12 @@ use Prim.Native.Nat.{_-_, _≤_}
 use mathlib.Core.Path.{_≡_, refl, ap, _∙_}
 use Rattle.laws.specs.FirstBest.{over}
 use Rattle.laws.proofs.FirstBest.{over-turn}
-use Rattle.recovery.specs.Recovery.{closestOn, nearer}
+use Rattle.recovery.specs.Recovery.{closestOn, nearerPoint}
 use Rattle.recovery.proofs.row.Statement.{statement}
 use Rattle.recovery.proofs.row.Tie as tie
 
 abbrev Inv-loop : tie.InvT-loop
-Inv-loop v ring n near₀ i₀ near i = (i ≤ n) × (near ≡ over nearer (closestOn v ring) near₀ i)
+Inv-loop v ring n near₀ i₀ near i = (i ≤ n) × (near ≡ over nearerPoint (closestOn v ring) near₀ i)
 
 abbrev μ-loop : tie.MeasureT-loop
 μ-loop v ring n near₀ i₀ near i = n - i
@@ -32,10 +32,10 @@ loop-less : tie.Need-loop-less Inv-loop μ-loop
 loop-less c = omega arith
 
 loop-again : tie.Need-loop-again Inv-loop μ-loop
-loop-again c = (omega arith, over-turn nearer _ _ _ (c .before .before .before .loop .inv .1) (c .before .foot .ensures) (c .keep .ensures))
+loop-again c = (omega arith, over-turn nearerPoint _ _ _ (c .before .before .before .loop .inv .1) (c .before .foot .ensures) (c .keep .ensures))
 
 returns : tie.Need-returns Inv-loop μ-loop
-returns c = c .before .loop .inv .1 ∙ ap (over nearer _ _) (omega arith)
+returns c = c .before .loop .inv .1 ∙ ap (over nearerPoint _ _) (omega arith)
 
 pub row-spec : {M : Type 1} → statement M
 row-spec =

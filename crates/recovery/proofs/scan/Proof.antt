@@ -9,21 +9,21 @@ use Rattle.plane.specs.declared.Point.{Point}
 use Rattle.ring.specs.Ring.{count, pointAt}
 use Rattle.laws.specs.FirstBest.{over, nest}
 use Rattle.laws.proofs.FirstBest.{nest-turn}
-use Rattle.recovery.specs.Recovery.{closestOn, closestAt, nearer, afar, closestOf}
+use Rattle.recovery.specs.Recovery.{closestOn, closestAt, nearerPoint, afar, closestOf}
 use Rattle.recovery.specs.declared.Closest.{Closest}
 use Rattle.recovery.proofs.scan.Statement.{statement}
 use Rattle.recovery.proofs.scan.Tie as tie
 
 abbrev Inv-loop : tie.InvT-loop
-Inv-loop stationary orbiting n near₀ i₀ near i = (i ≤ n) × (near ≡ nest nearer (closestAt stationary orbiting) (count stationary) afar i)
+Inv-loop stationary orbiting n near₀ i₀ near i = (i ≤ n) × (near ≡ nest nearerPoint (closestAt stationary orbiting) (count stationary) afar i)
 
 abbrev μ-loop : tie.MeasureT-loop
 μ-loop stationary orbiting n near₀ i₀ near i = n - i
 
 -- one vertex more
-step : (s o : List Float) (i : ℕ) {a b : Closest} {v : Point} → a ≡ nest nearer (closestAt s o) (count s) afar i → v ≡ pointAt o i → b ≡ over nearer (closestOn v s) a (count s)
-    → b ≡ nest nearer (closestAt s o) (count s) afar (i + 1)
-step s o i {a} h k e = nest-turn nearer (closestAt s o) (count s) afar i h (e ∙ ap (λ (q : Point). over nearer (closestOn q s) a (count s)) k)
+step : (s o : List Float) (i : ℕ) {a b : Closest} {v : Point} → a ≡ nest nearerPoint (closestAt s o) (count s) afar i → v ≡ pointAt o i → b ≡ over nearerPoint (closestOn v s) a (count s)
+    → b ≡ nest nearerPoint (closestAt s o) (count s) afar (i + 1)
+step s o i {a} h k e = nest-turn nearerPoint (closestAt s o) (count s) afar i h (e ∙ ap (λ (q : Point). over nearerPoint (closestOn q s) a (count s)) k)
 
 loop-holds : tie.Need-loop-holds Inv-loop μ-loop
 unfolding nest div ofBits
@@ -46,7 +46,7 @@ loop-again c = (omega arith, step _ _ _ (c .before .before .before .loop .inv .1
 
 returns : tie.Need-returns Inv-loop μ-loop
 unfolding closestOf
-returns c = c .before .loop .inv .1 ∙ ap (nest nearer _ _ _) (omega arith)
+returns c = c .before .loop .inv .1 ∙ ap (nest nearerPoint _ _ _) (omega arith)
 
 pub scan-spec : {M : Type 1} → statement M
 scan-spec =

@@ -9,7 +9,7 @@ use Rattle.plane.specs.declared.Point.{Point}
 use Rattle.laws.specs.FirstBest.{over}
 use Rattle.laws.proofs.FirstBest.{over-turn}
 use Rattle.selection.specs.Score.{scoreOf}
-use Rattle.selection.specs.Select.{vectorAt, scoreAt, scored, scoredAt, above, keptOf, startOf, selectOf}
+use Rattle.selection.specs.Select.{vectorAt, scoreAt, scored, scoredAt, above, keptScore, unscored, selectOf}
 use Rattle.vectors.specs.declared.TranslationVector.{TranslationVector}
 use Rattle.selection.specs.declared.Previous.{Previous}
 use Rattle.selection.specs.declared.Scored.{Scored}
@@ -17,15 +17,15 @@ use Rattle.selection.proofs.select.Statement.{statement}
 use Rattle.selection.proofs.select.Tie as tie
 
 abbrev Inv-loop : tie.InvT-loop
-Inv-loop vectors previous ccw n best₀ i₀ best i = (i ≤ n) × (best ≡ over above (scoredAt vectors previous ccw) startOf i)
+Inv-loop vectors previous ccw n best₀ i₀ best i = (i ≤ n) × (best ≡ over above (scoredAt vectors previous ccw) unscored i)
 
 abbrev μ-loop : tie.MeasureT-loop
 μ-loop vectors previous ccw n best₀ i₀ best i = n - i
 
 -- one vector more
 turn : (vs : List Float) (previous : Previous) (ccw : Point) (i : ℕ) {best new : Scored} {v : TranslationVector} {s : Float}
-    → best ≡ over above (scoredAt vs previous ccw) startOf i → v ≡ vectorAt vs i → s ≡ scoreOf v previous ccw → new ≡ keptOf best (scored i s)
-    → new ≡ over above (scoredAt vs previous ccw) startOf (i + 1)
+    → best ≡ over above (scoredAt vs previous ccw) unscored i → v ≡ vectorAt vs i → s ≡ scoreOf v previous ccw → new ≡ keptScore best (scored i s)
+    → new ≡ over above (scoredAt vs previous ccw) unscored (i + 1)
 unfolding scoredAt scoreAt
 turn vs previous ccw i h ev es e = over-turn above _ _ _ h (rw (es, ev)) e
 

@@ -7,9 +7,9 @@ use mathlib.Core.List.{List}
 use native.Mathlib.Numerals.{add-one}
 use borrow.Author.Tests.{lt-ltb, le-ltb}
 use lib.Ieee.{Float}
-use Rattle.scalar.specs.Float.{_⊘_}
+use Rattle.scalar.specs.Float.{_⊘_, f2}
 use Rattle.ring.specs.Ring.{count}
-use Rattle.signed_area.specs.Area.{termOf, addedOf, kahanTo, f2, robustOf}
+use Rattle.signed_area.specs.Area.{termOf, addedOf, kahanTo, robustOf}
 use Rattle.signed_area.specs.declared.Kahan.{Kahan}
 use Rattle.signed_area.proofs.signed_area_robust.Statement.{statement}
 use Rattle.signed_area.proofs.signed_area_robust.Tie as tie

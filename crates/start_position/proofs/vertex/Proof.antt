@@ -10,7 +10,7 @@ use Rattle.plane.specs.declared.Point.{Point}
 use Rattle.ring.specs.Ring.{count, pointAt}
 use Rattle.laws.specs.FirstBest.{over}
 use Rattle.laws.proofs.FirstBest.{over-turn}
-use Rattle.start_position.specs.Start.{orderOf, keptOf, vertexOf}
+use Rattle.start_position.specs.Start.{orderOf, keptVertex, extremeVertex}
 use Rattle.start_position.proofs.vertex.Statement.{statement}
 use Rattle.start_position.proofs.vertex.Tie as tie
 
@@ -22,11 +22,11 @@ abbrev μ-loop : tie.MeasureT-loop
 
 module _ (top : Bool) (r : List Float) (i : ℕ) {best : Point} (h : best ≡ over (orderOf top) (pointAt r) (pointAt r 0) i) where
   -- one vertex more
-  turn : {p new : Point} → p ≡ pointAt r i → new ≡ keptOf top best p → new ≡ over (orderOf top) (pointAt r) (pointAt r 0) (i + 1)
+  turn : {p new : Point} → p ≡ pointAt r i → new ≡ keptVertex top best p → new ≡ over (orderOf top) (pointAt r) (pointAt r 0) (i + 1)
   turn k e = over-turn (orderOf top) (pointAt r) (pointAt r 0) i h k e
 
-  done : i ≡ count r → best ≡ vertexOf top r
-  unfolding vertexOf
+  done : i ≡ count r → best ≡ extremeVertex top r
+  unfolding extremeVertex
   done e = rw (← e) h
 
 point-at-requires : tie.Need-point-at-requires Inv-loop μ-loop

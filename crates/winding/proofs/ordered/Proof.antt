@@ -7,12 +7,12 @@ use mathlib.Core.List.{_++_}
 use lib.ListN.{length, drop}
 use Rattle.ring.specs.Points.{points}
 use Rattle.ring.proofs.Points.{put-next, put-all}
-use Rattle.winding.specs.Winding.{vertexOf}
+use Rattle.winding.specs.Winding.{orderedVertex}
 use Rattle.winding.proofs.ordered.Statement.{statement}
 use Rattle.winding.proofs.ordered.Tie as tie
 
 abbrev Inv-loop : tie.InvT-loop
-Inv-loop polygon reverse room₀ n i₀ room i = (i ≤ n) × (length room ≡ length room₀) × (room ≡ points (vertexOf polygon reverse) i ++ drop (2 * i) room₀)
+Inv-loop polygon reverse room₀ n i₀ room i = (i ≤ n) × (length room ≡ length room₀) × (room ≡ points (orderedVertex polygon reverse) i ++ drop (2 * i) room₀)
 
 abbrev μ-loop : tie.MeasureT-loop
 μ-loop polygon reverse room₀ n i₀ room i = n - i

@@ -6,30 +6,30 @@ use mathlib.Core.Path.{_≡_, refl}
 use mathlib.Core.List.{List}
 use native.Mathlib.Numerals.{add-one}
 use lib.Ieee.{Float}
-use Rattle.scalar.specs.Float.{_⊘_}
+use Rattle.scalar.specs.Float.{_⊘_, f2}
 use Rattle.plane.specs.declared.Point.{Point}
 use Rattle.ring.specs.Ring.{count, pointAt, nextOf}
-use Rattle.winding.specs.Winding.{addedOf, sumTo, f2, areaOf}
+use Rattle.winding.specs.Winding.{areaAdded, areaSum, areaOf}
 use Rattle.winding.proofs.signed_area.Statement.{statement}
 use Rattle.winding.proofs.signed_area.Tie as tie
 
 abbrev Inv-loop : tie.InvT-loop
-Inv-loop polygon n area₀ i₀ area i = (i ≤ n) × (area ≡ sumTo polygon i)
+Inv-loop polygon n area₀ i₀ area i = (i ≤ n) × (area ≡ areaSum polygon i)
 
 abbrev μ-loop : tie.MeasureT-loop
 μ-loop polygon n area₀ i₀ area i = n - i
 
 -- one edge more
-step : (r : List Float) (i : ℕ) {a b : Float} {p q : Point} {j : ℕ} → a ≡ sumTo r i → p ≡ pointAt r i → j ≡ nextOf i (count r) → q ≡ pointAt r j → b ≡ addedOf a p q → b ≡ sumTo r (i + 1)
-unfolding sumTo
+step : (r : List Float) (i : ℕ) {a b : Float} {p q : Point} {j : ℕ} → a ≡ areaSum r i → p ≡ pointAt r i → j ≡ nextOf i (count r) → q ≡ pointAt r j → b ≡ areaAdded a p q → b ≡ areaSum r (i + 1)
+unfolding areaSum
 step r i h k d f e = rw (add-one i, e, h, k, f, d)
 
-end : (r : List Float) (i : ℕ) {a : Float} → i ≤ count r → count r ≤ i → a ≡ sumTo r i → a ⊘ f2 ≡ areaOf r
+end : (r : List Float) (i : ℕ) {a : Float} → i ≤ count r → count r ≤ i → a ≡ areaSum r i → a ⊘ f2 ≡ areaOf r
 unfolding areaOf
 end r i lo hi h = let e : i ≡ count r = omega arith in rw (h, e)
 
 loop-holds : tie.Need-loop-holds Inv-loop μ-loop
-unfolding sumTo
+unfolding areaSum
 loop-holds c = (omega arith, refl)
 
 point-at-requires : tie.Need-point-at-requires Inv-loop μ-loop

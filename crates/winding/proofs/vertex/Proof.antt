@@ -1,6 +1,6 @@
 -- `winding::vertex` meets its contract: the two cases of the test. Assumes nothing.
 use borrow.Author.Needs.{needs}
-use Rattle.winding.specs.Winding.{vertexOf}
+use Rattle.winding.specs.Winding.{orderedVertex}
 use Rattle.winding.proofs.vertex.Statement.{statement}
 use Rattle.winding.proofs.vertex.Tie as tie
 
@@ -17,11 +17,11 @@ point-at-requires-2 : tie.Need-point-at-requires-2
 point-at-requires-2 c κs = search needs
 
 returns : tie.Need-returns
-unfolding vertexOf
+unfolding orderedVertex
 returns c = rw (c .before .if1 .taken, c .point-at .ensures)
 
 returns-2 : tie.Need-returns-2
-unfolding vertexOf
+unfolding orderedVertex
 returns-2 c = rw (c .before .if1 .left, c .point-at2 .ensures)
 
 pub vertex-spec : {M : Type 1} → statement M

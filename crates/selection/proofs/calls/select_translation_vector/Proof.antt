@@ -2,7 +2,7 @@
 use borrow.Author.Needs.{needs}
 use borrow.Author.Tests.{eq-eqb, ne-eqb}
 use Rattle.refusals.proofs.Calls.{goes, stops}
-use Rattle.selection.specs.Calls.{choice}
+use Rattle.selection.specs.Calls.{chosenIndex}
 use Rattle.selection.proofs.calls.select_translation_vector.Statement.{statement}
 use Rattle.selection.proofs.calls.select_translation_vector.Tie as tie
 
@@ -19,13 +19,13 @@ select-requires : tie.Need-select-requires
 select-requires c κs = search needs
 
 returns : tie.Need-returns
-unfolding choice
+unfolding chosenIndex
 returns c =
     let d = c .before .before in
     goes _ (d .before .vectors-length .ensures) (d .passed .ensures) _ (c .before .if1 .taken) (rw (eq-eqb _ _ (c .if2 .taken)))
 
 returns-2 : tie.Need-returns-2
-unfolding choice
+unfolding chosenIndex
 returns-2 c =
     let t = c .before .before in
     let d = t .before .before in

@@ -12,27 +12,27 @@ use Rattle.plane.specs.declared.Point.{Point}
 use Rattle.ring.specs.Ring.{count, pointAt}
 use Rattle.ring.specs.Each.{each}
 use Rattle.ring.proofs.Each.{each-on, each-off, each-end}
-use Rattle.vectors.specs.Fit.{f10, apart, visitedOf}
+use Rattle.vectors.specs.Fit.{f10, apartFrom, visitedOf}
 use Rattle.vectors.proofs.fit.is_visited.Statement.{statement}
 use Rattle.vectors.proofs.fit.is_visited.Tie as tie
 
 abbrev Inv-loop : tie.InvT-loop
-Inv-loop position visited tol n near i₀ i = (i ≤ n) × (each (apart position visited tol) 0 (count visited) ≡ each (apart position visited tol) i (n - i))
+Inv-loop position visited tol n near i₀ i = (i ≤ n) × (each (apartFrom position visited tol) 0 (count visited) ≡ each (apartFrom position visited tol) i (n - i))
 
 abbrev μ-loop : tie.MeasureT-loop
 μ-loop position visited tol n near i₀ i = n - i
 
 -- all positions are left
-start : (p : Point) (v : List Float) (tol : Float) → each (apart p v tol) 0 (count v) ≡ each (apart p v tol) 0 (count v - 0)
+start : (p : Point) (v : List Float) (tol : Float) → each (apartFrom p v tol) 0 (count v) ≡ each (apartFrom p v tol) 0 (count v - 0)
 start p v tol = let e : count v - 0 ≡ count v = omega arith in rw e
 
 module _ (p : Point) (v : List Float) (tol : Float) (i : ℕ) {q : Point} {b : Bool} (at : q ≡ pointAt v i) (e : b ≡ lt (distanceOf p q) (tol ⊗ f10)) where
-  is-near : b ≡ true → apart p v tol i ≡ false
-  unfolding apart
+  is-near : b ≡ true → apartFrom p v tol i ≡ false
+  unfolding apartFrom
   is-near t = rw (← at, ← e, t)
 
-  is-far : b ≡ false → apart p v tol i ≡ true
-  unfolding apart
+  is-far : b ≡ false → apartFrom p v tol i ≡ true
+  unfolding apartFrom
   is-far t = rw (← at, ← e, t)
 
 loop-holds : tie.Need-loop-holds Inv-loop μ-loop

@@ -5,7 +5,7 @@ use Prim.Native.Nat.{_*_, _-_}
 use Rattle.ring.specs.Ring.{count}
 use Rattle.pairs.specs.Pairs.{pairCount}
 use Rattle.vectors.specs.Vectors.{sourced}
-use Rattle.vectors.specs.Fit.{kept, keeps}
+use Rattle.vectors.specs.Fit.{keptVectors, keeps}
 use Rattle.vectors.specs.Places.{Behind, far}
 use Rattle.vectors.proofs.Steps.{nearer}
 use Rattle.vectors_call.proofs.Passing.{Writing, start, vectors-fit, sources-fit, turn, done, small}
@@ -19,7 +19,7 @@ abbrev μ-loop : tie.MeasureT-loop
 μ-loop stationary orbiting from visited tol vectors₀ sources₀ n₀ at₀ vectors sources n at = 2 * pairCount (count stationary) (count orbiting) - far at
 
 -- the vector found
-behind : (c : tie.After-known-told Inv-loop μ-loop) → Behind (c .before .before .before .before .before .before .before .before .before .before .args .stationary .now) (c .before .before .before .before .before .before .before .before .before .before .args .orbiting .now) (c .before .before .before .before .before .before .before .before .before .before .args .tol) (kept (keeps (c .before .before .before .before .before .before .before .before .before .before .args .from) (c .before .before .before .before .before .before .before .before .before .before .args .visited .now) (c .before .before .before .before .before .before .before .before .before .before .args .tol))) (c .before .before .before .before .loop .at) (sourced (c .before .vector .given .0 .0) (c .before .vector .given .0 .1 .0)) (c .before .vector .given .0 .1 .1 .0)
+behind : (c : tie.After-known-told Inv-loop μ-loop) → Behind (c .before .before .before .before .before .before .before .before .before .before .args .stationary .now) (c .before .before .before .before .before .before .before .before .before .before .args .orbiting .now) (c .before .before .before .before .before .before .before .before .before .before .args .tol) (keptVectors (keeps (c .before .before .before .before .before .before .before .before .before .before .args .from) (c .before .before .before .before .before .before .before .before .before .before .args .visited .now) (c .before .before .before .before .before .before .before .before .before .before .args .tol))) (c .before .before .before .before .loop .at) (sourced (c .before .vector .given .0 .0) (c .before .vector .given .0 .1 .0)) (c .before .vector .given .0 .1 .1 .0)
 behind c = rw (c .before .vector .given .1) at (c .before .before .before .next-kept .ensures)
 
 loop-holds : tie.Need-loop-holds Inv-loop μ-loop
