@@ -6,9 +6,9 @@ pub mod screen;
 pub mod test;
 
 ghost use mathlib.Core.Path.{_≡_};
-ghost use Rattle.refusals.specs.Refusals.{none, refuse, passed};
+ghost use Rattle.refusals.specs.Refusals.{none, refuse, passed, tellsPlace};
 
-// A list's length is wrong.
+// A list's length fits no whole number of entries, or the lists of rings don't add up.
 pub const REFUSED_LENGTH: u32 = 1;
 
 // A lent number is out of its bounds.
@@ -28,6 +28,12 @@ pub const REFUSED_SHORT_PATH: u32 = 6;
 
 // A book is wrong.
 pub const REFUSED_BOOK: u32 = 7;
+
+// A list has too few entries.
+pub const REFUSED_FEW: u32 = 8;
+
+// A list has too many entries.
+pub const REFUSED_MANY: u32 = 9;
 
 // A ring of a book has 3 to 256 vertices, and a book 1 to 8 rings.
 pub const VERTICES_LEAST: usize = 3;
@@ -65,6 +71,17 @@ impl Refusal {
         ensures { λ r. ⌜ r ≡ passed self ⌝ }
     {
         self.number == 0
+    }
+
+    // Whether it tells a place: 1, 7, 8 and 9 do.
+    pub fn tells_place(self) -> bool
+        ensures { λ r. ⌜ r ≡ tellsPlace (self .number) ⌝ }
+    {
+        match self.number {
+            1 => true,
+            7..=9 => true,
+            _ => false,
+        }
     }
 }
 
