@@ -23,16 +23,13 @@ use Rattle.refusals.proofs.Counts.{within-true, is-within}
 
 module _ (e : Extent) (at : ℕ) where
   pub fault-length : (e .size % e .width ≡ 0 → ⊥) → refuse refusedLength at ≡ fault e at
-  unfolding fault
   fault-length n = rw (ne-eqb (e .size % e .width) 0 n)
 
   pub fault-few : e .size % e .width ≡ 0 → e .size / e .width < e .least → refuse refusedFew at ≡ fault e at
-  unfolding fault
   fault-few w l = rw (eq-eqb (e .size % e .width) 0 w, lt-leb (e .least) (e .size / e .width) l)
 
   pub fault-rest : {r : Refusal} → e .size % e .width ≡ 0 → e .least ≤ e .size / e .width → r ≡ unless (leb (e .size / e .width) (e .most)) refusedMany at
       → r ≡ fault e at
-  unfolding fault
   fault-rest w l q = rw (eq-eqb (e .size % e .width) 0 w, le-leb (e .least) (e .size / e .width) l) q
 
   pub fault-none : Fine e → none ≡ fault e at
@@ -43,7 +40,6 @@ module _ (e : Extent) (at : ℕ) where
 
 -- vectors are never too few or too many
 pub vectors-whole : (vs : List Float) (at : ℕ) → fault (vectorsExtent vs) at ≡ unless (eqb (length vs % 3) 0) refusedLength at
-unfolding fault
 vectors-whole vs at = rw (le-leb (length vs / 3) (length vs) (omega arith)) (go (eqb (length vs % 3) 0))
   where
     go : (b : Bool) → first (unless b refusedLength at) (first (unless (leb 0 (length vs / 3)) refusedFew at) none) ≡ unless b refusedLength at
@@ -64,7 +60,6 @@ abbrev pub countsFrom : ℕ → List ℕ → Refusal
 countsFrom at ns = firstOf (faultsFrom at (map countExtent ns))
 
 counts-cons : (at n : ℕ) (ns : List ℕ) → countsFrom at (n ∷ ns) ≡ first (fault (countExtent n) at) (countsFrom (suc at) ns)
-unfolding faultsFrom
 counts-cons at n ns = firstOf-first (fault (countExtent n) at) (faultsFrom (suc at) (map countExtent ns)) (fault-passes (countExtent n) at)
 
 module _ (ns : List ℕ) (i : ℕ) where
@@ -79,7 +74,6 @@ module _ (ns : List ℕ) (i : ℕ) where
     counts-off h t = e ∙ sym (counts-here h ∙ off _ _ e q t)
 
   pub counts-end : length ns ≤ i → none ≡ countsFrom i (drop i ns)
-  unfolding faultsFrom
   counts-end h = rw (drop-of-length-le ns h)
 
 -- no ring has a fault exactly if each has 3 to 256 vertices
@@ -92,7 +86,7 @@ counts-sized at (n ∷ ns) h =
     rw (within-true verticesLeast verticesMost n (omega (arith, f .enough)) (omega (arith, f .within))) (counts-sized (suc at) ns (p .1))
 
 pub sized-counts : (at : ℕ) (ns : List ℕ) → sizedAll ns ≡ true → countsFrom at ns ≡ none
-unfolding sizedAll faultsFrom
+unfolding sizedAll
 sized-counts at [] h = refl
 sized-counts at (n ∷ ns) h =
     let p = both (within verticesLeast verticesMost n) (sizedAll ns) h in

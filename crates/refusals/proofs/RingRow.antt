@@ -6,15 +6,15 @@ use mathlib.Core.List.{List, map}
 use native.Mathlib.Omega.{arith}
 use lib.ListN.{length}
 use lib.Ieee.{Float}
-use borrow.Author.Tests.{eq-eqb, ne-eqb, eqb-true}
-use Rattle.refusals.specs.Refusals.{refusedLength, passed, refuse, first}
+use borrow.Author.Tests.{eq-eqb, eqb-true}
+use Rattle.refusals.specs.Refusals.{refusedLength, passed, first}
 use Rattle.refusals.specs.Bounds.{coordinates}
 use Rattle.refusals.specs.Rings.{ringsMost, total, sizedAll, sumOk}
 use Rattle.refusals.specs.Lists.{fault, faultOf, ringsExtent, countExtent}
 use Rattle.refusals.specs.Screens.{wrongSum, wrongNumber}
 use Rattle.refusals.specs.Rows.{ofRings}
 use Rattle.refusals.specs.declared.Refusal.{Refusal}
-use Rattle.refusals.proofs.First.{on, off}
+use Rattle.refusals.proofs.First.{on, off, first-assoc}
 use Rattle.refusals.proofs.Sized.{Fine, fine, row-parts, holds}
 use Rattle.refusals.proofs.Faults.{fault-none, counts-sized, sized-counts}
 
@@ -31,6 +31,10 @@ module _ (xs : List Float) (ns : List ℕ) where
 
   abbrev last : Refusal
   last = first (wrongSum xs ns) (wrongNumber xs)
+
+  -- the rings one by one, and their sum
+  abbrev pub lists : Refusal
+  lists = first each (wrongSum xs ns)
 
   -- rings that are not refused
   pub rings-taken : passed (ofRings xs ns) ≡ true
@@ -61,23 +65,18 @@ module _ (xs : List Float) (ns : List ℕ) where
     unfolding ofRings
     number-speaks f = e ∙ sym (off rings (first each last) e h f)
 
-    module _ (t : p ≡ true) {m : Refusal} {q : Bool} (d : m ≡ each) (g : q ≡ passed m) where
-      pub counts-speak : q ≡ false → m ≡ ofRings xs ns
-      unfolding ofRings
-      counts-speak f = d ∙ sym (on rings (first each last) e h t ∙ off each last d g f)
+    pub few-rings : p ≡ true → length ns ≤ ringsMost
+    few-rings t = are-rings ns (length ns) (rw (← e, ← h) t) .1
 
-      -- and where neither does, the counts are those of a book
-      pub counts-held : q ≡ true → (1 ≤ length ns) × (length ns ≤ ringsMost) × (sizedAll ns ≡ true)
-      counts-held u =
-          let r = are-rings ns (length ns) (rw (← e, ← h) t) in
-          (r .0, r .1, counts-sized 0 ns (rw (← d, ← g) u))
-
-      pub sum-speaks : q ≡ true → (length xs ≡ 2 * total ns → ⊥) → refuse refusedLength (length ns) ≡ ofRings xs ns
+    module _ (t : p ≡ true) {m : Refusal} {q : Bool} (d : m ≡ lists) (g : q ≡ passed m) where
+      whole : ofRings xs ns ≡ first lists (wrongNumber xs)
       unfolding ofRings
-      sum-speaks u n =
-          sym (on rings (first each last) e h t ∙ on each last d g u ∙ (rw (ne-eqb (length xs) (2 * total ns) n)))
+      whole = on rings (first each last) e h t ∙ sym (first-assoc each (wrongSum xs ns) (wrongNumber xs))
 
-      pub numbers-speak : {r : Refusal} → q ≡ true → length xs ≡ 2 * total ns → r ≡ wrongNumber xs → r ≡ ofRings xs ns
+      pub lists-speak : q ≡ false → m ≡ ofRings xs ns
       unfolding ofRings
-      numbers-speak u n s =
-          s ∙ sym (on rings (first each last) e h t ∙ on each last d g u ∙ (rw (eq-eqb (length xs) (2 * total ns) n)))
+      lists-speak f = d ∙ sym (whole ∙ off lists (wrongNumber xs) d g f)
+
+      pub numbers-speak : {r : Refusal} → q ≡ true → r ≡ wrongNumber xs → r ≡ ofRings xs ns
+      unfolding ofRings
+      numbers-speak u s = s ∙ sym (whole ∙ on lists (wrongNumber xs) d g u)

@@ -12,7 +12,7 @@ use Rattle.refusals.specs.Refusals.{refusedLength, refusedFew, refusedMa
 use Rattle.refusals.specs.Bounds.{coordinates}
 use Rattle.plane.specs.declared.Point.{Point}
 use Rattle.refusals.specs.Screens.{wrongNumber, wrongInfinite, wrongPosition, wrongTolerance, wrongFit}
-use Rattle.refusals.specs.Lists.{Extent, fault, faultsFrom, faultOf, ringExtent, polygonExtent, pointsExtent}
+use Rattle.refusals.specs.Lists.{Extent, fault, faultOf, ringExtent, polygonExtent, pointsExtent}
 use Rattle.refusals.specs.Rows.{ofRing, ofTwoPolygons, ofList, ofTouching, ofMoving, fitLengths, fitNumbers, ofFit, ofRooms}
 use Rattle.refusals.specs.declared.Refusal.{Refusal}
 
@@ -47,7 +47,6 @@ pub record Fine (e : Extent) : Type 0 where
   pub within : e .size / e .width ≤ e .most
 
 pub fine : (e : Extent) (at : ℕ) → passed (fault e at) ≡ true → Fine e
-unfolding fault
 fine e at h =
     let entries = e .size / e .width in
     let few = unless (leb (e .least) entries) refusedFew at in
@@ -62,13 +61,13 @@ fine e at h =
 
 -- a ring, and a list of points, that are not refused
 pub is-ring : (r : List Float) → passed (ofRing r) ≡ true → Sized r
-unfolding ofRing faultsFrom
+unfolding ofRing
 is-ring r h =
     let f = fine (ringExtent r) 0 (row-parts (fault (ringExtent r) 0) (wrongNumber r) h .0) in
     record { even = f .whole; most = omega (arith, f .whole, f .within) }
 
 pub is-list : (r : List Float) (tol : Float) → passed (ofList r tol) ≡ true → length r % 2 ≡ 0
-unfolding ofList faultsFrom
+unfolding ofList
 is-list r tol h =
     fine (pointsExtent r) 0 (row-parts (fault (pointsExtent r) 0) (first (wrongInfinite r) (wrongTolerance tol)) h .0) .whole
 
@@ -78,7 +77,7 @@ is-polygon r f = record { even = f .whole; least = omega (arith, f .whole, f .en
 -- two polygons that are not refused
 module _ (a b : List Float) (h : passed (ofTwoPolygons a b) ≡ true) where
   parts : (passed (first (fault (polygonExtent a) 0) (fault (polygonExtent b) 1)) ≡ true) × (passed (first (wrongNumber a) (wrongNumber b)) ≡ true)
-  unfolding ofTwoPolygons faultsFrom
+  unfolding ofTwoPolygons
   parts = row-parts (first (fault (polygonExtent a) 0) (fault (polygonExtent b) 1)) (first (wrongNumber a) (wrongNumber b)) h
 
   pub two-polygons : Polygon a × Polygon b
@@ -104,7 +103,7 @@ module _ (a b : List Float) (tol : Float) {n : Refusal} {p : Bool} where
 
 pub fit-polygons : (a b : List Float) (from : Point) (visited : List Float) (tol : Float) {n : Refusal} {p : Bool} → n ≡ ofFit a b from visited tol
     → p ≡ passed n → p ≡ true → Polygon a × Polygon b
-unfolding ofFit fitLengths faultsFrom
+unfolding ofFit fitLengths
 fit-polygons a b from visited tol e h t =
     let last = fault (pointsExtent visited) 2 in
     let lists = row-parts (fitLengths a b visited) (fitNumbers a b from visited tol) (rw (← e, ← h) t) .0 in

@@ -7,7 +7,7 @@ use Rattle.scalar.specs.Float.{float, f0, f1}
 use mathlib.Core.List.{[], _∷_}
 use Rattle.refusals.specs.Refusals.{none, refuse}
 use Rattle.refusals.specs.Bounds.{coordinate, finite, toleranceOk}
-use Rattle.refusals.specs.Lists.{Extent, fault, faultsFrom, faultOf}
+use Rattle.refusals.specs.Lists.{Extent, faultOf}
 use Rattle.refusals.specs.declared.Refusal.{Refusal}
 
 -- 1,000,000 and the next f64
@@ -63,40 +63,31 @@ abbrev two : ℕ → ℕ → Refusal
 two a b = faultOf (polygon a ∷ polygon b ∷ [])
 
 both-fine : two 6 512 ≡ none
-unfolding faultsFrom fault
 both-fine = refl
 
 -- of one list 1 comes before 8 and before 9
 odd-before-few : two 5 6 ≡ refuse 1 0
-unfolding faultsFrom fault
 odd-before-few = refl
 
 odd-before-many : two 513 6 ≡ refuse 1 0
-unfolding faultsFrom fault
 odd-before-many = refl
 
 -- the first list is done before the second is looked at
 few : two 4 7 ≡ refuse 8 0
-unfolding faultsFrom fault
 few = refl
 
 many : two 514 4 ≡ refuse 9 0
-unfolding faultsFrom fault
 many = refl
 
 -- the second list is told as 1
 second-odd : two 6 7 ≡ refuse 1 1
-unfolding faultsFrom fault
 second-odd = refl
 
 second-few : two 512 4 ≡ refuse 8 1
-unfolding faultsFrom fault
 second-few = refl
 
 second-many : two 6 514 ≡ refuse 9 1
-unfolding faultsFrom fault
 second-many = refl
 
 empty : two 6 0 ≡ refuse 8 1
-unfolding faultsFrom fault
 empty = refl

@@ -17,7 +17,7 @@ pub record Extent : Type 0 where
   pub size : ℕ
 
 -- a list in its place
-unfoldable pub fault : Extent → ℕ → Refusal
+abbrev pub fault : Extent → ℕ → Refusal
 fault e at =
     let entries = e .size / e .width in
     firstOf
@@ -27,7 +27,7 @@ fault e at =
     ∷ [])
 
 -- lists one after the other, the first of them in this place
-unfoldable pub faultsFrom : ℕ → List Extent → List Refusal
+abbrev pub faultsFrom : ℕ → List Extent → List Refusal
 faultsFrom at [] = []
 faultsFrom at (e ∷ es) = fault e at ∷ faultsFrom (suc at) es
 

@@ -2,18 +2,21 @@
 use crate::REFUSED_LENGTH;
 use crate::Refusal;
 use crate::lists;
+use crate::screen::first;
 use crate::screen::numbers;
+use crate::screen::unless;
 ghost use mathlib.Core.Path.{_≡_};
-ghost use mathlib.Core.Bool.{true};
 ghost use Prim.Native.Nat.{_≤_};
 ghost use lib.ListN.{length};
-ghost use Rattle.refusals.specs.Rings.{ringsMost, total, sizedAll};
+ghost use Rattle.refusals.specs.Rings.{ringsMost, total};
+ghost use Rattle.refusals.specs.Screens.{wrongSum};
 ghost use Rattle.refusals.specs.Rows.{ofRings};
 
-// The sum of at most 8 vertex counts, each from 3 to 256.
+// The sum of at most 8 vertex counts.
 pub fn sum_of(counts: &[u32]) -> usize
-    requires { ⌜ (length (now counts) ≤ ringsMost) × (sizedAll (now counts) ≡ true) ⌝ }
+    requires { ⌜ length (now counts) ≤ ringsMost ⌝ }
     ensures { λ r. ⌜ r ≡ total (now (counts .entry)) ⌝ }
+    ensures { λ r. ⌜ r ≤ 34359738360 ⌝ }
 {
     let mut sum: usize = 0;
     let mut i = 0;
@@ -22,6 +25,18 @@ pub fn sum_of(counts: &[u32]) -> usize
         i += 1;
     }
     sum
+}
+
+// The sum of at most 8 counts, for a list of coordinates.
+fn sum(xs: &[f64], counts: &[u32]) -> Refusal
+    requires { ⌜ length (now counts) ≤ ringsMost ⌝ }
+    ensures { λ r. ⌜ r ≡ wrongSum (now (xs .entry)) (now (counts .entry)) ⌝ }
+{
+    unless(
+        xs.len() == 2 * sum_of(counts),
+        REFUSED_LENGTH,
+        counts.len() as u64,
+    )
 }
 
 // The rings that the coordinates and the vertex counts are. Coordinates are read only where the lengths are right.
@@ -33,11 +48,7 @@ pub fn lent(xs: &[f64], counts: &[u32]) -> Refusal
         return rings;
     }
     let each = lists::counts(counts);
-    if !each.passed() {
-        return each;
-    }
-    if xs.len() != 2 * sum_of(counts) {
-        return Refusal::new(REFUSED_LENGTH, counts.len() as u64);
-    }
-    numbers(xs)
+    let sum = sum(xs, counts);
+    let lists = first(each, sum);
+    if lists.passed() { numbers(xs) } else { lists }
 }

@@ -1,6 +1,5 @@
 -- `refusals::row::fit_lengths` meets its contract: the tests in the order of the definition. Assumes nothing.
 use borrow.Author.Needs.{needs}
-use Rattle.refusals.specs.Lists.{faultsFrom}
 use Rattle.refusals.specs.Rows.{fitLengths}
 use Rattle.refusals.proofs.row.fit_lengths.Statement.{statement}
 use Rattle.refusals.proofs.row.fit_lengths.Tie as tie
@@ -21,7 +20,7 @@ first-requires-2 : tie.Need-first-requires-2
 first-requires-2 c κs = search needs
 
 returns : tie.Need-returns
-unfolding fitLengths faultsFrom
+unfolding fitLengths
 returns c =
     let f = c .before .before in
     rw (c .first2 .ensures, c .before .polygon2 .ensures, f .first .ensures, f .before .points .ensures)

@@ -1,7 +1,6 @@
 -- `refusals::row::list` meets its contract: the tests in the order of the definition. Assumes nothing.
 use mathlib.Core.Path.{sym, _∙_}
 use borrow.Author.Needs.{needs}
-use Rattle.refusals.specs.Lists.{faultsFrom}
 use Rattle.refusals.specs.Rows.{ofList}
 use Rattle.refusals.proofs.First.{on, off}
 use Rattle.refusals.proofs.row.list.Statement.{statement}
@@ -23,7 +22,7 @@ first-requires : tie.Need-first-requires
 first-requires c κs = search needs
 
 returns : tie.Need-returns
-unfolding ofList faultsFrom
+unfolding ofList
 returns c =
     let t = c .before .before .before in
     let d = t .before in
@@ -31,7 +30,7 @@ returns c =
     e ∙ sym (on _ _ (d .before .points .ensures) (d .passed .ensures) (t .if1 .taken))
 
 returns-2 : tie.Need-returns-2
-unfolding ofList faultsFrom
+unfolding ofList
 returns-2 c =
     let d = c .before in
     d .before .points .ensures ∙ sym (off _ _ (d .before .points .ensures) (d .passed .ensures) (c .if1 .left))

@@ -1,7 +1,6 @@
 -- `refusals::row::ring` meets its contract: the length, then the numbers. Assumes nothing.
 use borrow.Author.Needs.{needs}
 use mathlib.Core.Path.{sym, _∙_}
-use Rattle.refusals.specs.Lists.{faultsFrom}
 use Rattle.refusals.specs.Rows.{ofRing}
 use Rattle.refusals.proofs.First.{on, off}
 use Rattle.refusals.proofs.row.ring.Statement.{statement}
@@ -17,13 +16,13 @@ numbers-requires : tie.Need-numbers-requires
 numbers-requires c κs = search needs
 
 returns : tie.Need-returns
-unfolding ofRing faultsFrom
+unfolding ofRing
 returns c =
     let d = c .before .before in
     c .numbers .ensures ∙ sym (on _ _ (d .before .ring .ensures) (d .passed .ensures) (c .before .if1 .taken))
 
 returns-2 : tie.Need-returns-2
-unfolding ofRing faultsFrom
+unfolding ofRing
 returns-2 c =
     let d = c .before in
     d .before .ring .ensures ∙ sym (off _ _ (d .before .ring .ensures) (d .passed .ensures) (c .if1 .left))

@@ -1,6 +1,5 @@
 -- `refusals::row::two_polygons` meets its contract: the faults of both, then the numbers of both. Assumes nothing.
 use borrow.Author.Needs.{needs}
-use Rattle.refusals.specs.Lists.{faultsFrom}
 use Rattle.refusals.specs.Rows.{ofTwoPolygons}
 use Rattle.refusals.proofs.row.two_polygons.Statement.{statement}
 use Rattle.refusals.proofs.row.two_polygons.Tie as tie
@@ -18,7 +17,7 @@ both-requires : tie.Need-both-requires
 both-requires c κs = search needs
 
 returns : tie.Need-returns
-unfolding ofTwoPolygons faultsFrom
+unfolding ofTwoPolygons
 returns c =
     let l = c .before .before in
     rw (c .both .ensures, c .before .first .ensures, l .polygon2 .ensures, l .before .polygon .ensures)
