@@ -20,12 +20,15 @@ pub extern "C" fn byr_write_book(
     ensures { λ _.
         ⌜ now (bytes .exit) ≡ told itself (writeCall (now (coordinates .entry)) (now (counts .entry)) (length (now (room .entry))))
         (now (bytes .entry)) ⌝ }
-    ensures { λ _. ⌜ now (place .exit) ≡ toldPlace (writeCall (now (coordinates .entry)) (now (counts .entry)) (length (now (room .entry)))) (now (place .entry)) ⌝ }
+    ensures { λ _.
+        ⌜ now (place .exit) ≡ toldPlace (writeCall (now (coordinates .entry)) (now (counts .entry)) (length (now (room .entry))))
+        (now (place .entry)) ⌝ }
     ensures { λ _. ⌜ now (room .exit) ≡ writeRoom (now (coordinates .entry)) (now (counts .entry)) (now (room .entry)) ⌝ }
 {
     let no = hand_count(
         book_writer::calls::write_book(coordinates, counts, room),
-        bytes);
+        bytes,
+    );
     hand_refusal(no, place)
 }
 
@@ -51,6 +54,7 @@ pub extern "C" fn byr_read_book(
 {
     let no = hand_count(
         book_reader::calls::read_book(book, coordinates, counts),
-        rings);
+        rings,
+    );
     hand_refusal(no, place)
 }

@@ -102,7 +102,8 @@ pub extern "C" fn byr_point_segment_distance(
     let b = Point { x: bx, y: by };
     let no = hand_number(
         ring_distance::calls::point_segment_distance(p, a, b),
-        distance);
+        distance,
+    );
     no.number
 }
 
@@ -117,7 +118,9 @@ pub extern "C" fn byr_mirror_polygon(
     ensures { λ r. ⌜ r ≡ returned (mirrorCall (now (ring .entry)) (length (now (room .entry)))) ⌝ }
     ensures { λ _.
         ⌜ now (vertices .exit) ≡ told itself (mirrorCall (now (ring .entry)) (length (now (room .entry)))) (now (vertices .entry)) ⌝ }
-    ensures { λ _. ⌜ now (place .exit) ≡ toldPlace (mirrorCall (now (ring .entry)) (length (now (room .entry)))) (now (place .entry)) ⌝ }
+    ensures { λ _.
+        ⌜ now (place .exit) ≡ toldPlace (mirrorCall (now (ring .entry)) (length (now (room .entry))))
+        (now (place .entry)) ⌝ }
     ensures { λ _. ⌜ now (room .exit) ≡ mirrorRoom (now (ring .entry)) (now (room .entry)) ⌝ }
 {
     let no = hand_count(ring_copies::calls::mirror_polygon(ring, room), vertices);
@@ -135,7 +138,9 @@ pub extern "C" fn byr_open_ring(
     ensures { λ r. ⌜ r ≡ returned (openCall (now (ring .entry)) (length (now (room .entry)))) ⌝ }
     ensures { λ _.
         ⌜ now (vertices .exit) ≡ told itself (openCall (now (ring .entry)) (length (now (room .entry)))) (now (vertices .entry)) ⌝ }
-    ensures { λ _. ⌜ now (place .exit) ≡ toldPlace (openCall (now (ring .entry)) (length (now (room .entry)))) (now (place .entry)) ⌝ }
+    ensures { λ _.
+        ⌜ now (place .exit) ≡ toldPlace (openCall (now (ring .entry)) (length (now (room .entry))))
+        (now (place .entry)) ⌝ }
     ensures { λ _. ⌜ now (room .exit) ≡ openRoom (now (ring .entry)) (now (room .entry)) ⌝ }
 {
     let no = hand_count(ring_copies::calls::open_ring(ring, room), vertices);

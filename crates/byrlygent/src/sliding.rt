@@ -49,7 +49,8 @@ pub extern "C" fn byr_project_point_to_segment(
     let b = Point { x: bx, y: by };
     let no = hand_number(
         projection::calls::project_point_to_segment(p, a, b),
-        parameter);
+        parameter,
+    );
     no.number
 }
 
@@ -72,7 +73,8 @@ pub extern "C" fn byr_point_to_segment_distance(
     let b = Point { x: bx, y: by };
     let no = hand_number(
         projection::calls::point_to_segment_distance(p, a, b),
-        distance);
+        distance,
+    );
     no.number
 }
 
@@ -117,7 +119,11 @@ pub extern "C" fn byr_find_contacts(
         ⌜ now (count .exit) ≡ told itself
         (findCall (now (stationary .entry)) (now (orbiting .entry)) tolerance (length (now (which .entry))) (length (now (points .entry))))
         (now (count .entry)) ⌝ }
-    ensures { λ _. ⌜ now (place .exit) ≡ toldPlace (findCall (now (stationary .entry)) (now (orbiting .entry)) tolerance (length (now (which .entry))) (length (now (points .entry)))) (now (place .entry)) ⌝ }
+    ensures { λ _.
+        ⌜ now (place .exit) ≡ toldPlace
+        (findCall (now (stationary .entry)) (now (orbiting .entry)) tolerance (length (now (which .entry)))
+        (length (now (points .entry))))
+        (now (place .entry)) ⌝ }
     ensures { λ _.
         ⌜ now (which .exit) ≡ findWhich (now (stationary .entry)) (now (orbiting .entry)) tolerance (now (which .entry))
         (now (points .entry)) ⌝ }
@@ -127,7 +133,8 @@ pub extern "C" fn byr_find_contacts(
 {
     let no = hand_count(
         contacts_call::calls::find_contacts(stationary, orbiting, tolerance, which, points),
-        count);
+        count,
+    );
     hand_refusal(no, place)
 }
 
@@ -151,7 +158,11 @@ pub extern "C" fn byr_compute_translation_vectors(
         (vectorsCall (now (stationary .entry)) (now (orbiting .entry)) tolerance (length (now (vectors .entry))) (length (now
         (sources .entry))))
         (now (count .entry)) ⌝ }
-    ensures { λ _. ⌜ now (place .exit) ≡ toldPlace (vectorsCall (now (stationary .entry)) (now (orbiting .entry)) tolerance (length (now (vectors .entry))) (length (now (sources .entry)))) (now (place .entry)) ⌝ }
+    ensures { λ _.
+        ⌜ now (place .exit) ≡ toldPlace
+        (vectorsCall (now (stationary .entry)) (now (orbiting .entry)) tolerance (length (now (vectors .entry)))
+        (length (now (sources .entry))))
+        (now (place .entry)) ⌝ }
     ensures { λ _.
         ⌜ now (vectors .exit) ≡ vectorsRoom (now (stationary .entry)) (now (orbiting .entry)) tolerance (now (vectors .entry))
         (now (sources .entry)) ⌝ }
@@ -167,7 +178,8 @@ pub extern "C" fn byr_compute_translation_vectors(
             vectors,
             sources,
         ),
-        count);
+        count,
+    );
     hand_refusal(no, place)
 }
 
@@ -194,7 +206,11 @@ pub extern "C" fn byr_handle_perfect_fit(
         (fitCall (now (stationary .entry)) (now (orbiting .entry)) (point rx ry) (now (visited .entry)) tolerance (length (now
         (vectors .entry))) (length (now (sources .entry))))
         (now (count .entry)) ⌝ }
-    ensures { λ _. ⌜ now (place .exit) ≡ toldPlace (fitCall (now (stationary .entry)) (now (orbiting .entry)) (point rx ry) (now (visited .entry)) tolerance (length (now (vectors .entry))) (length (now (sources .entry)))) (now (place .entry)) ⌝ }
+    ensures { λ _.
+        ⌜ now (place .exit) ≡ toldPlace
+        (fitCall (now (stationary .entry)) (now (orbiting .entry)) (point rx ry) (now (visited .entry)) tolerance
+        (length (now (vectors .entry))) (length (now (sources .entry))))
+        (now (place .entry)) ⌝ }
     ensures { λ _.
         ⌜ now (vectors .exit) ≡ fitRoom (now (stationary .entry)) (now (orbiting .entry)) (point rx ry) (now (visited .entry))
         tolerance (now (vectors .entry)) (now (sources .entry)) ⌝ }
@@ -213,7 +229,8 @@ pub extern "C" fn byr_handle_perfect_fit(
             vectors,
             sources,
         ),
-        count);
+        count,
+    );
     hand_refusal(no, place)
 }
 
@@ -251,7 +268,9 @@ pub extern "C" fn byr_select_translation_vector(
     ensures { λ _.
         ⌜ now (index .exit) ≡ toldFound itself (selectCall (now (vectors .entry)) (previousOf has px py) (point cx cy) (point x y))
         (now (index .entry)) ⌝ }
-    ensures { λ _. ⌜ now (place .exit) ≡ toldPlace (selectCall (now (vectors .entry)) (previousOf has px py) (point cx cy) (point x y)) (now (place .entry)) ⌝ }
+    ensures { λ _.
+        ⌜ now (place .exit) ≡ toldPlace (selectCall (now (vectors .entry)) (previousOf has px py) (point cx cy) (point x y))
+        (now (place .entry)) ⌝ }
 {
     let before = previous(has, px, py);
     let centroid = Point { x: cx, y: cy };
@@ -259,7 +278,8 @@ pub extern "C" fn byr_select_translation_vector(
     let no = hand_selected(
         selection::calls::select_translation_vector(vectors, before, centroid, position),
         found,
-        index);
+        index,
+    );
     hand_refusal(no, place)
 }
 
@@ -294,7 +314,9 @@ pub extern "C" fn byr_check_translation_collision(
     ensures { λ _.
         ⌜ now (oi .exit) ≡ toldFound hitOrbiting
         (collisionCall (now (stationary .entry)) (now (orbiting .entry)) (point dx dy) tolerance) (now (oi .entry)) ⌝ }
-    ensures { λ _. ⌜ now (place .exit) ≡ toldPlace (collisionCall (now (stationary .entry)) (now (orbiting .entry)) (point dx dy) tolerance) (now (place .entry)) ⌝ }
+    ensures { λ _.
+        ⌜ now (place .exit) ≡ toldPlace (collisionCall (now (stationary .entry)) (now (orbiting .entry)) (point dx dy) tolerance)
+        (now (place .entry)) ⌝ }
 {
     let translation = Point { x: dx, y: dy };
     let answer = collision::calls::check_translation_collision(
@@ -330,7 +352,9 @@ pub extern "C" fn byr_detect_interlocking_opportunity(
     ensures { λ _.
         ⌜ now (toy .exit) ≡ toldFound yOf (interlockCall (now (stationary .entry)) (now (orbiting .entry)) (point x y) tolerance)
         (now (toy .entry)) ⌝ }
-    ensures { λ _. ⌜ now (place .exit) ≡ toldPlace (interlockCall (now (stationary .entry)) (now (orbiting .entry)) (point x y) tolerance) (now (place .entry)) ⌝ }
+    ensures { λ _.
+        ⌜ now (place .exit) ≡ toldPlace (interlockCall (now (stationary .entry)) (now (orbiting .entry)) (point x y) tolerance)
+        (now (place .entry)) ⌝ }
 {
     let current = Point { x, y };
     let answer = interlocking::calls::detect_interlocking_opportunity(
@@ -366,7 +390,9 @@ pub extern "C" fn byr_recover_contact(
     ensures { λ _.
         ⌜ now (toy .exit) ≡ toldFound yOf (recoverCall (now (stationary .entry)) (now (orbiting .entry)) (point x y) tolerance)
         (now (toy .entry)) ⌝ }
-    ensures { λ _. ⌜ now (place .exit) ≡ toldPlace (recoverCall (now (stationary .entry)) (now (orbiting .entry)) (point x y) tolerance) (now (place .entry)) ⌝ }
+    ensures { λ _.
+        ⌜ now (place .exit) ≡ toldPlace (recoverCall (now (stationary .entry)) (now (orbiting .entry)) (point x y) tolerance)
+        (now (place .entry)) ⌝ }
 {
     let current = Point { x, y };
     let recovered = recovery::calls::recover_contact(stationary, orbiting, current, tolerance);
@@ -402,11 +428,14 @@ pub extern "C" fn byr_polygons_overlap_with_tolerance(
     ensures { λ r. ⌜ r ≡ returned (overlapWithCall (now (a .entry)) (now (b .entry)) tolerance) ⌝ }
     ensures { λ _.
         ⌜ now (overlap .exit) ≡ told flag (overlapWithCall (now (a .entry)) (now (b .entry)) tolerance) (now (overlap .entry)) ⌝ }
-    ensures { λ _. ⌜ now (place .exit) ≡ toldPlace (overlapWithCall (now (a .entry)) (now (b .entry)) tolerance) (now (place .entry)) ⌝ }
+    ensures { λ _.
+        ⌜ now (place .exit) ≡ toldPlace (overlapWithCall (now (a .entry)) (now (b .entry)) tolerance)
+        (now (place .entry)) ⌝ }
 {
     let no = hand_truth(
         overlap::calls::polygons_overlap_with_tolerance(a, b, tolerance),
-        overlap);
+        overlap,
+    );
     hand_refusal(no, place)
 }
 
@@ -422,12 +451,15 @@ pub extern "C" fn byr_find_start_position(
     ensures { λ r. ⌜ r ≡ returned (startCall (now (stationary .entry)) (now (orbiting .entry))) ⌝ }
     ensures { λ _. ⌜ now (x .exit) ≡ told xOf (startCall (now (stationary .entry)) (now (orbiting .entry))) (now (x .entry)) ⌝ }
     ensures { λ _. ⌜ now (y .exit) ≡ told yOf (startCall (now (stationary .entry)) (now (orbiting .entry))) (now (y .entry)) ⌝ }
-    ensures { λ _. ⌜ now (place .exit) ≡ toldPlace (startCall (now (stationary .entry)) (now (orbiting .entry))) (now (place .entry)) ⌝ }
+    ensures { λ _.
+        ⌜ now (place .exit) ≡ toldPlace (startCall (now (stationary .entry)) (now (orbiting .entry)))
+        (now (place .entry)) ⌝ }
 {
     let no = hand_start(
         start_position::calls::find_start_position(stationary, orbiting),
         x,
-        y);
+        y,
+    );
     hand_refusal(no, place)
 }
 
@@ -444,12 +476,15 @@ pub extern "C" fn byr_simplify_polygon(
     ensures { λ _.
         ⌜ now (points .exit) ≡ told itself (simplifyCall (now (list .entry)) tolerance (length (now (room .entry))))
         (now (points .entry)) ⌝ }
-    ensures { λ _. ⌜ now (place .exit) ≡ toldPlace (simplifyCall (now (list .entry)) tolerance (length (now (room .entry)))) (now (place .entry)) ⌝ }
+    ensures { λ _.
+        ⌜ now (place .exit) ≡ toldPlace (simplifyCall (now (list .entry)) tolerance (length (now (room .entry))))
+        (now (place .entry)) ⌝ }
     ensures { λ _. ⌜ now (room .exit) ≡ simplifyRoom (now (list .entry)) tolerance (now (room .entry)) ⌝ }
 {
     let no = hand_count(
         simplify::calls::simplify_polygon(list, tolerance, room),
-        points);
+        points,
+    );
     hand_refusal(no, place)
 }
 
@@ -495,7 +530,11 @@ pub extern "C" fn byr_compute_nfp_sliding(
         (traceCall (now (stationary .entry)) (now (orbiting .entry)) (settingsOf tolerance smallest limit) (length (now (work
         .entry))) (length (now (result .entry))))
         (now (stop .entry)) ⌝ }
-    ensures { λ _. ⌜ now (place .exit) ≡ placeOf (refusalOf (traceCall (now (stationary .entry)) (now (orbiting .entry)) (settingsOf tolerance smallest limit) (length (now (work .entry))) (length (now (result .entry))))) (now (place .entry)) ⌝ }
+    ensures { λ _.
+        ⌜ now (place .exit) ≡ placeOf
+        (refusalOf (traceCall (now (stationary .entry)) (now (orbiting .entry)) (settingsOf tolerance smallest limit)
+        (length (now (work .entry))) (length (now (result .entry)))))
+        (now (place .entry)) ⌝ }
     ensures { λ _.
         ⌜ now (work .exit) ≡ traceWork (now (stationary .entry)) (now (orbiting .entry)) (settingsOf tolerance smallest limit)
         (now (work .entry)) (length (now (result .entry))) ⌝ }

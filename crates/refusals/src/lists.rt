@@ -14,7 +14,8 @@ ghost use mathlib.Core.Path.{_≡_};
 ghost use mathlib.Core.List.{map};
 ghost use Prim.Native.Nat.{_≤_};
 ghost use lib.ListN.{length};
-ghost use Rattle.refusals.specs.Lists.{Extent, fault, faultOf, ringExtent, polygonExtent, pointsExtent, vectorsExtent, ringsExtent, countExtent};
+ghost use Rattle.refusals.specs.Lists.{Extent, fault, faultOf, ringExtent, polygonExtent, pointsExtent};
+ghost use Rattle.refusals.specs.Lists.{vectorsExtent, ringsExtent, countExtent};
 
 // A list of size numbers, of which each entry has so many, in its place.
 fn fault(size: usize, width: usize, least: usize, most: usize, place: u64) -> Refusal
@@ -63,7 +64,13 @@ pub fn vectors(list: &[f64], place: u64) -> Refusal
 pub fn rings(counts: &[u32]) -> Refusal
     ensures { λ r. ⌜ r ≡ fault (ringsExtent (now (counts .entry))) (length (now (counts .entry))) ⌝ }
 {
-    fault(counts.len(), 1, RINGS_LEAST, RINGS_MOST, counts.len() as u64)
+    fault(
+        counts.len(),
+        1,
+        RINGS_LEAST,
+        RINGS_MOST,
+        counts.len() as u64,
+    )
 }
 
 // A ring of a book, by its vertex count.
