@@ -1,8 +1,8 @@
 /*
- * Calls every exported function from C and holds what it answers, refuses and
- * leaves alone to known values, most of them docs/SCOPE.md's. Prints a line per
- * function with the checks it passed; the first wrong one ends the program with
- * status 1.
+ * Calls every exported function from C and holds what it answers, refuses, tells
+ * as the place and leaves alone to known values, most of them docs/SCOPE.md's.
+ * Prints a line per function with the checks it passed; the first wrong one ends
+ * the program with status 1.
  */
 #include "byrlygent.h"
 
@@ -51,7 +51,11 @@ static void begin(const char *name) {
 
 static void check(int holds, int line) {
     if (!holds) {
-        printf("%s: the check in line %d of calls.c does not hold, row %d\n", function, line, (int)row);
+        printf("%s: the check in line %d of calls.c does not hold", function, line);
+        if (row > 0) {
+            printf(", row %d of its table", (int)row);
+        }
+        printf("\n");
         exit(1);
     }
     checks += 1;

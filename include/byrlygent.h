@@ -278,7 +278,7 @@ uint32_t byr_simplify_polygon(const double *list, size_t n, double tolerance, do
  *
  * Success: the work room holds the path, stored points, and the result room the
  * path simplified, points points; passes are those begun, stop is a BYR_STOP_.
- * Refusals 1, 8, 9: place is written. Refusals 2, 3, 4: nothing is.
+ * Refusals 1, 8, 9: place alone is written. Refusals 2, 3, 4: nothing is.
  * Refusal 5, a point was to be stored and the work room is full: it holds the
  * stored points; passes is written.
  * Refusal 6, fewer than three points at the end: the work room holds the path;
@@ -298,13 +298,15 @@ uint32_t byr_compute_nfp_sliding(const double *stationary, size_t sn, const doub
  * (0,0),(4,0),(0,3),(0,0) and (4,0),(0,3),(0,0),(4,0) have two books, and opened
  * one. length: the book's bytes, 16 a vertex, 8 a ring and 8; 32840 at most.
  *
- * Refusals, in this order:
- * the number of rings: 8 for none, 9 above eight; place is that number;
- * ring by ring its vertices: 8 under three, 9 above 256; place is the ring, from 0;
- * the coordinates, if they are not two for each vertex counted, an odd list
- * included: 1; place is the number of rings;
- * then 2, then 4.
- * So 8 at place 0 is a book of no rings if none was lent, and else a short ring 0. */
+ * Refusals, in this order, and the place that each tells:
+ *
+ *     8 for no rings, 9 for more than eight               the number of rings
+ *     ring by ring, 8 under three vertices, 9 above 256   the ring, from 0 on
+ *     1 unless there are two coordinates for each vertex
+ *     counted; so also for an odd list                    the number of rings
+ *     2, then 4                                           none
+ *
+ * So 8 at place 0 is a book of no rings if none is lent, and else a short ring 0. */
 uint32_t byr_write_book(const double *coordinates, size_t n, const uint32_t *counts, size_t rings, uint8_t *room,
                         size_t room_n, uint64_t *length, uint64_t *place);
 
