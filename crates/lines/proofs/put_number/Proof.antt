@@ -1,14 +1,8 @@
-use Prim.Native.Nat.{ℕ, _+_, _*_, _-_, _/_, _%_, _≤_, _<_}
-use mathlib.Core.Path.{_≡_, refl, sym, ap, _∙_}
-use native.Mathlib.Omega.{arith}
-use lib.ListN.{length, getD}
+-- `lines::put_number` meets its contract: three texts, one after the other. Assumes nothing.
 use borrow.Author.Needs.{needs}
+use Rattle.print.proofs.Puts.{then}
 use Rattle.lines.proofs.put_number.Statement.{statement}
 use Rattle.lines.proofs.put_number.Tie as tie
-use Rattle.lines.proofs.put_number.Reads as reads
-use Rattle.lines.proofs.put_number.Lts as lts
-use Rattle.print.proofs.put_decimal.Reads as put-decimal-reads
-use Rattle.print.proofs.put_text.Reads as put-text-reads
 
 slice-aggregate-put-text : tie.Need-slice-aggregate-put-text
 slice-aggregate-put-text c = search needs
@@ -29,7 +23,11 @@ same-length : tie.Need-same-length
 same-length c = search needs
 
 returns : tie.Need-returns
-returns c = ?
+returns c =
+    let newline = c .before .before in
+    let number = newline .before .before .before .before .before in
+    let first = number .before .before .before .before in
+    then (first .put-text .ensures) (then (number .put-decimal .ensures .0) (newline .put-text2 .ensures))
 
 pub put-number-spec : {M : Type 1} → statement M
 put-number-spec =

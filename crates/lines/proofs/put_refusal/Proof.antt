@@ -1,15 +1,8 @@
-use Prim.Native.Nat.{ℕ, _+_, _*_, _-_, _/_, _%_, _≤_, _<_}
-use mathlib.Core.Path.{_≡_, refl, sym, ap, _∙_}
-use native.Mathlib.Omega.{arith}
-use lib.ListN.{length, getD}
+-- `lines::put_refusal` meets its contract: a refusal that tells a place or not. Assumes nothing.
 use borrow.Author.Needs.{needs}
+use Rattle.lines.specs.Lines.{refusalLine}
 use Rattle.lines.proofs.put_refusal.Statement.{statement}
 use Rattle.lines.proofs.put_refusal.Tie as tie
-use Rattle.lines.proofs.put_refusal.Reads as reads
-use Rattle.lines.proofs.put_refusal.Lts as lts
-use Rattle.lines.proofs.put_number.Reads as put-number-reads
-use Rattle.lines.proofs.put_place.Reads as put-place-reads
-use Rattle.refusals.proofs.Refusal.tells_place.Reads as tells-place-reads
 
 tells-place-requires : tie.Need-tells-place-requires
 tells-place-requires c κs = search needs
@@ -24,13 +17,21 @@ same-length : tie.Need-same-length
 same-length c = search needs
 
 returns : tie.Need-returns
-returns c = ?
+unfolding refusalLine
+returns c =
+    let p = c .before .before in
+    let t = p .before .before in
+    rw (← t .before .tells-place .ensures, t .if1 .taken) (p .put-place .ensures)
 
 same-length-2 : tie.Need-same-length-2
 same-length-2 c = search needs
 
 returns-2 : tie.Need-returns-2
-returns-2 c = ?
+unfolding refusalLine
+returns-2 c =
+    let p = c .before .before in
+    let t = p .before .before in
+    rw (← t .before .tells-place .ensures, t .if1 .left) (p .put-number .ensures)
 
 pub put-refusal-spec : {M : Type 1} → statement M
 put-refusal-spec =
