@@ -1,6 +1,6 @@
 //! The list `book`. A record is twelve words of header: the call (0 write,
-//! 1 read), an, bn, rn, cn, the refusal number, the value answered, the place of
-//! the fault (0 unless the number is 7) and four zeros.
+//! 1 read), an, bn, rn, cn, the refusal number, the value answered, the place that
+//! the refusal tells (0 where it tells none) and four zeros.
 //!
 //! For writing, an coordinates and bn vertex counts are lent with a room of rn
 //! bytes, cn is 0, and the value is the book's length. After the header come the
@@ -17,8 +17,8 @@ mod sample;
 
 pub use lent::longest;
 
-use super::{bits, float_room, once, List};
-use crate::book::{book_of, file_of, read_book, write_book, Unread};
+use super::{bits, float_room, once, refused, List};
+use crate::book::{book_of, file_of, read_book, write_book};
 use crate::seeded::Seeded;
 
 pub const WRITE: u64 = 0;
@@ -103,12 +103,10 @@ fn widened(counts: &[u32]) -> Vec<u64> {
 fn written(coordinates: &[f64], counts: &[u32], room: usize) -> Vec<u64> {
     let before = byte_room(room);
     let mut after = before.clone();
-    let (number, value) = match write_book(coordinates, counts, &mut after) {
-        Ok(length) => (0, length as u64),
-        Err(number) => (u64::from(number), 0),
-    };
+    let answer = write_book(coordinates, counts, &mut after);
+    let ([number, place], value) = (refused(answer.err()), answer.unwrap_or(0) as u64);
     let [an, bn, rn] = [coordinates.len(), counts.len(), room].map(|n| n as u64);
-    let header = vec![WRITE, an, bn, rn, 0, number, value, 0, 0, 0, 0, 0];
+    let header = vec![WRITE, an, bn, rn, 0, number, value, place, 0, 0, 0, 0];
     [header, bits(coordinates), widened(counts), packed(&before), packed(&after)].concat()
 }
 
@@ -116,11 +114,8 @@ fn written(coordinates: &[f64], counts: &[u32], room: usize) -> Vec<u64> {
 fn read(file: &[u8], coordinates: usize, counts: usize) -> Vec<u64> {
     let before = (float_room(coordinates), count_room(counts));
     let mut after = before.clone();
-    let (number, value, place) = match read_book(file, &mut after.0, &mut after.1) {
-        Ok(rings) => (0, rings as u64, 0),
-        Err(Unread::Wrong(place)) => (7, 0, place as u64),
-        Err(Unread::NoRoom) => (4, 0, 0),
-    };
+    let answer = read_book(file, &mut after.0, &mut after.1);
+    let ([number, place], value) = (refused(answer.err()), answer.unwrap_or(0) as u64);
     let [an, rn, cn] = [file.len(), coordinates, counts].map(|n| n as u64);
     let mut words = vec![READ, an, 0, rn, cn, number, value, place, 0, 0, 0, 0];
     words.extend(packed(file));
