@@ -112,7 +112,7 @@ fn lists_are_gone_through_one_after_the_other() {
 fn visited_positions_come_third() {
     let refused = |a: usize, b: usize, visited: usize| {
         let (a, b, visited) = (of_length(a), of_length(b), of_length(visited));
-        let (at, mut room, mut from) = ((0.0, 0.0), [0.0; 90], [0; 30]);
+        let (at, mut room, mut from) = ((0.0, 0.0), [0.0; 300], [0; 100]);
         let answer =
             calls::handle_perfect_fit(&a, &b, at, &visited, TOLERANCE, &mut room, &mut from);
         answer.err().map_or((0, 0), |no| (no.number, no.place))

@@ -11,6 +11,7 @@
 //! to a word, the last word filled up with zeros; a count takes a word. The value
 //! is 0 where refused.
 
+mod counts;
 mod files;
 mod lent;
 mod sample;
@@ -20,6 +21,7 @@ pub use lent::longest;
 use super::{bits, float_room, once, refused, List};
 use crate::book::{book_of, file_of, read_book, write_book};
 use crate::seeded::Seeded;
+use std::slice;
 
 pub const WRITE: u64 = 0;
 pub const READ: u64 = 1;
@@ -136,19 +138,22 @@ fn record(case: &Case) -> Vec<u64> {
 
 /// The list, record by record, none twice.
 pub fn records() -> Vec<Vec<u64>> {
-    let cases = lent::cases().into_iter().chain(files::cases());
+    let cases = lent::cases().into_iter().chain(counts::cases()).chain(files::cases());
     once(cases.map(|case| record(&case)).collect())
 }
 
-/// A record of a long run: by turns a ring of the grid written and read as it
-/// is, and two seeded cases; seeded ones alone after the grid's last ring.
+/// A record of a long run: by turns a ring of the grid written and read as it is,
+/// wrong counts, and a seeded case, which also follows the last of the others.
 fn long(seeded: &mut Seeded, place: u64) -> Vec<u64> {
-    let ring = if place % 4 < 2 { lent::grid_ring(place / 4) } else { None };
-    record(&match ring {
-        Some(ring) if place.is_multiple_of(4) => Case::writing(&[ring]),
-        Some(ring) => Case::reading(&file_of(std::slice::from_ref(&ring)), ring.len(), 1),
-        None => sample::case(seeded),
-    })
+    let round = place / 4;
+    let read = |ring: Vec<f64>| Case::reading(&file_of(slice::from_ref(&ring)), ring.len(), 1);
+    let case = match place % 4 {
+        0 => lent::grid_ring(round).map(|ring| Case::writing(&[ring])),
+        1 => lent::grid_ring(round).map(read),
+        2 => counts::swept(round),
+        _ => None,
+    };
+    record(&case.unwrap_or_else(|| sample::case(seeded)))
 }
 
 /// The call, with its refusal number.

@@ -2,6 +2,7 @@
 //! little-endian 64-bit words without a header.
 
 pub mod book;
+mod lengths;
 mod polygons;
 pub mod rings;
 pub mod scalars;

@@ -120,9 +120,11 @@ pub fn records() -> Vec<Vec<u64>> {
     once(cases.iter().map(record).collect())
 }
 
-/// A record of a long run: the calls by turns.
+/// A record of a long run: by turns lists about their bounds, as far as there are
+/// any, and a seeded case, of these the calls by turns.
 fn long(seeded: &mut Seeded, place: u64) -> Vec<u64> {
-    record(&sample::case(seeded, place % NAMES.len() as u64))
+    let bounds = if place.is_multiple_of(2) { lists::swept(place / 2) } else { None };
+    record(&bounds.unwrap_or_else(|| sample::case(seeded, place % NAMES.len() as u64)))
 }
 
 /// The call, with its refusal number.

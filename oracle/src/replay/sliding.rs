@@ -21,6 +21,7 @@
 //! | 10 simplify_polygon | | list | tolerance | room | points |
 
 mod faults;
+mod lengths;
 mod lists;
 mod moves;
 mod rooms;
@@ -273,12 +274,15 @@ pub fn records() -> Vec<Vec<u64>> {
     cases.extend(moves::cases());
     cases.extend(lists::cases());
     cases.extend(faults::cases());
+    cases.extend(lengths::cases());
     once(cases.iter().map(record).collect())
 }
 
-/// A record of a long run: the calls by turns.
+/// A record of a long run: by turns lists about their bounds, as far as there are
+/// any, and a seeded case, of these the calls by turns.
 fn long(seeded: &mut Seeded, place: u64) -> Vec<u64> {
-    record(&sample::case(seeded, place % NAMES.len() as u64))
+    let bounds = if place.is_multiple_of(2) { lengths::swept(place / 2) } else { None };
+    record(&bounds.unwrap_or_else(|| sample::case(seeded, place % NAMES.len() as u64)))
 }
 
 /// The call, with its refusal number, or whether something was found.

@@ -103,9 +103,11 @@ pub fn records() -> Vec<Vec<u64>> {
     once(runs::cases().iter().map(record).collect())
 }
 
-/// A record of a long run.
-fn long(seeded: &mut Seeded, _place: u64) -> Vec<u64> {
-    record(&sample::case(seeded))
+/// A record of a long run: by turns polygons about the bounds of their length, as
+/// far as there are any, and a seeded trace.
+fn long(seeded: &mut Seeded, place: u64) -> Vec<u64> {
+    let bounds = if place.is_multiple_of(2) { runs::swept(place / 2) } else { None };
+    record(&bounds.unwrap_or_else(|| sample::case(seeded)))
 }
 
 /// The refusal number, the stop reason where one is returned, and the limit.
