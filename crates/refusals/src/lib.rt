@@ -1,5 +1,6 @@
 // The refusals of the public calls: the record and its numbers, the tests of what a call is lent, and the rows in which they speak.
 pub mod answer;
+pub mod lists;
 pub mod rings;
 pub mod row;
 pub mod screen;
@@ -35,12 +36,18 @@ pub const REFUSED_FEW: u32 = 8;
 // A list has too many entries.
 pub const REFUSED_MANY: u32 = 9;
 
-// A ring of a book has 3 to 256 vertices, and a book 1 to 8 rings.
+// A polygon, and a ring of a book, has 3 to 256 vertices.
 pub const VERTICES_LEAST: usize = 3;
 
 pub const VERTICES_MOST: usize = 256;
 
+// A book has 1 to 8 rings.
+pub const RINGS_LEAST: usize = 1;
+
 pub const RINGS_MOST: usize = 8;
+
+// A list of points has 10,001 at most.
+pub const POINTS_MOST: usize = 10001;
 
 // A refusal's number and the place it tells, 0 where it tells none. The number 0 is no refusal.
 pub struct Refusal {
@@ -77,9 +84,12 @@ impl Refusal {
     pub fn tells_place(self) -> bool
         ensures { λ r. ⌜ r ≡ tellsPlace (self .number) ⌝ }
     {
-        match self.number {
+        let number = self.number;
+        match number {
             1 => true,
-            7..=9 => true,
+            7 => true,
+            8 => true,
+            9 => true,
             _ => false,
         }
     }
