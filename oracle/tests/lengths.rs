@@ -17,16 +17,25 @@ enum Way {
 }
 use Way::{Fine, Long, Odd, OddAndLong, OddAndShort, Short};
 
-/// The way of a list of points with so many numbers, of which there may be from
-/// `least` to `most`.
-fn way(n: usize, least: usize, most: usize) -> Way {
-    match (n % 2 == 1, n < least, n > most) {
-        (false, true, _) => Short,
-        (false, _, true) => Long,
-        (false, ..) => Fine,
-        (true, true, _) => OddAndShort,
-        (true, _, true) => OddAndLong,
-        (true, ..) => Odd,
+/// How many numbers an entry of a list has, and how many numbers the list has at
+/// least and at most.
+#[derive(Clone, Copy)]
+struct Bounds(usize, usize, usize);
+
+const RING: Bounds = Bounds(2, 0, 512);
+const POLYGON: Bounds = Bounds(2, 6, 512);
+const PATH: Bounds = Bounds(2, 0, 20_002);
+const VECTORS: Bounds = Bounds(3, 0, usize::MAX);
+
+/// The way of a list of so many numbers with these bounds.
+fn way(n: usize, Bounds(width, least, most): Bounds) -> Way {
+    match (n.is_multiple_of(width), n < least, n > most) {
+        (true, true, _) => Short,
+        (true, _, true) => Long,
+        (true, ..) => Fine,
+        (false, true, _) => OddAndShort,
+        (false, _, true) => OddAndLong,
+        (false, ..) => Odd,
     }
 }
 
@@ -35,56 +44,61 @@ struct Met {
     call: u64,
     lists: Vec<Vec<f64>>,
     ways: Vec<Way>,
-    number: u64,
-    place: u64,
+    told: (u64, u64),
 }
 
 impl Met {
-    /// The record with lists of these lengths after its header; each with the
-    /// fewest and the most numbers that it may have, or nothing if it isn't lent.
-    fn new(record: &[u64], header: usize, lent: &[(u64, Option<(usize, usize)>)]) -> Self {
-        let (mut rest, mut lists, mut ways) = (&record[header..], Vec::new(), Vec::new());
+    /// A record whose lists, of these lengths, begin at this word: those with
+    /// bounds are the call's. The refusal's number and place are at these words.
+    fn new(record: &[u64], at: usize, lent: &[(u64, Option<Bounds>)], told: [usize; 2]) -> Self {
+        let (mut rest, mut lists, mut ways) = (&record[at..], Vec::new(), Vec::new());
         for &(n, bounds) in lent {
             let (words, others) = rest.split_at(n as usize);
             rest = others;
-            if let Some((least, most)) = bounds {
+            if let Some(bounds) = bounds {
                 lists.push(words.iter().map(|&word| f64::from_bits(word)).collect());
-                ways.push(way(words.len(), least, most));
+                ways.push(way(words.len(), bounds));
             }
         }
-        Self { call: record[0], lists, ways, number: 0, place: 0 }
+        Self { call: record[0], lists, ways, told: (record[told[0]], record[told[1]]) }
+    }
+
+    /// A record of the list `sliding`.
+    fn sliding(record: &[u64]) -> Self {
+        let bounds = match record[0] {
+            sliding::SELECT => [None, None, Some(VECTORS)],
+            sliding::SIMPLIFY => [None, None, Some(PATH)],
+            sliding::PERFECT_FIT => [Some(POLYGON), Some(POLYGON), Some(PATH)],
+            _ => [Some(POLYGON), Some(POLYGON), None],
+        };
+        let lent = [0, 1, 2].map(|i| (record[i + 1], bounds[i]));
+        Self::new(record, sliding::HEADER, &lent, [7, 13])
+    }
+
+    /// A record of the list `rings`.
+    fn rings(record: &[u64]) -> Self {
+        let bounds = match record[0] {
+            rings::RING_DISTANCE => [Some(RING), Some(RING)],
+            rings::MIRROR_POLYGON..=rings::SIGNED_AREA_ROBUST => [Some(RING), None],
+            _ => [None; 2],
+        };
+        let lent = [0, 1].map(|i| (record[i + 1], bounds[i]));
+        Self::new(record, rings::HEADER, &lent, [4, 6])
+    }
+
+    /// A record of the list `traces`, which has one call.
+    fn traces(record: &[u64]) -> Self {
+        let lent = [0, 1].map(|i: usize| (record[i], Some(POLYGON)));
+        Self { call: 0, ..Self::new(record, traces::HEADER, &lent, [7, 12]) }
     }
 
     /// A record of the list with this name.
     fn of(name: &str, record: &[u64]) -> Self {
-        let (call, polygon, path) = (record[0], Some((6, 512)), Some((0, 20_002)));
-        let [one, two, three] = [record[1], record[2], record[3]];
-        let (met, told) = match name {
-            "sliding" => {
-                let bounds = match call {
-                    sliding::SELECT => [None; 3],
-                    sliding::SIMPLIFY => [None, None, path],
-                    sliding::PERFECT_FIT => [polygon, polygon, path],
-                    _ => [polygon, polygon, None],
-                };
-                let lent = [(one, bounds[0]), (two, bounds[1]), (three, bounds[2])];
-                (Self::new(record, sliding::HEADER, &lent), [7, 13])
-            }
-            "rings" => {
-                let ring = Some((0, 512));
-                let bounds = match call {
-                    rings::RING_DISTANCE => [ring, ring],
-                    rings::MIRROR_POLYGON..=rings::SIGNED_AREA_ROBUST => [ring, None],
-                    _ => [None; 2],
-                };
-                (Self::new(record, rings::HEADER, &[(one, bounds[0]), (two, bounds[1])]), [4, 6])
-            }
-            _ => {
-                let lent = [(record[0], polygon), (record[1], polygon)];
-                (Self { call: 0, ..Self::new(record, traces::HEADER, &lent) }, [7, 12])
-            }
-        };
-        Self { number: record[told[0]], place: record[told[1]], ..met }
+        match name {
+            "sliding" => Self::sliding(record),
+            "rings" => Self::rings(record),
+            _ => Self::traces(record),
+        }
     }
 
     /// The number and the place that its lists ask for.
@@ -145,11 +159,10 @@ fn calls_with_two_lists() -> Vec<(&'static str, u64, &'static [Way])> {
 fn every_record_tells_its_first_wrong_list() {
     for name in ["rings", "sliding", "traces"] {
         for record in stored(name).iter().chain(&long(name)) {
-            let told = (record.number, record.place);
+            let (call, told) = (record.call, record.told);
             match record.asked() {
-                Some(asked) => assert_eq!(told, asked, "{name} {}", record.call),
-                None if record.call == sliding::SELECT => assert_eq!(record.place, 0),
-                None => assert!(!matches!(told, (1 | 8 | 9, _) | (_, 1..)), "{name} {told:?}"),
+                Some(asked) => assert_eq!(told, asked, "{name} {call}"),
+                None => assert!(matches!(told, (0 | 2..=6, 0)), "{name} {call} {told:?}"),
             }
         }
     }

@@ -50,7 +50,7 @@ impl Lengths<2> {
     }
 }
 
-/// Every two of these lengths, with no wrong number and with one in these places.
+/// Every two of these lengths, each with these lists having a wrong number.
 fn pairs(lengths: &[usize], wrong: &[Option<usize>]) -> Vec<Lengths<2>> {
     let mut all = Vec::new();
     for &a in lengths {
