@@ -12,7 +12,7 @@ use lib.Ieee.{Float}
 use borrow.Author.Tests.{le-ltb}
 use Rattle.refusals.specs.Refusals.{passed, unless, first}
 use Rattle.refusals.specs.Bounds.{coordinates as bounded-by, settingsOk, workOk}
-use Rattle.refusals.specs.Lists.{Extent, fault, polygonExtent}
+use Rattle.refusals.specs.Lists.{Extent, listFault, polygonExtent}
 use Rattle.refusals.specs.Screens.{wrongNumber, wrongSettings, wrongWork}
 use Rattle.refusals.specs.Rows.{ofTwoPolygons, ofTrace}
 use Rattle.refusals.specs.declared.Refusal.{Refusal}
@@ -99,7 +99,7 @@ test-not : (ok : Bool) (num at : ℕ) → (num ≡ 5 → ⊥) → NotFive (unles
 test-not true num at h e = omega (arith, e)
 test-not false num at h e = h e
 
-fault-not : (e : Extent) (at : ℕ) → NotFive (fault e at)
+fault-not : (e : Extent) (at : ℕ) → NotFive (listFault e at)
 fault-not e at =
     either-not (unless (eqb (e .size % e .width) 0) 1 at) _ (test-not (eqb (e .size % e .width) 0) 1 at (λ h. omega (arith, h)))
     (either-not (unless (leb (e .least) (e .size / e .width)) 8 at) _ (test-not (leb (e .least) (e .size / e .width)) 8 at (λ h. omega (arith, h)))
@@ -163,8 +163,8 @@ module _ (st orb : List Float) (s : Settings) (work : ℕ) where
   unfolding ofTrace ofTwoPolygons
   lent-number result =
       either-not (ofTwoPolygons st orb) _
-      (either-not (first (fault (polygonExtent st) 0) (fault (polygonExtent orb) 1)) _
-      (either-not (fault (polygonExtent st) 0) _ (fault-not (polygonExtent st) 0) (fault-not (polygonExtent orb) 1))
+      (either-not (first (listFault (polygonExtent st) 0) (listFault (polygonExtent orb) 1)) _
+      (either-not (listFault (polygonExtent st) 0) _ (fault-not (polygonExtent st) 0) (fault-not (polygonExtent orb) 1))
       (either-not (wrongNumber st) _ (test-not (bounded-by st) 2 0 (λ h. omega (arith, h))) (test-not (bounded-by orb) 2 0 (λ h. omega (arith, h)))))
       (either-not (wrongSettings s) _ (test-not (settingsOk s) 3 0 (λ h. omega (arith, h)))
       (either-not (wrongWork work) _ (test-not (workOk work) 4 0 (λ h. omega (arith, h))) (test-not (leb work result) 4 0 (λ h. omega (arith, h)))))

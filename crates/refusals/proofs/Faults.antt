@@ -13,7 +13,7 @@ use borrow.Author.Tests.{le-leb, lt-leb, eq-eqb, ne-eqb}
 use Rattle.laws.proofs.Both.{both}
 use Rattle.refusals.specs.Refusals.{refusedLength, refusedFew, refusedMany, none, refuse, passed, unless, first, firstOf}
 use Rattle.refusals.specs.Rings.{verticesLeast, verticesMost, within, sizedAll}
-use Rattle.refusals.specs.Lists.{Extent, fault, faultsFrom, faultOf, countExtent, vectorsExtent}
+use Rattle.refusals.specs.Lists.{Extent, listFault, faultsFrom, faultOf, countExtent, vectorsExtent}
 use Rattle.refusals.specs.declared.Refusal.{Refusal}
 use Rattle.refusals.proofs.First.{on, off}
 use Rattle.refusals.proofs.Sized.{Fine, fine, row-parts}
@@ -22,24 +22,24 @@ use Rattle.refusals.proofs.Counts.{within-true, is-within}
 -- ---- one list
 
 module _ (e : Extent) (at : ℕ) where
-  pub fault-length : (e .size % e .width ≡ 0 → ⊥) → refuse refusedLength at ≡ fault e at
+  pub fault-length : (e .size % e .width ≡ 0 → ⊥) → refuse refusedLength at ≡ listFault e at
   fault-length n = rw (ne-eqb (e .size % e .width) 0 n)
 
-  pub fault-few : e .size % e .width ≡ 0 → e .size / e .width < e .least → refuse refusedFew at ≡ fault e at
+  pub fault-few : e .size % e .width ≡ 0 → e .size / e .width < e .least → refuse refusedFew at ≡ listFault e at
   fault-few w l = rw (eq-eqb (e .size % e .width) 0 w, lt-leb (e .least) (e .size / e .width) l)
 
   pub fault-rest : {r : Refusal} → e .size % e .width ≡ 0 → e .least ≤ e .size / e .width → r ≡ unless (leb (e .size / e .width) (e .most)) refusedMany at
-      → r ≡ fault e at
+      → r ≡ listFault e at
   fault-rest w l q = rw (eq-eqb (e .size % e .width) 0 w, le-leb (e .least) (e .size / e .width) l) q
 
-  pub fault-none : Fine e → none ≡ fault e at
+  pub fault-none : Fine e → none ≡ listFault e at
   fault-none f = fault-rest (f .whole) (f .enough) (rw (le-leb (e .size / e .width) (e .most) (f .within)))
 
-  fault-passes : passed (fault e at) ≡ true → fault e at ≡ none
+  fault-passes : passed (listFault e at) ≡ true → listFault e at ≡ none
   fault-passes h = sym (fault-none (fine e at h))
 
 -- vectors are never too few or too many
-pub vectors-whole : (vs : List Float) (at : ℕ) → fault (vectorsExtent vs) at ≡ unless (eqb (length vs % 3) 0) refusedLength at
+pub vectors-whole : (vs : List Float) (at : ℕ) → listFault (vectorsExtent vs) at ≡ unless (eqb (length vs % 3) 0) refusedLength at
 vectors-whole vs at = rw (le-leb (length vs / 3) (length vs) (omega arith)) (go (eqb (length vs % 3) 0))
   where
     go : (b : Bool) → first (unless b refusedLength at) (first (unless (leb 0 (length vs / 3)) refusedFew at) none) ≡ unless b refusedLength at
@@ -59,14 +59,14 @@ firstOf-first r (s ∷ rs) n = refl
 abbrev pub countsFrom : ℕ → List ℕ → Refusal
 countsFrom at ns = firstOf (faultsFrom at (map countExtent ns))
 
-counts-cons : (at n : ℕ) (ns : List ℕ) → countsFrom at (n ∷ ns) ≡ first (fault (countExtent n) at) (countsFrom (suc at) ns)
-counts-cons at n ns = firstOf-first (fault (countExtent n) at) (faultsFrom (suc at) (map countExtent ns)) (fault-passes (countExtent n) at)
+counts-cons : (at n : ℕ) (ns : List ℕ) → countsFrom at (n ∷ ns) ≡ first (listFault (countExtent n) at) (countsFrom (suc at) ns)
+counts-cons at n ns = firstOf-first (listFault (countExtent n) at) (faultsFrom (suc at) (map countExtent ns)) (fault-passes (countExtent n) at)
 
 module _ (ns : List ℕ) (i : ℕ) where
-  counts-here : i < length ns → countsFrom i (drop i ns) ≡ first (fault (countExtent (getD ns i 0)) i) (countsFrom (i + 1) (drop (i + 1) ns))
+  counts-here : i < length ns → countsFrom i (drop i ns) ≡ first (listFault (countExtent (getD ns i 0)) i) (countsFrom (i + 1) (drop (i + 1) ns))
   counts-here h = rw (drop-cons ns i 0 h, add-one) (counts-cons i (getD ns i 0) (drop (suc i) ns))
 
-  module _ {n : Refusal} {p : Bool} (e : n ≡ fault (countExtent (getD ns i 0)) i) (q : p ≡ passed n) where
+  module _ {n : Refusal} {p : Bool} (e : n ≡ listFault (countExtent (getD ns i 0)) i) (q : p ≡ passed n) where
     pub counts-on : i < length ns → p ≡ true → countsFrom i (drop i ns) ≡ countsFrom (i + 1) (drop (i + 1) ns)
     counts-on h t = counts-here h ∙ on _ _ e q t
 
@@ -81,7 +81,7 @@ pub counts-sized : (at : ℕ) (ns : List ℕ) → passed (countsFrom at ns) ≡ 
 unfolding sizedAll
 counts-sized at [] h = refl
 counts-sized at (n ∷ ns) h =
-    let p = row-parts (fault (countExtent n) at) (countsFrom (suc at) ns) (rw (counts-cons at n ns) at h) in
+    let p = row-parts (listFault (countExtent n) at) (countsFrom (suc at) ns) (rw (counts-cons at n ns) at h) in
     let f = fine (countExtent n) at (p .0) in
     rw (within-true verticesLeast verticesMost n (omega (arith, f .enough)) (omega (arith, f .within))) (counts-sized (suc at) ns (p .1))
 

@@ -10,7 +10,7 @@ use borrow.Author.Tests.{eq-eqb, eqb-true}
 use Rattle.refusals.specs.Refusals.{refusedLength, passed, first}
 use Rattle.refusals.specs.Bounds.{coordinates}
 use Rattle.refusals.specs.Rings.{ringsMost, total, sizedAll, sumOk}
-use Rattle.refusals.specs.Lists.{fault, faultOf, ringsExtent, countExtent}
+use Rattle.refusals.specs.Lists.{listFault, faultOf, ringsExtent, countExtent}
 use Rattle.refusals.specs.Screens.{wrongSum, wrongNumber}
 use Rattle.refusals.specs.Rows.{ofRings}
 use Rattle.refusals.specs.declared.Refusal.{Refusal}
@@ -19,12 +19,12 @@ use Rattle.refusals.proofs.Sized.{Fine, fine, row-parts, holds}
 use Rattle.refusals.proofs.Faults.{fault-none, counts-sized, sized-counts}
 
 -- the number of rings
-are-rings : (ns : List ℕ) (at : ℕ) → passed (fault (ringsExtent ns) at) ≡ true → (1 ≤ length ns) × (length ns ≤ ringsMost)
+are-rings : (ns : List ℕ) (at : ℕ) → passed (listFault (ringsExtent ns) at) ≡ true → (1 ≤ length ns) × (length ns ≤ ringsMost)
 are-rings ns at h = let f = fine (ringsExtent ns) at h in (omega (arith, f .enough), omega (arith, f .within))
 
 module _ (xs : List Float) (ns : List ℕ) where
   abbrev rings : Refusal
-  rings = fault (ringsExtent ns) (length ns)
+  rings = listFault (ringsExtent ns) (length ns)
 
   abbrev each : Refusal
   each = faultOf (map countExtent ns)

@@ -12,7 +12,7 @@ use Rattle.refusals.specs.Refusals.{refusedLength, refusedFew, refusedMa
 use Rattle.refusals.specs.Bounds.{coordinates}
 use Rattle.plane.specs.declared.Point.{Point}
 use Rattle.refusals.specs.Screens.{wrongNumber, wrongInfinite, wrongPosition, wrongTolerance, wrongFit}
-use Rattle.refusals.specs.Lists.{Extent, fault, faultOf, ringExtent, polygonExtent, pointsExtent}
+use Rattle.refusals.specs.Lists.{Extent, listFault, faultOf, ringExtent, polygonExtent, pointsExtent}
 use Rattle.refusals.specs.Rows.{ofRing, ofTwoPolygons, ofList, ofTouching, ofMoving, fitLengths, fitNumbers, ofFit, ofRooms}
 use Rattle.refusals.specs.declared.Refusal.{Refusal}
 
@@ -46,7 +46,7 @@ pub record Fine (e : Extent) : Type 0 where
   pub enough : e .least ≤ e .size / e .width
   pub within : e .size / e .width ≤ e .most
 
-pub fine : (e : Extent) (at : ℕ) → passed (fault e at) ≡ true → Fine e
+pub fine : (e : Extent) (at : ℕ) → passed (listFault e at) ≡ true → Fine e
 fine e at h =
     let entries = e .size / e .width in
     let few = unless (leb (e .least) entries) refusedFew at in
@@ -63,26 +63,26 @@ fine e at h =
 pub is-ring : (r : List Float) → passed (ofRing r) ≡ true → Sized r
 unfolding ofRing
 is-ring r h =
-    let f = fine (ringExtent r) 0 (row-parts (fault (ringExtent r) 0) (wrongNumber r) h .0) in
+    let f = fine (ringExtent r) 0 (row-parts (listFault (ringExtent r) 0) (wrongNumber r) h .0) in
     record { even = f .whole; most = omega (arith, f .whole, f .within) }
 
 pub is-list : (r : List Float) (tol : Float) → passed (ofList r tol) ≡ true → length r % 2 ≡ 0
 unfolding ofList
 is-list r tol h =
-    fine (pointsExtent r) 0 (row-parts (fault (pointsExtent r) 0) (first (wrongInfinite r) (wrongTolerance tol)) h .0) .whole
+    fine (pointsExtent r) 0 (row-parts (listFault (pointsExtent r) 0) (first (wrongInfinite r) (wrongTolerance tol)) h .0) .whole
 
 is-polygon : (r : List Float) → Fine (polygonExtent r) → Polygon r
 is-polygon r f = record { even = f .whole; least = omega (arith, f .whole, f .enough); most = omega (arith, f .whole, f .within) }
 
 -- two polygons that are not refused
 module _ (a b : List Float) (h : passed (ofTwoPolygons a b) ≡ true) where
-  parts : (passed (first (fault (polygonExtent a) 0) (fault (polygonExtent b) 1)) ≡ true) × (passed (first (wrongNumber a) (wrongNumber b)) ≡ true)
+  parts : (passed (first (listFault (polygonExtent a) 0) (listFault (polygonExtent b) 1)) ≡ true) × (passed (first (wrongNumber a) (wrongNumber b)) ≡ true)
   unfolding ofTwoPolygons
-  parts = row-parts (first (fault (polygonExtent a) 0) (fault (polygonExtent b) 1)) (first (wrongNumber a) (wrongNumber b)) h
+  parts = row-parts (first (listFault (polygonExtent a) 0) (listFault (polygonExtent b) 1)) (first (wrongNumber a) (wrongNumber b)) h
 
   pub two-polygons : Polygon a × Polygon b
   two-polygons =
-      let p = row-parts (fault (polygonExtent a) 0) (fault (polygonExtent b) 1) (parts .0) in
+      let p = row-parts (listFault (polygonExtent a) 0) (listFault (polygonExtent b) 1) (parts .0) in
       (is-polygon a (fine (polygonExtent a) 0 (p .0)), is-polygon b (fine (polygonExtent b) 1 (p .1)))
 
   pub two-bounded : (coordinates a ≡ true) × (coordinates b ≡ true)
@@ -105,10 +105,10 @@ pub fit-polygons : (a b : List Float) (from : Point) (visited : List Float) (tol
     → p ≡ passed n → p ≡ true → Polygon a × Polygon b
 unfolding ofFit fitLengths
 fit-polygons a b from visited tol e h t =
-    let last = fault (pointsExtent visited) 2 in
+    let last = listFault (pointsExtent visited) 2 in
     let lists = row-parts (fitLengths a b visited) (fitNumbers a b from visited tol) (rw (← e, ← h) t) .0 in
-    let p = row-parts (fault (polygonExtent a) 0) (first (fault (polygonExtent b) 1) last) lists in
-    let q = row-parts (fault (polygonExtent b) 1) last (p .1) in
+    let p = row-parts (listFault (polygonExtent a) 0) (first (listFault (polygonExtent b) 1) last) lists in
+    let q = row-parts (listFault (polygonExtent b) 1) last (p .1) in
     (is-polygon a (fine (polygonExtent a) 0 (p .0)), is-polygon b (fine (polygonExtent b) 1 (q .0)))
 
 -- both rooms are long enough

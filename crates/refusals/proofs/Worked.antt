@@ -6,8 +6,9 @@ use lib.Ieee.{Float, nan, inf, lt, le, eq, ofBits}
 use Rattle.scalar.specs.Float.{float, f0, f1}
 use mathlib.Core.List.{[], _∷_}
 use Rattle.refusals.specs.Refusals.{none, refuse}
-use Rattle.refusals.specs.Bounds.{coordinate, finite, toleranceOk}
+use Rattle.refusals.specs.Bounds.{coordinate, every, finite, toleranceOk}
 use Rattle.refusals.specs.Lists.{Extent, faultOf}
+use Rattle.refusals.specs.Rows.{ofTwoPolygons}
 use Rattle.refusals.specs.declared.Refusal.{Refusal}
 
 -- 1,000,000 and the next f64
@@ -53,6 +54,11 @@ one = refl
 past-one : toleranceOk (float 0x3ff0_0000_0000_0001) ≡ false
 unfolding lt le eq ofBits
 past-one = refl
+
+-- a number out of bounds in the first list, and too few vertices in the second: the lists' faults come first
+numbers-last : ofTwoPolygons (inf false ∷ f0 ∷ f1 ∷ f0 ∷ f0 ∷ f1 ∷ []) (f0 ∷ f0 ∷ f1 ∷ f1 ∷ []) ≡ refuse 8 1
+unfolding ofTwoPolygons every coordinate
+numbers-last = refl
 
 -- ---- two polygons of so many numbers
 

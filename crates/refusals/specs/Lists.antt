@@ -17,8 +17,8 @@ pub record Extent : Type 0 where
   pub size : ℕ
 
 -- a list in its place
-abbrev pub fault : Extent → ℕ → Refusal
-fault e at =
+abbrev pub listFault : Extent → ℕ → Refusal
+listFault e at =
     let entries = e .size / e .width in
     firstOf
     (unless (eqb (e .size % e .width) 0) refusedLength at
@@ -29,7 +29,7 @@ fault e at =
 -- lists one after the other, the first of them in this place
 abbrev pub faultsFrom : ℕ → List Extent → List Refusal
 faultsFrom at [] = []
-faultsFrom at (e ∷ es) = fault e at ∷ faultsFrom (suc at) es
+faultsFrom at (e ∷ es) = listFault e at ∷ faultsFrom (suc at) es
 
 -- a row of lists
 abbrev pub faultOf : List Extent → Refusal

@@ -7,7 +7,7 @@ use lib.Ieee.{Float}
 use Rattle.plane.specs.declared.Point.{Point}
 use Rattle.refusals.specs.Refusals.{firstOf}
 use Rattle.refusals.specs.Screens.{wrongSum, wrongNumber, wrongInfinite, wrongPosition, wrongPoint, wrongTolerance, wrongSettings, wrongWork, wrongResult, wrongFit}
-use Rattle.refusals.specs.Lists.{fault, faultOf, ringExtent, polygonExtent, pointsExtent, vectorsExtent, ringsExtent, countExtent}
+use Rattle.refusals.specs.Lists.{listFault, faultOf, ringExtent, polygonExtent, pointsExtent, vectorsExtent, ringsExtent, countExtent}
 use Rattle.refusals.specs.declared.Refusal.{Refusal}
 use Rattle.refusals.specs.declared.Settings.{Settings}
 
@@ -46,7 +46,7 @@ ofVectors vs = faultOf (vectorsExtent vs ∷ [])
 -- the sum; the coordinates
 unfoldable pub ofRings : List Float → List ℕ → Refusal
 ofRings xs ns =
-    firstOf (fault (ringsExtent ns) (length ns) ∷ faultOf (map countExtent ns) ∷ wrongSum xs ns ∷ wrongNumber xs ∷ [])
+    firstOf (listFault (ringsExtent ns) (length ns) ∷ faultOf (map countExtent ns) ∷ wrongSum xs ns ∷ wrongNumber xs ∷ [])
 
 -- ---- two polygons and what is lent with them
 

@@ -14,13 +14,13 @@ ghost use mathlib.Core.Path.{_≡_};
 ghost use mathlib.Core.List.{map};
 ghost use Prim.Native.Nat.{_≤_};
 ghost use lib.ListN.{length};
-ghost use Rattle.refusals.specs.Lists.{Extent, fault, faultOf, ringExtent, polygonExtent, pointsExtent};
+ghost use Rattle.refusals.specs.Lists.{Extent, listFault, faultOf, ringExtent, polygonExtent, pointsExtent};
 ghost use Rattle.refusals.specs.Lists.{vectorsExtent, ringsExtent, countExtent};
 
 // A list of size numbers, of which each entry has so many, in its place.
 fn fault(size: usize, width: usize, least: usize, most: usize, place: u64) -> Refusal
     requires { ⌜ 1 ≤ width ⌝ }
-    ensures { λ r. ⌜ r ≡ fault (record { width = width; least = least; most = most; size = size }) place ⌝ }
+    ensures { λ r. ⌜ r ≡ listFault (record { width = width; least = least; most = most; size = size }) place ⌝ }
 {
     if size % width != 0 {
         return Refusal::new(REFUSED_LENGTH, place);
@@ -34,35 +34,35 @@ fn fault(size: usize, width: usize, least: usize, most: usize, place: u64) -> Re
 
 // A ring of 0 to 256 vertices.
 pub fn ring(list: &[f64], place: u64) -> Refusal
-    ensures { λ r. ⌜ r ≡ fault (ringExtent (now (list .entry))) place ⌝ }
+    ensures { λ r. ⌜ r ≡ listFault (ringExtent (now (list .entry))) place ⌝ }
 {
     fault(list.len(), 2, 0, VERTICES_MOST, place)
 }
 
 // A polygon of 3 to 256 vertices.
 pub fn polygon(list: &[f64], place: u64) -> Refusal
-    ensures { λ r. ⌜ r ≡ fault (polygonExtent (now (list .entry))) place ⌝ }
+    ensures { λ r. ⌜ r ≡ listFault (polygonExtent (now (list .entry))) place ⌝ }
 {
     fault(list.len(), 2, VERTICES_LEAST, VERTICES_MOST, place)
 }
 
 // A list of 0 to 10,001 points.
 pub fn points(list: &[f64], place: u64) -> Refusal
-    ensures { λ r. ⌜ r ≡ fault (pointsExtent (now (list .entry))) place ⌝ }
+    ensures { λ r. ⌜ r ≡ listFault (pointsExtent (now (list .entry))) place ⌝ }
 {
     fault(list.len(), 2, 0, POINTS_MOST, place)
 }
 
 // Vectors of three numbers, as many as there are.
 pub fn vectors(list: &[f64], place: u64) -> Refusal
-    ensures { λ r. ⌜ r ≡ fault (vectorsExtent (now (list .entry))) place ⌝ }
+    ensures { λ r. ⌜ r ≡ listFault (vectorsExtent (now (list .entry))) place ⌝ }
 {
     fault(list.len(), 3, 0, list.len(), place)
 }
 
 // The number of a book's rings, in the place of that number.
 pub fn rings(counts: &[u32]) -> Refusal
-    ensures { λ r. ⌜ r ≡ fault (ringsExtent (now (counts .entry))) (length (now (counts .entry))) ⌝ }
+    ensures { λ r. ⌜ r ≡ listFault (ringsExtent (now (counts .entry))) (length (now (counts .entry))) ⌝ }
 {
     fault(
         counts.len(),
@@ -75,7 +75,7 @@ pub fn rings(counts: &[u32]) -> Refusal
 
 // A ring of a book, by its vertex count.
 fn count(n: u32, place: u64) -> Refusal
-    ensures { λ r. ⌜ r ≡ fault (countExtent n) place ⌝ }
+    ensures { λ r. ⌜ r ≡ listFault (countExtent n) place ⌝ }
 {
     fault(n as usize, 1, VERTICES_LEAST, VERTICES_MOST, place)
 }

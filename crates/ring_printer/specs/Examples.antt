@@ -7,6 +7,7 @@ use Rattle.print.specs.Digits.{digits, upTo}
 use Rattle.lines.specs.Lines.{refusalLine, pointLines}
 use Rattle.ring.specs.Ring.{pointAt}
 use Rattle.number_bytes.specs.Bytes.{numberOf}
+use Rattle.refusals.specs.Refusals.{tellsPlace}
 use Rattle.refusals.specs.Bounds.{coordinate}
 use Rattle.reading.specs.Reading.{ord, less, best, bestOf}
 use Rattle.refusals.specs.Rings.{total}
