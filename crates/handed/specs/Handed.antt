@@ -1,18 +1,17 @@
 -- What an exported function returns and what the cells behind its pointers hold afterwards, by the outcome of the call that it makes. Definitions only.
 use Prim.Native.Nat.{ℕ}
 use mathlib.Core.Bool.{Bool, cond}
-use mathlib.Core.Option as option
-use mathlib.Core.Option.{Option, some}
+use mathlib.Core.Option.{Option, none, some}
 use lib.Ieee.{Float}
 use Rattle.plane.specs.declared.Point.{Point}
 use Rattle.collision.specs.Calls.{Values}
 use Rattle.refusals.specs.Answers.{Outcome, answers, refuses}
-use Rattle.refusals.specs.Refusals.{none, tellsPlace}
+use Rattle.refusals.specs.Refusals as refusal
 use Rattle.refusals.specs.declared.Refusal.{Refusal}
 
 -- the refusal of a call: none where it answers
 unfoldable pub refusalIn : {A : Type 0} → Outcome A → Refusal
-refusalIn (answers a) = none
+refusalIn (answers a) = refusal.none
 refusalIn (refuses r) = r
 
 -- its number
@@ -21,7 +20,7 @@ returned o = refusalIn o .number
 
 -- a cell for a place: that of a refusal that tells one, and else what the cell held
 unfoldable pub placeOf : Refusal → ℕ → ℕ
-placeOf r held = cond (tellsPlace (r .number)) (r .place) held
+placeOf r held = cond (refusal.tellsPlace (r .number)) (r .place) held
 
 abbrev pub toldPlace : {A : Type 0} → Outcome A → ℕ → ℕ
 toldPlace o held = placeOf (refusalIn o) held
@@ -33,7 +32,7 @@ told say (refuses r) held = held
 
 -- a cell for what was found: where nothing was, what it held
 unfoldable pub toldFound : {A B : Type 0} → (A → B) → Outcome (Option A) → B → B
-toldFound say (answers option.none) held = held
+toldFound say (answers none) held = held
 toldFound say (answers (some a)) held = say a
 toldFound say (refuses r) held = held
 
@@ -47,7 +46,7 @@ flag b = cond b 1 0
 
 -- 1 where something was found, 0 where nothing was
 unfoldable pub isFound : {A : Type 0} → Option A → ℕ
-isFound option.none = 0
+isFound none = 0
 isFound (some a) = 1
 
 -- a point's coordinates
