@@ -10,11 +10,11 @@ use lib.Ieee.{Float}
 use borrow.Author.Tests.{le-leb}
 use Rattle.refusals.specs.Refusals.{passed, unless}
 use Rattle.reading.specs.Reading.{BitForBit, leastReading}
-use Rattle.number_bytes.specs.Bytes.{Each, Byte}
+use Rattle.number_bytes.specs.Bytes.{Each, Byte, Formed}
 use Rattle.refusals.specs.Rings.{ringsMost}
 use Rattle.book_layout.specs.Layout.{numbersMost, bookOf, SameOutlines, coordsOf, countsOf, ringsOf}
 use Rattle.book_layout.specs.Faults.{_passes, bookCheck}
-use Rattle.book_layout.specs.Writer.{ringsFrom, writeRefusal, Formed, Writes}
+use Rattle.book_layout.specs.Writer.{ringsFrom, writeRefusal, Writes}
 use Rattle.book_layout.specs.Reader.{numbersOf, holdsAll, readRefusal}
 use Rattle.refusals.proofs.Sized.{row-parts}
 use Rattle.book_layout.proofs.Books.{same-book, least-accepted}

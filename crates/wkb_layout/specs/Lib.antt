@@ -3,3 +3,4 @@ pub mod Layout
 pub mod Faults
 pub mod Reader
 pub mod Writer
+pub mod Drawing

@@ -1,4 +1,6 @@
 // The layout of a drawing in well-known binary: sizes, codes, and numbers in either byte order.
+use number_bytes::big4;
+use number_bytes::big8;
 use number_bytes::number4;
 use number_bytes::number8;
 ghost use mathlib.Core.Path.{_≡_};
@@ -26,18 +28,34 @@ pub const HEAD_BYTES: usize = 13;
 pub const POLYGON_TYPE: u64 = 3;
 
 // The points of a ring, its closing point among them.
-pub const POINTS_LEAST: usize = 4;
+pub const POINTS_LEAST: u64 = 4;
 
-pub const POINTS_MOST: usize = 257;
+pub const POINTS_MOST: u64 = 257;
 
-// How the bytes of a number follow each other: from the highest, or from the lowest.
+// How the bytes of a number follow each other: from the highest on, or from the lowest.
 pub enum Order {
     Big,
     Little,
 }
 
-fn wide(x: u8) -> u64
-    ensures { λ r. ⌜ (r ≡ x) × (r < 256) ⌝ }
+// The field in the four bytes from f[at] on.
+pub fn code(order: Order, f: &[u8], at: usize) -> u64
+    requires { ⌜ at + codeBytes ≤ length (now f) ⌝ }
+    ensures { λ r. ⌜ (r ≡ readAs order (take codeBytes (drop at (now (f .entry))))) × (r < 4294967296) ⌝ }
 {
-    x as u64
+    match order {
+        Order::Big => big4(f, at),
+        Order::Little => number4(f, at),
+    }
+}
+
+// The bit pattern of the coordinate in the eight bytes from f[at] on.
+pub fn bits(order: Order, f: &[u8], at: usize) -> u64
+    requires { ⌜ at + numberBytes ≤ length (now f) ⌝ }
+    ensures { λ r. ⌜ r ≡ readAs order (take numberBytes (drop at (now (f .entry)))) ⌝ }
+{
+    match order {
+        Order::Big => big8(f, at),
+        Order::Little => number8(f, at),
+    }
 }
