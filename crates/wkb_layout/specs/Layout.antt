@@ -69,11 +69,12 @@ unfoldable pub numbersAs : Order → List ℕ → List ℕ
 numbersAs o [] = []
 numbersAs o (c ∷ cs) = writtenAs o numberBytes c ++ numbersAs o cs
 
+-- the byte order, the type, one ring, and how many points it has
+abbrev pub headOf : Order → ℕ → List ℕ
+headOf o points = codeOf o ∷ (writtenAs o codeBytes polygonType ++ (writtenAs o codeBytes 1 ++ writtenAs o codeBytes points))
+
 unfoldable pub wkbOf : Order → List ℕ → List ℕ
-wkbOf o cs =
-    codeOf o
-    ∷ (writtenAs o codeBytes polygonType
-    ++ (writtenAs o codeBytes 1 ++ (writtenAs o codeBytes (length cs / 2) ++ numbersAs o cs)))
+wkbOf o cs = headOf o (length cs / 2) ++ numbersAs o cs
 
 -- ---- what a file holds
 
