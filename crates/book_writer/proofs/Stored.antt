@@ -16,7 +16,8 @@ use Rattle.number_bytes.proofs.Bytes.{length-bytesOf}
 use Rattle.refusals.specs.Rings.{verticesLeast, verticesMost, within, total, sizedAll}
 use Rattle.book_layout.specs.Layout.{fieldBytes, vertexBytes, entryBytes, entries, layout, bookOf}
 use Rattle.book_layout.specs.Writer.{ringsFrom, bookSize}
-use Rattle.book_layout.proofs.Bytes.{laid-is, length-entries}
+use Rattle.ring.proofs.Emit.{laid-is}
+use Rattle.book_layout.proofs.Bytes.{length-entries}
 use Rattle.book_layout.proofs.Checks.{body-total}
 use Rattle.laws.proofs.Both.{both}
 use Rattle.refusals.proofs.Counts.{is-within}

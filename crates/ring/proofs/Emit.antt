@@ -8,7 +8,7 @@ use native.Mathlib.Nat.{add-assoc}
 use native.Mathlib.Numerals.{add-one}
 use lib.ListN.{length, take, drop, getD, set, length-append}
 use Rattle.ring.specs.Room.{laid}
-use lib.Seq.{drop-cons, set-at, take-suc, length-take-le}
+use lib.Seq.{sets, sets-eq, drop-cons, set-at, take-suc, length-take-le}
 
 module _ {A : Type 0} where
   -- a store at k adds one element
@@ -32,3 +32,7 @@ module _ {A : Type 0} where
 
   pub emit-all : (l d room : List A) (i len : ℕ) → i ≤ len → len ≤ i → len ≤ length l → room ≡ take i l ++ drop i d → room ≡ laid (take len l) d
   emit-all l d room i len h k fits e = let q : i ≡ len = omega arith in rw (length-take-le len l fits, ← q) e
+
+-- a list stored at the front of a room that it fits
+pub laid-is : {A : Type 0} (l room : List A) → length l ≤ length room → sets room 0 l ≡ laid l room
+laid-is l room h = let e : 0 + length l ≡ length l = omega arith in sets-eq l room 0 (omega arith) ∙ ap (λ (j : ℕ). l ++ drop j room) e
