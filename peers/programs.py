@@ -22,14 +22,21 @@ class Form(NamedTuple):
     flat: bool = False  # leaves Z and M out
 
 
+def in_both(little, big, *forms):
+    """Each form in both byte orders, whose words take the place of ORDER."""
+    return [form._replace(command=form.command.replace("ORDER", word)) for form in forms for word in (little, big)]
+
+
 class Geos:
     name = "GEOS"
     lacks = {"M", "ZM", "kin of polygons", "not closed"}
-    forms = [
-        Form(f"wkb.dumps({{}}, {more}big_endian={big})", "srid" in more, "output" in more)
-        for more in ("", "srid=4326, ", "output_dimension=2, ")
-        for big in (False, True)
-    ]
+    forms = in_both(
+        "False",
+        "True",
+        Form("wkb.dumps({}, big_endian=ORDER)"),
+        Form("wkb.dumps({}, srid=4326, big_endian=ORDER)", srid=True),
+        Form("wkb.dumps({}, output_dimension=2, big_endian=ORDER)", flat=True),
+    )
 
     def __init__(self, stack):
         import shapely
@@ -58,11 +65,7 @@ class Geos:
 class Gdal:
     name = "GDAL"
     lacks = set()
-    forms = [
-        Form(f"{{}}.{export}(ogr.{order})")
-        for export in ("ExportToWkb", "ExportToIsoWkb")
-        for order in ("wkbNDR", "wkbXDR")
-    ]
+    forms = in_both("wkbNDR", "wkbXDR", Form("{}.ExportToWkb(ogr.ORDER)"), Form("{}.ExportToIsoWkb(ogr.ORDER)"))
 
     def __init__(self, stack):
         from osgeo import gdal, ogr
@@ -93,17 +96,15 @@ class Gdal:
 class Postgis:
     name = "PostGIS"
     lacks = set()
-    forms = [
-        Form(f"{call}({given}, '{order}')", "ST_AsEWKB(ST_SetSRID({}, 4326" in f"{call}({given}", "Force2D" in given)
-        for call, given in (
-            ("ST_AsBinary", "{}"),
-            ("ST_AsBinary", "ST_SetSRID({}, 4326)"),
-            ("ST_AsBinary", "ST_Force2D({})"),
-            ("ST_AsEWKB", "ST_SetSRID({}, 0)"),
-            ("ST_AsEWKB", "ST_SetSRID({}, 4326)"),
-        )
-        for order in ("NDR", "XDR")
-    ]
+    forms = in_both(
+        "NDR",
+        "XDR",
+        Form("ST_AsBinary({}, 'ORDER')"),
+        Form("ST_AsBinary(ST_SetSRID({}, 4326), 'ORDER')"),
+        Form("ST_AsBinary(ST_Force2D({}), 'ORDER')", flat=True),
+        Form("ST_AsEWKB(ST_SetSRID({}, 0), 'ORDER')"),
+        Form("ST_AsEWKB(ST_SetSRID({}, 4326), 'ORDER')", srid=True),
+    )
 
     def __init__(self, stack):
         self.ask = stack.enter_context(server())
