@@ -6,7 +6,7 @@
 #![allow(clippy::too_many_arguments)]
 
 /// The interface that is declared here: `BYR_ABI_VERSION` of the header.
-pub const ABI_VERSION: u32 = 2;
+pub const ABI_VERSION: u32 = 3;
 
 /// Panics unless the archive has the interface that is declared here.
 pub fn hold_interface() {
@@ -310,6 +310,22 @@ functions! {
         counts: *mut u32,
         counts_n: usize,
         rings: *mut u64,
+        place: *mut u64,
+    ) -> u32;
+    fn byr_read_wkb(
+        wkb: *const u8,
+        n: usize,
+        room: *mut f64,
+        room_n: usize,
+        vertices: *mut u64,
+        place: *mut u64,
+    ) -> u32;
+    fn byr_write_wkb(
+        ring: *const f64,
+        n: usize,
+        room: *mut u8,
+        room_n: usize,
+        length: *mut u64,
         place: *mut u64,
     ) -> u32;
 }
