@@ -101,7 +101,8 @@ fn sized(seeded: &mut Seeded, place: u64) -> Option<Case> {
 }
 
 /// A record of a long run: by turns a ring of every size, four small files with a
-/// byte changed, and a seeded case, which also follows the last of the others.
+/// byte changed, and a seeded case, which also follows the last of the others: 5,000
+/// records have them all.
 fn long(seeded: &mut Seeded, place: u64) -> Vec<u64> {
     let (round, turn) = (place / 6, place % 6);
     let case = match turn {
