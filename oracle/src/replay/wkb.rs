@@ -15,6 +15,7 @@ mod lent;
 mod sample;
 
 use super::{bits, byte_room, float_room, once, packed, refused, List};
+use crate::refusals::MOST_VERTICES;
 use crate::seeded::Seeded;
 use crate::shapes::{closed, seeded_ring};
 use crate::wkb::{file_of, read_wkb, write_wkb, Order, HEAD, POINT};
@@ -93,10 +94,12 @@ pub fn records() -> Vec<Vec<u64>> {
 /// the case with this place among them, nothing past the last.
 fn sized(seeded: &mut Seeded, place: u64) -> Option<Case> {
     let vertices = 3 + place as usize / 3;
-    let ring = seeded_ring(seeded, vertices);
-    (vertices <= 256).then(|| match place % 3 {
-        0 => Case::writing(&ring, length(ring.len())),
-        turn => Case::reading_closed(ORDERS[turn as usize - 1], &ring),
+    (vertices <= MOST_VERTICES).then(|| {
+        let ring = seeded_ring(seeded, vertices);
+        match place % 3 {
+            0 => Case::writing(&ring, length(ring.len())),
+            turn => Case::reading_closed(ORDERS[turn as usize - 1], &ring),
+        }
     })
 }
 
