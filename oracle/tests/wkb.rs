@@ -191,7 +191,7 @@ fn other_geometries_are_refused() {
         wrong(&fields(3, &[0]), 0); // an empty polygon has 9 bytes
         wrong(&[fields(1, &[]), vec![0; 16]].concat(), 1); // a point
         wrong(&[fields(1003, &[1, 4]), vec![0; 96]].concat(), 1); // with heights
-        wrong(&[fields(0x2000_0003, &[4326, 1, 4]), vec![0; 64]].concat(), 1); // with a reference system
+        wrong(&[fields(0x2000_0003, &[4326, 1, 4]), vec![0; 64]].concat(), 1); // with an SRID
         wrong(&[fields(3, &[2, 4]), vec![0; 132]].concat(), 5); // with a hole
         wrong(&fields(6, &[0, 0]), 1); // no polygons together
     }

@@ -223,6 +223,29 @@ fn the_long_run_has_rings_of_every_size() {
 }
 
 #[test]
+fn edge_numbers_stand_in_every_coordinate() {
+    let files: BTreeSet<_> = of(READ, records()).iter().map(|record| file(record)).collect();
+    let rings: BTreeSet<_> =
+        of(WRITE, records()).iter().map(|r| r[HEADER..HEADER + r[1] as usize].to_vec()).collect();
+    let (points, ring) =
+        ([4.0, 0.5, 0.0, 3.0, -0.0, 1.0, 4.0, 0.5], [4.0, 0.0, 0.0, 3.0, 0.0, 1.0]);
+    let past = 1e6_f64.next_up();
+    for number in [1e6, -1e6, past, -past, f64::INFINITY, f64::NEG_INFINITY, f64::NAN, 5e-324, -0.0]
+    {
+        for place in 0..8 {
+            let mut points = points;
+            points[place] = number;
+            assert!(ORDERS.iter().all(|&order| files.contains(&file_of(order, &points))));
+        }
+        for place in 0..6 {
+            let mut ring = ring.map(f64::to_bits).to_vec();
+            ring[place] = number.to_bits();
+            assert!(rings.contains(&ring), "{place} {number}");
+        }
+    }
+}
+
+#[test]
 fn zeros_of_both_signs_close_a_ring_and_the_first_point_is_kept() {
     let zeros = [0.0, -0.0];
     let read = of(READ, records());

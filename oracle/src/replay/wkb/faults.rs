@@ -91,8 +91,9 @@ impl Fault {
     }
 }
 
-/// What can be wrong with the file of the triangle, by where it is, the length
-/// last. The first three of each place are also put beside those of the others.
+/// What can be wrong with the file of the triangle, or a zero's sign be another, by
+/// where it is, the length last. The first three of each place are also put beside
+/// those of the others.
 fn faults(order: Order) -> Vec<Vec<Fault>> {
     let fields: [(usize, &[u32]); 3] = [
         (TYPE, &[1, 6, 0x0300_0000, 0, 2, 4, 1003, 0x8000_0003, 0x2000_0003]),

@@ -75,8 +75,8 @@ fn coordinate(seeded: &mut Seeded, file: &[u8]) -> usize {
 
 /// Changes the number in this place to one near it: of the other sign, or a bit off.
 fn nudge(seeded: &mut Seeded, order: Order, file: &mut [u8], place: usize) {
-    let far = if order == Order::Big { 0 } else { 7 };
-    let (byte, mask) = if seeded.below(2) == 0 { (far, 0x80) } else { (7 - far, 1) };
+    let sign = if order == Order::Big { 0 } else { 7 };
+    let (byte, mask) = if seeded.below(2) == 0 { (sign, 0x80) } else { (7 - sign, 1) };
     if let Some(there) = file.get_mut(place + byte) {
         *there ^= mask;
     }
