@@ -121,12 +121,11 @@ fn closing(f: &[u8], n: usize) -> Refusal
     ensures { λ r. ⌜ r ≡ wkbFault (closes (now (f .entry))) (closingAt (now (f .entry))) ⌝ }
 {
     let last = HEAD_BYTES + POINT_BYTES * n;
-    if number(f, HEAD_BYTES) != number(f, last) {
-        return Refusal::new(REFUSED_WKB, last as u64);
-    }
-    let y = number(f, HEAD_BYTES + NUMBER_BYTES);
-    let closed = y == number(f, last + NUMBER_BYTES);
-    unless(closed, REFUSED_WKB, last as u64)
+    let x = number(f, HEAD_BYTES) == number(f, last);
+    let y = number(f, HEAD_BYTES + NUMBER_BYTES) == number(f, last + NUMBER_BYTES);
+    let by_x = unless(x, REFUSED_WKB, last as u64);
+    let by_y = unless(y, REFUSED_WKB, last as u64);
+    first(by_x, by_y)
 }
 
 // All checks of a file.
