@@ -1,12 +1,11 @@
 -- `wkb_writer::store::put_drawing` meets its contract: three runs of stores, one after the other. Assumes nothing.
 use Prim.Native.Nat.{ℕ, _+_, _*_}
-use mathlib.Core.Path.{_≡_, sym, ap, _∙_}
+use mathlib.Core.Path.{ap, _∙_}
 use mathlib.Core.List.{List}
 use native.Mathlib.Omega.{arith}
 use borrow.Author.Needs.{needs}
-use lib.ListN.{length, take}
-use lib.Seq.{sets, length-take-le}
-use lib.Ieee.{Float}
+use lib.ListN.{length, take, length-take}
+use lib.Seq.{sets}
 use Rattle.wkb_layout.specs.Layout.{numberBytes, headBytes}
 use Rattle.wkb_writer.proofs.Storing.{numbers}
 use Rattle.wkb_writer.proofs.Stored.{three-runs}
@@ -28,22 +27,17 @@ put-head-requires c κs = search needs
 put-numbers-requires : tie.Need-put-numbers-requires
 put-numbers-requires c κs = search needs
 
--- the ring, and the part that closes it
-module _ (n : tie.After-put-numbers) where
-  abbrev s : tie.Start
-  s = n .before .before .before .before .before .before .before .before
+sub-put-numbers : tie.Need-sub-put-numbers
+sub-put-numbers c = search needs
 
-  abbrev xs : List Float
-  xs = s .args .xs .now
+part-put-numbers-start : tie.Need-part-put-numbers-start
+part-put-numbers-start c = search needs
 
-  first-vertex : length (take 2 xs) ≡ 2
-  first-vertex = length-take-le 2 xs (omega arith)
-
-slice-aggregate-put-numbers : tie.Need-slice-aggregate-put-numbers
-slice-aggregate-put-numbers c = sym (first-vertex (c .before .before .before))
+part-put-numbers-end : tie.Need-part-put-numbers-end
+part-put-numbers-end c = search needs
 
 put-numbers-requires-2 : tie.Need-put-numbers-requires-2
-put-numbers-requires-2 c κs = let l = first-vertex (c .before .before .before .before) in ((omega arith), (omega arith))
+put-numbers-requires-2 c κs = ((simp length-take (omega arith)), (simp length-take (omega arith)))
 
 mul-result : tie.Need-mul-result
 mul-result c = search needs
@@ -59,12 +53,14 @@ returns c =
     let l = c .before .before in
     let n = l .before .before .before .before .before in
     let h = n .before .before .before .before in
-    let last = headBytes + numberBytes * length (xs n) in
-    let e = n .put-numbers .ensures ∙ ap (λ (r : List ℕ). sets r headBytes (numbers (xs n))) (h .put-head .ensures) in (
+    let s = h .before .before .before .before in
+    let xs = s .args .xs .now in
+    let last = headBytes + numberBytes * length xs in
+    let e = n .put-numbers .ensures ∙ ap (λ (r : List ℕ). sets r headBytes (numbers xs)) (h .put-head .ensures) in (
       (omega arith),
       l .put-numbers2 .ensures
-          ∙ ap (λ (r : List ℕ). sets r last (numbers (take 2 (xs n)))) e
-          ∙ three-runs (xs n) (s n .args .room .now) (s n .pre .0 .0) (s n .pre .0 .1) (s n .pre .1),
+          ∙ ap (λ (r : List ℕ). sets r last (numbers (take 2 xs))) e
+          ∙ three-runs xs (s .args .room .now) (s .pre .0 .0) (s .pre .0 .1) (s .pre .1),
     )
 
 pub put-drawing-spec : {M : Type 1} → statement M
@@ -76,7 +72,9 @@ put-drawing-spec =
     add-put-head
     put-head-requires
     put-numbers-requires
-    slice-aggregate-put-numbers
+    sub-put-numbers
+    part-put-numbers-start
+    part-put-numbers-end
     put-numbers-requires-2
     mul-result
     add-result
