@@ -8,15 +8,10 @@ use lib.ListN.{length, getD, drop, set, drop-of-length-le}
 use lib.Seq.{sets, drop-cons}
 use lib.Ieee.{Float, nan, binary64, toBits}
 use Rattle.number_bytes.specs.Bytes.{bytesOf}
+use Rattle.ring.proofs.Emit.{sets-append}
 use Rattle.number_bytes.proofs.Bytes.{length-bytesOf}
 use Rattle.wkb_layout.specs.Layout.{codeBytes, numberBytes, typeAt, ringsAt, pointsAt, polygonType, writtenAs, numbersAs, headOf}
 use Rattle.wkb_layout.specs.declared.Order.the-variants.{Little}
-
-pub sets-append : {A : Type 0} (l : List A) (i : ℕ) (u v : List A) → sets l i (u ++ v) ≡ sets (sets l i u) (i + length u) v
-sets-append l i [] v = ap (λ (k : ℕ). sets l k v) (omega arith)
-sets-append l i (a ∷ u) v =
-    let e : suc i + length u ≡ i + suc (length u) = omega arith in
-    sets-append (set l i a) (suc i) u v ∙ ap (λ (k : ℕ). sets (sets (set l i a) (suc i) u) k v) e
 
 -- ---- `put_head`
 
