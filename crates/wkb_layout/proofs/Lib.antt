@@ -1,3 +1,6 @@
 -- The modules that belong to no one function.
 pub mod Ordered
 pub mod Numbers
+pub mod Patterns
+pub mod Rings
+pub mod Checks
