@@ -4,3 +4,5 @@ pub mod Numbers
 pub mod Patterns
 pub mod Rings
 pub mod Checks
+pub mod ReadBack
+pub mod Drawn
