@@ -6,3 +6,4 @@ pub mod Rings
 pub mod Checks
 pub mod ReadBack
 pub mod Drawn
+pub mod Found
