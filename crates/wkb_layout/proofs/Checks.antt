@@ -117,3 +117,14 @@ module _ (f : List ℕ) where
       let t5 : within pointsLeast pointsMost points ≡ true = within-true pointsLeast pointsMost points (c .least) (c .most) in
       let t6 : eqb (length f) (headBytes + pointBytes * points) ≡ true = eq-eqb (length f) (headBytes + pointBytes * points) (c .long) in
       rw (t1, t2, t3, t4, t5, t6, n, c .closed) refl
+
+-- the check goes by what is read: two files of which the same is read have the same first fault
+pub same-check : (f g : List ℕ) → length f ≡ length g → getD f 0 0 ≤ 1 → getD g 0 0 ≤ 1 → codeIn f typeAt ≡ codeIn g typeAt
+    → codeIn f ringsAt ≡ codeIn g ringsAt → codeIn f pointsAt ≡ codeIn g pointsAt → allNumbers f ≡ allNumbers g → closes f ≡ closes g
+    → wkbCheck f ≡ wkbCheck g
+unfolding wkbCheck
+same-check f g l a b t r p n c =
+    let m : numbers f ≡ numbers g = numbers-are f ∙ ap (patternsCheck headBytes) n ∙ sym (numbers-are g) in
+    let ta : leb (getD f 0 0) 1 ≡ true = le-leb (getD f 0 0) 1 a in
+    let tb : leb (getD g 0 0) 1 ≡ true = le-leb (getD g 0 0) 1 b in
+    rw (m, ta, tb, l, t, r, c, p) refl

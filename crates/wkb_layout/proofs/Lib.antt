@@ -7,3 +7,5 @@ pub mod Checks
 pub mod ReadBack
 pub mod Drawn
 pub mod Found
+pub mod Alike
+pub mod Theorems
