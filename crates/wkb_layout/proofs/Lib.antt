@@ -9,3 +9,4 @@ pub mod Drawn
 pub mod Found
 pub mod Alike
 pub mod Theorems
+pub mod Worked
