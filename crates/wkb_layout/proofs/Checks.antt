@@ -25,11 +25,11 @@ held ok at h = holds ok refusedWkb at refl h
 -- ---- the coordinates
 
 -- the check of coordinates by their bit patterns, the first of them at the byte `at`
-unfoldable pub patternsCheck : ℕ → List ℕ → Refusal
+unfoldable patternsCheck : ℕ → List ℕ → Refusal
 patternsCheck at [] = none
 patternsCheck at (c ∷ cs) = firstOf (wkbFault (coordinate (ofBits binary64 c)) at ∷ patternsCheck (at + numberBytes) cs ∷ [])
 
-pub by-patterns : (o : Order) (k at : ℕ) (f : List ℕ) → numbersCheck o k at f ≡ patternsCheck at (numbersIn o k f)
+by-patterns : (o : Order) (k at : ℕ) (f : List ℕ) → numbersCheck o k at f ≡ patternsCheck at (numbersIn o k f)
 unfolding numbersCheck patternsCheck numbersIn
 by-patterns o zero at f = refl
 by-patterns o (suc k) at f =
