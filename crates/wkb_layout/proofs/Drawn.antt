@@ -11,7 +11,7 @@ use lib.Ieee.{Float, nan, binary64, ofBits, toBits}
 use Rattle.number_bytes.specs.Bytes.{Each}
 use Rattle.refusals.specs.Refusals.{none}
 use Rattle.refusals.specs.Bounds.{coordinate, every, coordinates}
-use Rattle.refusals.proofs.Sized.{Polygon}
+use Rattle.refusals.proofs.Sized.{Polygon, one-polygon}
 use Rattle.refusals.proofs.Every.{every-at}
 use Rattle.wkb_layout.specs.Layout.{codeBytes, pointsAt, wkbOf, codeIn, openVertices, openNumbers}
 use Rattle.wkb_layout.specs.Faults.{closes, wkbCheck}
@@ -20,7 +20,6 @@ use Rattle.wkb_layout.specs.Drawing.{closedBy, Drawing}
 use Rattle.wkb_layout.specs.declared.Order.{Order}
 use Rattle.wkb_layout.proofs.Numbers.{Pattern}
 use Rattle.wkb_layout.proofs.Patterns.{patterns-of, floats-back, float-at, formed-front, coordinates-append, equal-coordinate}
-use Rattle.wkb_layout.proofs.Rings.{taken-tells}
 use Rattle.wkb_layout.proofs.Checks.{Checked, passes, allNumbers}
 use Rattle.wkb_layout.proofs.ReadBack.{length-file, order-small, type-back, rings-back, points-back, numbers-in, closes-back}
 
@@ -47,7 +46,7 @@ module _ {f : List ℕ} (d : Drawing f) where
   g = wkbOf o cs
 
   ring : Polygon xs
-  ring = taken-tells xs (d .taken) .0
+  ring = one-polygon xs (d .taken) .0
 
   length-all : length all ≡ length xs + 2
   length-all = length-append xs (x ∷ y ∷ [])
@@ -69,7 +68,7 @@ module _ {f : List ℕ} (d : Drawing f) where
   all-bounded : coordinates all ≡ true
   unfolding every
   all-bounded =
-      let bound = taken-tells xs (d .taken) .1 in
+      let bound = one-polygon xs (d .taken) .1 in
       let cx : coordinate x ≡ true =
       equal-coordinate (getD xs 0 nan) x (d .closes-x) (every-at coordinate xs 0 bound (omega (arith, ring .least))) in
       let cy : coordinate y ≡ true =

@@ -21,7 +21,8 @@ use Rattle.wkb_layout.specs.declared.Order.{Order}
 use Rattle.wkb_layout.specs.declared.Order.the-variants.{Big, Little}
 use Rattle.wkb_layout.proofs.Ordered.{written-read}
 use Rattle.wkb_layout.proofs.Numbers.{Pattern, length-numbersIn, numbers-add, numbers-lt, numbers-again}
-use Rattle.wkb_layout.proofs.Patterns.{formed-of, bits-back, coordinates-append}
+use Rattle.wkb_layout.proofs.Patterns.{bits-back, coordinates-append}
+use Rattle.number_bytes.proofs.Formed.{formed-of}
 use Rattle.wkb_layout.proofs.Rings.{taken-of}
 use Rattle.wkb_layout.proofs.Checks.{Checked, allNumbers}
 use Rattle.wkb_layout.proofs.ReadBack.{after-points, after-one, file-is}

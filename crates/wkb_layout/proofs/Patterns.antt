@@ -2,19 +2,20 @@
 -- equals a coordinate is one. Assumes nothing.
 use Prim.Native.Nat.{ℕ, zero, suc, _*_, _≤_, _<_}
 use native.Mathlib.Omega.{arith}
-use mathlib.Core.Path.{_≡_, refl, sym, ap₂}
-use mathlib.Core.Bool.{Bool, true, false, not, _&&_, _||_, true≢false, Bool·beq}
+use mathlib.Core.Path.{_≡_, refl, ap₂}
+use mathlib.Core.Bool.{Bool, true, false, _&&_, _||_, Bool·beq}
 use mathlib.Core.List.{List, [], _∷_, _++_, map}
 use lib.ListN.{length, getD}
-use lib.Dec.{T, eqb}
-use lib.Ieee.{Float, nan, inf, fin, binary64, isNan, up, down, eq, ofBits, toBits}
-use lib.Ieee.Bits.{ofBits-toBits, toBits-lt, ofBits-fits, toBits-ofBits}
+use lib.Dec.{eqb}
+use lib.Ieee.{Float, nan, inf, fin, binary64, up, down, eq, ofBits, toBits}
+use lib.Ieee.Bits.{ofBits-toBits, toBits-lt, toBits-ofBits}
 use lib.Ieee.Fits.{down-pos}
 use lib.Ieee.Positive.{through}
 use borrow.Author.Tests.{le-leb, leb-true, eq-eqb, eqb-true}
 use Rattle.laws.proofs.Both.{both}
 use Rattle.number_bytes.specs.Bytes.{Each, Formed}
 use Rattle.refusals.specs.Bounds.{coordinate, every, coordinates}
+use Rattle.refusals.proofs.Coordinate.{coordinate-number}
 use Rattle.wkb_layout.proofs.Numbers.{Pattern}
 
 -- ---- there and back
@@ -23,20 +24,9 @@ pub patterns-of : (xs : List Float) → Formed xs → Each Pattern (map (toBits 
 patterns-of [] f = tt
 patterns-of (x ∷ xs) f = (toBits-lt binary64 x (f .0), patterns-of xs (f .1))
 
-pub formed-of : (cs : List ℕ) → Formed (map (ofBits binary64) cs)
-formed-of [] = tt
-formed-of (c ∷ cs) = (ofBits-fits binary64 c, formed-of cs)
-
 pub floats-back : (xs : List Float) → Formed xs → map (ofBits binary64) (map (toBits binary64) xs) ≡ xs
 floats-back [] f = refl
 floats-back (x ∷ xs) f = ap₂ (λ (a : Float) (l : List Float). a ∷ l) (ofBits-toBits binary64 x (f .0)) (floats-back xs (f .1))
-
--- a coordinate is no NaN
-coordinate-number : (x : Float) → coordinate x ≡ true → T (not (isNan x))
-unfolding coordinate isNan
-coordinate-number nan h = absurd (true≢false (sym h))
-coordinate-number (inf s) h = tt
-coordinate-number (fin s m e) h = tt
 
 pub bits-back : (cs : List ℕ) → Each Pattern cs → coordinates (map (ofBits binary64) cs) ≡ true
     → map (toBits binary64) (map (ofBits binary64) cs) ≡ cs

@@ -25,7 +25,7 @@ use Rattle.wkb_layout.specs.Drawing.{Drawing}
 use Rattle.wkb_layout.specs.declared.Order.the-variants.{Big, Little}
 use Rattle.wkb_layout.proofs.Numbers.{Pattern}
 use Rattle.wkb_layout.proofs.Patterns.{formed-append, equals-itself}
-use Rattle.wkb_layout.proofs.Rings.{taken-tells}
+use Rattle.refusals.proofs.Sized.{one-polygon}
 use Rattle.wkb_layout.proofs.Checks.{checked}
 use Rattle.wkb_layout.proofs.Drawn.{drawing-passes, drawing-vertices, drawing-ring}
 use Rattle.wkb_layout.proofs.Found.{found}
@@ -35,11 +35,11 @@ use Rattle.wkb_layout.proofs.Alike.{check-alike, vertices-alike, ring-a
 pub read-written : (xs : List Float) → Formed xs → passed (ofPolygon xs) ≡ true
     → (wkbCheck (drawingOf xs) ≡ none) × (openVertices (drawingOf xs) ≡ length xs / 2) × (openRing (drawingOf xs) ≡ xs)
 unfolding every
-read-written [] f h = absurd (omega (arith, taken-tells [] h .0 .least))
-read-written (x ∷ []) f h = absurd (omega (arith, taken-tells (x ∷ []) h .0 .least))
+read-written [] f h = absurd (omega (arith, one-polygon [] h .0 .least))
+read-written (x ∷ []) f h = absurd (omega (arith, one-polygon (x ∷ []) h .0 .least))
 read-written (x ∷ y ∷ xs) f h =
     let r = x ∷ y ∷ xs in
-    let p = both (coordinate x) (coordinates (y ∷ xs)) (taken-tells r h .1) in
+    let p = both (coordinate x) (coordinates (y ∷ xs)) (one-polygon r h .1) in
     let q = both (coordinate y) (coordinates xs) (p .1) in
     let g : Formed (closed r) = formed-append r (x ∷ y ∷ []) f (f .0, (f .1 .0, tt)) in
     let d : Drawing (drawingOf r) =

@@ -86,4 +86,3 @@ unfolding readWkbRefusal
 reads f room h =
     let p = row-parts (wkbCheck f) (shortRoom (2 * openVertices f) room) h in
     (p .0, leb-true (2 * openVertices f) room (holds (leb (2 * openVertices f) room) refusedRoom 0 refl (p .1)))
-

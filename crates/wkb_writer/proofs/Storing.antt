@@ -17,9 +17,9 @@ use Rattle.wkb_layout.specs.declared.Order.the-variants.{Little}
 
 pub head-runs : (room : List ℕ) (points : ℕ)
     → sets
-      (sets (sets (sets room 0 (bytesOf typeAt 1)) typeAt (bytesOf codeBytes polygonType)) ringsAt (bytesOf codeBytes 1))
-      pointsAt
-      (bytesOf codeBytes points)
+    (sets (sets (sets room 0 (bytesOf typeAt 1)) typeAt (bytesOf codeBytes polygonType)) ringsAt (bytesOf codeBytes 1))
+    pointsAt
+    (bytesOf codeBytes points)
     ≡ sets room 0 (headOf Little points)
 unfolding writtenAs bytesOf
 head-runs room points = refl
@@ -37,9 +37,9 @@ module _ (room : List ℕ) (xs : List Float) (at : ℕ) where
   pub numbers-on : (j : ℕ) → j < length xs
       → sets room (at + numberBytes * j) (numbers (drop j xs))
       ≡ sets
-        (sets room (at + numberBytes * j) (bytesOf numberBytes (toBits binary64 (getD xs j nan))))
-        (at + numberBytes * (j + 1))
-        (numbers (drop (j + 1) xs))
+      (sets room (at + numberBytes * j) (bytesOf numberBytes (toBits binary64 (getD xs j nan))))
+      (at + numberBytes * (j + 1))
+      (numbers (drop (j + 1) xs))
   unfolding numbersAs writtenAs
   numbers-on j h =
       let p = at + numberBytes * j in
