@@ -1,8 +1,8 @@
 /*
- * Calls every exported function from C and holds what it answers, refuses and
- * leaves alone to known values, most of them docs/SCOPE.md's. Prints a line per
- * function with the checks it passed; the first wrong one ends the program with
- * status 1.
+ * Calls every exported function from C and holds what it answers, refuses, tells
+ * as the place and leaves alone to known values, most of them docs/SCOPE.md's.
+ * Prints a line per function with the checks it passed; the first wrong one ends
+ * the program with status 1.
  */
 #include "byrlygent.h"
 
@@ -19,16 +19,22 @@ static const double Q_AT_START[8] = {0, -2, 2, -2, 2, 0, 0, 0};
 static const double Q_BESIDE[8] = {-5, 1, -3, 1, -3, 3, -5, 3};
 static const double TOLERANCE = 1e-6;
 
-/* What every room and answer holds before a call. */
-static const double HELD = 7.5;
-static const uint64_t HELD_COUNT = 0xfeed;
-static const uint32_t HELD_WORD = 0xbeef;
+/* Points at the origin, and the same with the first out of bounds. */
+static const double GOOD[20004] = {0};
+static const double WRONG[20004] = {NAN};
+
+/* What every room, answer and place holds before a call. */
+#define HELD 7.5
+enum { HELD_COUNT = 0xfeed, HELD_WORD = 0xbeef };
 
 /* ---- Checks ---- */
 
 static const char *function = "";
 static int checks = 0;
 static int functions = 0;
+
+/* The row of a table that is tried, from 1 on; 0 outside tables. */
+static size_t row = 0;
 
 static void told(void) {
     if (checks > 0) {
@@ -45,7 +51,11 @@ static void begin(const char *name) {
 
 static void check(int holds, int line) {
     if (!holds) {
-        printf("%s: the check in line %d of calls.c does not hold\n", function, line);
+        printf("%s: the check in line %d of calls.c does not hold", function, line);
+        if (row > 0) {
+            printf(", row %d of its table", (int)row);
+        }
+        printf("\n");
         exit(1);
     }
     checks += 1;
@@ -84,6 +94,94 @@ static int held(const double *room, size_t from, size_t to) {
 /* The float after 1000000. */
 static double past_million(void) {
     return nextafter(1e6, 2e6);
+}
+
+/* ---- Lists of a wrong length ---- */
+
+/* A call with one list, or with two, whose settings and rooms, if it has any, would
+ * be refused after the lists. It checks that all but the place is as it was. */
+typedef uint32_t (*one_list)(const double *list, size_t n, uint64_t *place);
+typedef uint32_t (*two_lists)(const double *a, size_t an, const double *b, size_t bn, uint64_t *place);
+
+/* Two lists, the number with which they are refused, and the place afterwards. */
+struct lists {
+    const double *a;
+    size_t an;
+    const double *b;
+    size_t bn;
+    uint32_t number;
+    uint64_t place;
+};
+
+/* Two polygons of 3 to 256 vertices. */
+static const struct lists POLYGONS[] = {
+    {GOOD, 7, GOOD, 8, BYR_REFUSED_LENGTH, 0},
+    {GOOD, 5, GOOD, 8, BYR_REFUSED_LENGTH, 0},
+    {GOOD, 513, GOOD, 8, BYR_REFUSED_LENGTH, 0},
+    {NULL, 0, GOOD, 8, BYR_REFUSED_FEW, 0},
+    {GOOD, 4, GOOD, 8, BYR_REFUSED_FEW, 0},
+    {GOOD, 514, GOOD, 8, BYR_REFUSED_MANY, 0},
+    {GOOD, 8, GOOD, 7, BYR_REFUSED_LENGTH, 1},
+    {GOOD, 8, GOOD, 5, BYR_REFUSED_LENGTH, 1},
+    {GOOD, 8, GOOD, 513, BYR_REFUSED_LENGTH, 1},
+    {GOOD, 8, NULL, 0, BYR_REFUSED_FEW, 1},
+    {GOOD, 8, GOOD, 4, BYR_REFUSED_FEW, 1},
+    {GOOD, 8, GOOD, 514, BYR_REFUSED_MANY, 1},
+    /* Both: the first speaks. */
+    {GOOD, 7, GOOD, 4, BYR_REFUSED_LENGTH, 0},
+    {GOOD, 4, GOOD, 7, BYR_REFUSED_FEW, 0},
+    {GOOD, 514, GOOD, 7, BYR_REFUSED_MANY, 0},
+    {GOOD, 514, GOOD, 4, BYR_REFUSED_MANY, 0},
+    /* A number out of bounds speaks after both. */
+    {WRONG, 8, GOOD, 7, BYR_REFUSED_LENGTH, 1},
+    {WRONG, 8, GOOD, 4, BYR_REFUSED_FEW, 1},
+    {WRONG, 8, GOOD, 514, BYR_REFUSED_MANY, 1},
+    {WRONG, 6, GOOD, 512, BYR_REFUSED_NUMBER, HELD_COUNT},
+    {GOOD, 512, WRONG, 6, BYR_REFUSED_NUMBER, HELD_COUNT},
+};
+
+/* Two rings of 0 to 256 vertices. */
+static const struct lists RINGS[] = {
+    {GOOD, 1, GOOD, 8, BYR_REFUSED_LENGTH, 0},
+    {GOOD, 513, GOOD, 8, BYR_REFUSED_LENGTH, 0},
+    {GOOD, 514, GOOD, 8, BYR_REFUSED_MANY, 0},
+    {GOOD, 8, GOOD, 1, BYR_REFUSED_LENGTH, 1},
+    {GOOD, 8, GOOD, 513, BYR_REFUSED_LENGTH, 1},
+    {NULL, 0, GOOD, 514, BYR_REFUSED_MANY, 1},
+    {GOOD, 514, GOOD, 1, BYR_REFUSED_MANY, 0},
+    {GOOD, 1, GOOD, 514, BYR_REFUSED_LENGTH, 0},
+    {WRONG, 2, GOOD, 1, BYR_REFUSED_LENGTH, 1},
+    {WRONG, 2, GOOD, 514, BYR_REFUSED_MANY, 1},
+    {WRONG, 2, NULL, 0, BYR_REFUSED_NUMBER, HELD_COUNT},
+    {NULL, 0, WRONG, 512, BYR_REFUSED_NUMBER, HELD_COUNT},
+};
+
+static void try_rows(two_lists call, const struct lists *rows, size_t n) {
+    size_t i;
+    for (i = 0; i < n; i++) {
+        uint64_t place = HELD_COUNT;
+        row = i + 1;
+        CHECK(call(rows[i].a, rows[i].an, rows[i].b, rows[i].bn, &place) == rows[i].number);
+        CHECK(place == rows[i].place);
+    }
+    row = 0;
+}
+
+static void try_polygons(two_lists call) {
+    try_rows(call, POLYGONS, sizeof POLYGONS / sizeof *POLYGONS);
+}
+
+/* Tries a call with a list of 0 entries to so many, which it counts as this one. */
+static void try_list(one_list call, size_t most, uint64_t list) {
+    uint64_t place = HELD_COUNT;
+
+    CHECK(call(WRONG, 2, &place) == BYR_REFUSED_NUMBER && place == HELD_COUNT);
+    CHECK(call(WRONG, 2 * most, &place) == BYR_REFUSED_NUMBER && place == HELD_COUNT);
+    CHECK(call(WRONG, 1, &place) == BYR_REFUSED_LENGTH && place == list);
+    place = HELD_COUNT;
+    CHECK(call(WRONG, 2 * most + 1, &place) == BYR_REFUSED_LENGTH && place == list);
+    place = HELD_COUNT;
+    CHECK(call(WRONG, 2 * most + 2, &place) == BYR_REFUSED_MANY && place == list);
 }
 
 /* ---- The interface ---- */
@@ -180,228 +278,450 @@ static void distances(void) {
 
 /* ---- Rings ---- */
 
+static uint32_t lend_mirror(const double *list, size_t n, uint64_t *place) {
+    double room[1] = {HELD};
+    uint64_t vertices = HELD_COUNT;
+    uint32_t number = byr_mirror_polygon(list, n, room, 1, &vertices, place);
+
+    CHECK(held(room, 0, 1) && vertices == HELD_COUNT);
+    return number;
+}
+
+static uint32_t lend_open(const double *list, size_t n, uint64_t *place) {
+    double room[1] = {HELD};
+    uint64_t vertices = HELD_COUNT;
+    uint32_t number = byr_open_ring(list, n, room, 1, &vertices, place);
+
+    CHECK(held(room, 0, 1) && vertices == HELD_COUNT);
+    return number;
+}
+
 static void copies(void) {
     static const double mirrored[6] = {-0.0, 3, -4, 0, -0.0, 0};
     static const double closed[8] = {0, 0, 4, 0, 0, 3, -0.0, 0};
-    double long_ring[514] = {0};
     double room[9];
     uint64_t vertices = HELD_COUNT;
+    uint64_t place = HELD_COUNT;
 
     begin("byr_mirror_polygon");
+    try_list(lend_mirror, 256, 0);
     hold(room, 9);
-    CHECK(byr_mirror_polygon(TRIANGLE, 5, room, 9, &vertices) == BYR_REFUSED_LENGTH);
-    CHECK(byr_mirror_polygon(long_ring, 514, room, 9, &vertices) == BYR_REFUSED_LENGTH);
-    CHECK(byr_mirror_polygon(long_ring, 512, room, 9, &vertices) == BYR_REFUSED_FIT);
-    CHECK(byr_mirror_polygon(TRIANGLE, 6, room, 5, &vertices) == BYR_REFUSED_FIT);
-    long_ring[3] = NAN;
-    CHECK(byr_mirror_polygon(long_ring, 512, room, 9, &vertices) == BYR_REFUSED_NUMBER);
+    CHECK(byr_mirror_polygon(GOOD, 512, room, 9, &vertices, &place) == BYR_REFUSED_FIT);
+    CHECK(byr_mirror_polygon(TRIANGLE, 6, room, 5, &vertices, &place) == BYR_REFUSED_FIT);
     CHECK(vertices == HELD_COUNT && held(room, 0, 9));
-    CHECK(byr_mirror_polygon(TRIANGLE, 6, room, 9, &vertices) == 0 && vertices == 3);
+    CHECK(byr_mirror_polygon(TRIANGLE, 6, room, 9, &vertices, &place) == 0 && vertices == 3);
     CHECK(same_list(room, mirrored, 6) && held(room, 6, 9));
-    CHECK(byr_mirror_polygon(NULL, 0, NULL, 0, &vertices) == 0 && vertices == 0);
+    CHECK(byr_mirror_polygon(NULL, 0, NULL, 0, &vertices, &place) == 0 && vertices == 0);
+    CHECK(place == HELD_COUNT);
     begin("byr_open_ring");
+    try_list(lend_open, 256, 0);
     hold(room, 9);
     vertices = HELD_COUNT;
-    CHECK(byr_open_ring(closed, 7, room, 9, &vertices) == BYR_REFUSED_LENGTH);
-    CHECK(byr_open_ring(long_ring, 8, room, 9, &vertices) == BYR_REFUSED_NUMBER);
-    CHECK(byr_open_ring(closed, 8, room, 5, &vertices) == BYR_REFUSED_FIT);
+    CHECK(byr_open_ring(closed, 8, room, 5, &vertices, &place) == BYR_REFUSED_FIT);
     CHECK(vertices == HELD_COUNT && held(room, 0, 9));
-    CHECK(byr_open_ring(closed, 8, room, 7, &vertices) == 0 && vertices == 3);
+    CHECK(byr_open_ring(closed, 8, room, 7, &vertices, &place) == 0 && vertices == 3);
     CHECK(same_list(room, closed, 6) && held(room, 6, 9));
-    CHECK(byr_open_ring(TRIANGLE, 6, room, 9, &vertices) == 0 && vertices == 3);
-    CHECK(byr_open_ring(NULL, 0, NULL, 0, &vertices) == 0 && vertices == 0);
+    CHECK(byr_open_ring(TRIANGLE, 6, room, 9, &vertices, &place) == 0 && vertices == 3);
+    CHECK(byr_open_ring(NULL, 0, NULL, 0, &vertices, &place) == 0 && vertices == 0);
+    CHECK(place == HELD_COUNT);
+}
+
+static uint32_t lend_simple(const double *list, size_t n, uint64_t *place) {
+    uint32_t simple = HELD_WORD;
+    uint32_t number = byr_is_simple_polygon(list, n, &simple, place);
+
+    CHECK(simple == HELD_WORD);
+    return number;
+}
+
+static uint32_t lend_distance(const double *a, size_t an, const double *b, size_t bn, uint64_t *place) {
+    double distance = HELD;
+    uint32_t number = byr_ring_distance(a, an, b, bn, &distance, place);
+
+    CHECK(same(distance, HELD));
+    return number;
+}
+
+static uint32_t lend_area2(const double *list, size_t n, uint64_t *place) {
+    double area2 = HELD;
+    uint32_t number = byr_signed_area2(list, n, &area2, place);
+
+    CHECK(same(area2, HELD));
+    return number;
+}
+
+static uint32_t lend_robust(const double *list, size_t n, uint64_t *place) {
+    double area = HELD;
+    uint32_t number = byr_signed_area_robust(list, n, &area, place);
+
+    CHECK(same(area, HELD));
+    return number;
 }
 
 static void rings(void) {
     static const double bow[8] = {0, 0, 2, 2, 2, 0, 0, 2};
-    static const double wrong[6] = {0, 0, 4, 0, 0, NAN};
     static const double apart[6] = {7, 0, 9, 0, 9, 2};
     uint32_t simple = HELD_WORD;
     double answer = HELD;
+    uint64_t place = HELD_COUNT;
 
     begin("byr_is_simple_polygon");
-    CHECK(byr_is_simple_polygon(S, 7, &simple) == BYR_REFUSED_LENGTH);
-    CHECK(byr_is_simple_polygon(wrong, 6, &simple) == BYR_REFUSED_NUMBER && simple == HELD_WORD);
-    CHECK(byr_is_simple_polygon(bow, 8, &simple) == 0 && simple == 0);
-    CHECK(byr_is_simple_polygon(S, 8, &simple) == 0 && simple == 1);
-    CHECK(byr_is_simple_polygon(CLOSED, 8, &simple) == 0 && simple == 0);
-    CHECK(byr_is_simple_polygon(NULL, 0, &simple) == 0 && simple == 0);
+    try_list(lend_simple, 256, 0);
+    CHECK(byr_is_simple_polygon(bow, 8, &simple, &place) == 0 && simple == 0);
+    CHECK(byr_is_simple_polygon(S, 8, &simple, &place) == 0 && simple == 1);
+    CHECK(byr_is_simple_polygon(CLOSED, 8, &simple, &place) == 0 && simple == 0);
+    CHECK(byr_is_simple_polygon(NULL, 0, &simple, &place) == 0 && simple == 0);
+    CHECK(place == HELD_COUNT);
     begin("byr_ring_distance");
-    CHECK(byr_ring_distance(S, 8, apart, 5, &answer) == BYR_REFUSED_LENGTH);
-    CHECK(byr_ring_distance(S, 8, wrong, 6, &answer) == BYR_REFUSED_NUMBER && same(answer, HELD));
-    CHECK(byr_ring_distance(S, 8, apart, 6, &answer) == 0 && same(answer, 3));
-    CHECK(byr_ring_distance(S, 8, NULL, 0, &answer) == 0 && same(answer, INFINITY));
+    try_rows(lend_distance, RINGS, sizeof RINGS / sizeof *RINGS);
+    CHECK(byr_ring_distance(S, 8, apart, 6, &answer, &place) == 0 && same(answer, 3));
+    CHECK(byr_ring_distance(S, 8, NULL, 0, &answer, &place) == 0 && same(answer, INFINITY));
+    CHECK(place == HELD_COUNT);
     begin("byr_signed_area2");
-    answer = HELD;
-    CHECK(byr_signed_area2(S, 1, &answer) == BYR_REFUSED_LENGTH);
-    CHECK(byr_signed_area2(wrong, 6, &answer) == BYR_REFUSED_NUMBER && same(answer, HELD));
-    CHECK(byr_signed_area2(TRIANGLE, 6, &answer) == 0 && same(answer, 12));
-    CHECK(byr_signed_area2(bow, 8, &answer) == 0 && same(answer, 0));
-    CHECK(byr_signed_area2(NULL, 0, &answer) == 0 && same(answer, 0));
+    try_list(lend_area2, 256, 0);
+    CHECK(byr_signed_area2(TRIANGLE, 6, &answer, &place) == 0 && same(answer, 12));
+    CHECK(byr_signed_area2(bow, 8, &answer, &place) == 0 && same(answer, 0));
+    CHECK(byr_signed_area2(NULL, 0, &answer, &place) == 0 && same(answer, 0));
+    CHECK(place == HELD_COUNT);
     begin("byr_signed_area_robust");
-    answer = HELD;
-    CHECK(byr_signed_area_robust(S, 1, &answer) == BYR_REFUSED_LENGTH);
-    CHECK(byr_signed_area_robust(wrong, 6, &answer) == BYR_REFUSED_NUMBER && same(answer, HELD));
-    CHECK(byr_signed_area_robust(TRIANGLE, 6, &answer) == 0 && same(answer, 6));
-    CHECK(byr_signed_area_robust(TRIANGLE, 4, &answer) == 0 && same(answer, 0));
+    try_list(lend_robust, 256, 0);
+    CHECK(byr_signed_area_robust(TRIANGLE, 6, &answer, &place) == 0 && same(answer, 6));
+    CHECK(byr_signed_area_robust(TRIANGLE, 4, &answer, &place) == 0 && same(answer, 0));
+    CHECK(byr_signed_area_robust(NULL, 0, &answer, &place) == 0 && same(answer, 0));
+    CHECK(place == HELD_COUNT);
 }
 
 /* ---- Contacts and vectors ---- */
+
+static uint32_t lend_contacts(const double *a, size_t an, const double *b, size_t bn, uint64_t *place) {
+    uint64_t which[1] = {HELD_COUNT};
+    double points[1] = {HELD};
+    uint64_t count = HELD_COUNT;
+    uint32_t number = byr_find_contacts(a, an, b, bn, 0, which, 1, points, 1, &count, place);
+
+    CHECK(which[0] == HELD_COUNT && held(points, 0, 1) && count == HELD_COUNT);
+    return number;
+}
 
 static void contacts(void) {
     static const uint64_t expected[18] = {0, 0, 2, 0, 0, 3, 0, 3, 3, 1, 0, 2, 1, 0, 3, 2, 0, 2};
     uint64_t which[20];
     double points[13];
     uint64_t count = HELD_COUNT;
+    uint64_t place = HELD_COUNT;
     size_t i;
 
     begin("byr_find_contacts");
+    try_polygons(lend_contacts);
     hold(points, 13);
     for (i = 0; i < 20; i++) {
         which[i] = HELD_COUNT;
     }
-    CHECK(byr_find_contacts(S, 4, Q_AT_START, 8, 0, which, 20, points, 13, &count) == BYR_REFUSED_LENGTH);
-    CHECK(byr_find_contacts(S, 8, Q_AT_START, 8, 0, which, 20, points, 13, &count) == BYR_REFUSED_SETTING);
-    CHECK(byr_find_contacts(S, 8, Q_AT_START, 8, TOLERANCE, which, 17, points, 13, &count) == BYR_REFUSED_FIT);
-    CHECK(byr_find_contacts(S, 8, Q_AT_START, 8, TOLERANCE, which, 18, points, 11, &count) == BYR_REFUSED_FIT);
+    CHECK(byr_find_contacts(S, 8, Q_AT_START, 8, 0, which, 20, points, 13, &count, &place) == BYR_REFUSED_SETTING);
+    CHECK(byr_find_contacts(S, 8, Q_AT_START, 8, TOLERANCE, which, 17, points, 13, &count, &place) ==
+          BYR_REFUSED_FIT);
+    CHECK(byr_find_contacts(S, 8, Q_AT_START, 8, TOLERANCE, which, 18, points, 11, &count, &place) ==
+          BYR_REFUSED_FIT);
     CHECK(count == HELD_COUNT && which[0] == HELD_COUNT && held(points, 0, 13));
-    CHECK(byr_find_contacts(S, 8, Q_AT_START, 8, TOLERANCE, which, 20, points, 13, &count) == 0 && count == 6);
-    CHECK(memcmp(which, expected, sizeof expected) == 0);
+    CHECK(byr_find_contacts(S, 8, Q_AT_START, 8, TOLERANCE, which, 20, points, 13, &count, &place) == 0);
+    CHECK(count == 6 && memcmp(which, expected, sizeof expected) == 0);
     CHECK(which[18] == HELD_COUNT && which[19] == HELD_COUNT);
     CHECK(same(points[10], 1) && same(points[11], 0) && held(points, 12, 13));
-    CHECK(byr_find_contacts(S, 8, Q_BESIDE, 8, TOLERANCE, NULL, 0, NULL, 0, &count) == 0 && count == 0);
+    CHECK(byr_find_contacts(S, 8, Q_BESIDE, 8, TOLERANCE, NULL, 0, NULL, 0, &count, &place) == 0 && count == 0);
+    CHECK(place == HELD_COUNT);
+}
+
+/* The rooms and answers of vectors. */
+struct ways {
+    double vectors[37];
+    uint64_t sources[13];
+    uint64_t count;
+    uint64_t place;
+};
+
+static void hold_ways(struct ways *w) {
+    hold(w->vectors, 37);
+    w->sources[0] = w->sources[12] = w->count = w->place = HELD_COUNT;
+}
+
+/* Whether refused vectors left rooms and answers as they were. */
+static int held_ways(const struct ways *w) {
+    return held(w->vectors, 0, 37) && w->sources[0] == HELD_COUNT && w->count == HELD_COUNT;
+}
+
+static uint32_t vectors_in(struct ways *w, const double *a, size_t an, const double *b, size_t bn, double tolerance,
+                           size_t vectors_n, size_t sources_n) {
+    return byr_compute_translation_vectors(a, an, b, bn, tolerance, w->vectors, vectors_n, w->sources, sources_n,
+                                           &w->count, &w->place);
+}
+
+/* The number of refused vectors, which left all but the place as it was. */
+static uint32_t refused_ways(const struct ways *w, uint32_t number, uint64_t *place) {
+    CHECK(held_ways(w));
+    *place = w->place;
+    return number;
+}
+
+static uint32_t lend_vectors(const double *a, size_t an, const double *b, size_t bn, uint64_t *place) {
+    struct ways w;
+
+    hold_ways(&w);
+    return refused_ways(&w, vectors_in(&w, a, an, b, bn, 0, 1, 1), place);
 }
 
 static void vectors(void) {
     static const double first[6] = {1, 0, 2, -1, -0.0, 2};
-    static const double infinite[2] = {0, INFINITY};
-    static const double visited[2] = {1, -2};
-    double room[37];
-    uint64_t sources[13];
-    uint64_t count = HELD_COUNT;
+    struct ways w;
 
     begin("byr_compute_translation_vectors");
-    hold(room, 37);
-    sources[0] = sources[12] = HELD_COUNT;
-    CHECK(byr_compute_translation_vectors(S, 8, Q_AT_START, 8, 2, room, 37, sources, 13, &count) ==
-          BYR_REFUSED_SETTING);
-    CHECK(byr_compute_translation_vectors(S, 8, Q_AT_START, 8, TOLERANCE, room, 35, sources, 13, &count) ==
-          BYR_REFUSED_FIT);
-    CHECK(byr_compute_translation_vectors(S, 8, Q_AT_START, 8, TOLERANCE, room, 37, sources, 11, &count) ==
-          BYR_REFUSED_FIT);
-    CHECK(count == HELD_COUNT && sources[0] == HELD_COUNT && held(room, 0, 37));
-    CHECK(byr_compute_translation_vectors(S, 8, Q_AT_START, 8, TOLERANCE, room, 37, sources, 13, &count) == 0);
-    CHECK(count == 12 && same_list(room, first, 6) && held(room, 36, 37));
-    CHECK(sources[0] == 0 && sources[1] == 0 && sources[11] == 5 && sources[12] == HELD_COUNT);
+    try_polygons(lend_vectors);
+    hold_ways(&w);
+    CHECK(vectors_in(&w, S, 8, Q_AT_START, 8, 2, 37, 13) == BYR_REFUSED_SETTING);
+    CHECK(vectors_in(&w, S, 8, Q_AT_START, 8, TOLERANCE, 35, 13) == BYR_REFUSED_FIT);
+    CHECK(vectors_in(&w, S, 8, Q_AT_START, 8, TOLERANCE, 37, 11) == BYR_REFUSED_FIT);
+    CHECK(held_ways(&w));
+    CHECK(vectors_in(&w, S, 8, Q_AT_START, 8, TOLERANCE, 37, 13) == 0);
+    CHECK(w.count == 12 && same_list(w.vectors, first, 6) && held(w.vectors, 36, 37));
+    CHECK(w.sources[0] == 0 && w.sources[1] == 0 && w.sources[11] == 5 && w.sources[12] == HELD_COUNT);
+    CHECK(w.place == HELD_COUNT);
+}
+
+static uint32_t fit_in(struct ways *w, const double *a, size_t an, const double *b, size_t bn, const double *visited,
+                       size_t visited_n, double tolerance, size_t vectors_n) {
+    return byr_handle_perfect_fit(a, an, b, bn, 0, -2, visited, visited_n, tolerance, w->vectors, vectors_n,
+                                  w->sources, 13, &w->count, &w->place);
+}
+
+static uint32_t lend_fit(const double *a, size_t an, const double *b, size_t bn, uint64_t *place) {
+    struct ways w;
+
+    hold_ways(&w);
+    return refused_ways(&w, fit_in(&w, a, an, b, bn, GOOD, 2, 0, 1), place);
+}
+
+static uint32_t lend_visited(const double *list, size_t n, uint64_t *place) {
+    struct ways w;
+
+    hold_ways(&w);
+    return refused_ways(&w, fit_in(&w, GOOD, 8, GOOD, 8, list, n, 0, 1), place);
+}
+
+static void perfect_fit(void) {
+    static const double visited[2] = {1, -2};
+    struct ways w;
+
     begin("byr_handle_perfect_fit");
-    hold(room, 37);
-    count = HELD_COUNT;
-    CHECK(byr_handle_perfect_fit(S, 8, Q_AT_START, 8, 0, -2, visited, 1, TOLERANCE, room, 37, sources, 13, &count) ==
-          BYR_REFUSED_LENGTH);
-    CHECK(byr_handle_perfect_fit(S, 8, Q_AT_START, 8, 0, -2, infinite, 2, TOLERANCE, room, 37, sources, 13, &count) ==
-          BYR_REFUSED_NUMBER);
-    CHECK(byr_handle_perfect_fit(S, 8, Q_AT_START, 8, 0, -2, NULL, 0, TOLERANCE, room, 35, sources, 13, &count) ==
-          BYR_REFUSED_FIT);
-    CHECK(count == HELD_COUNT && held(room, 0, 37));
-    CHECK(byr_handle_perfect_fit(S, 8, Q_AT_START, 8, 0, -2, NULL, 0, TOLERANCE, room, 37, sources, 13, &count) == 0);
-    CHECK(count == 12);
-    CHECK(byr_handle_perfect_fit(S, 8, Q_AT_START, 8, 0, -2, visited, 2, TOLERANCE, room, 37, sources, 13, &count) ==
-          0);
-    CHECK(count > 0 && count < 12 && same(room[0], -1) && sources[0] == 0);
+    try_polygons(lend_fit);
+    try_list(lend_visited, 10001, 2);
+    hold_ways(&w);
+    CHECK(fit_in(&w, GOOD, 8, GOOD, 4, GOOD, 1, 0, 1) == BYR_REFUSED_FEW && w.place == 1);
+    CHECK(fit_in(&w, WRONG, 8, WRONG, 8, GOOD, 1, 0, 1) == BYR_REFUSED_LENGTH && w.place == 2);
+    hold_ways(&w);
+    CHECK(fit_in(&w, S, 8, Q_AT_START, 8, GOOD, 20002, 0, 37) == BYR_REFUSED_SETTING);
+    CHECK(fit_in(&w, S, 8, Q_AT_START, 8, NULL, 0, TOLERANCE, 35) == BYR_REFUSED_FIT);
+    CHECK(held_ways(&w));
+    CHECK(fit_in(&w, S, 8, Q_AT_START, 8, NULL, 0, TOLERANCE, 37) == 0 && w.count == 12);
+    CHECK(fit_in(&w, S, 8, Q_AT_START, 8, visited, 2, TOLERANCE, 37) == 0);
+    CHECK(w.count > 0 && w.count < 12 && same(w.vectors[0], -1) && w.sources[0] == 0);
+    CHECK(w.place == HELD_COUNT);
 }
 
 static void selection(void) {
     static const double ways[9] = {-1, 0, 2, 1, 0, 2, 1, 0, 2};
     uint32_t found = HELD_WORD;
     uint64_t index = HELD_COUNT;
+    uint64_t place = HELD_COUNT;
 
     begin("byr_select_translation_vector");
-    CHECK(byr_select_translation_vector(ways, 8, 0, 0, 0, 2, 2, 0, -2, &found, &index) == BYR_REFUSED_LENGTH);
-    CHECK(found == HELD_WORD && index == HELD_COUNT);
-    CHECK(byr_select_translation_vector(NULL, 0, 0, 0, 0, 2, 2, 0, -2, &found, &index) == 0);
+    CHECK(byr_select_translation_vector(WRONG, 8, 0, 0, 0, 2, 2, 0, -2, &found, &index, &place) ==
+          BYR_REFUSED_LENGTH);
+    CHECK(found == HELD_WORD && index == HELD_COUNT && place == 0);
+    place = HELD_COUNT;
+    CHECK(byr_select_translation_vector(GOOD, 10, 0, 0, 0, 2, 2, 0, -2, &found, &index, &place) ==
+          BYR_REFUSED_LENGTH);
+    CHECK(found == HELD_WORD && index == HELD_COUNT && place == 0);
+    place = HELD_COUNT;
+    CHECK(byr_select_translation_vector(NULL, 0, 0, 0, 0, 2, 2, 0, -2, &found, &index, &place) == 0);
     CHECK(found == 0 && index == HELD_COUNT);
-    CHECK(byr_select_translation_vector(ways, 9, 0, 0, 0, 2, 2, 0, -2, &found, &index) == 0);
+    CHECK(byr_select_translation_vector(ways, 9, 0, 0, 0, 2, 2, 0, -2, &found, &index, &place) == 0);
     CHECK(found == 1 && index == 1);
-    CHECK(byr_select_translation_vector(ways, 9, 1, -9, 0, 2, 2, 0, -2, &found, &index) == 0);
+    CHECK(byr_select_translation_vector(ways, 9, 1, -9, 0, 2, 2, 0, -2, &found, &index, &place) == 0);
     CHECK(found == 1 && index == 0);
-    CHECK(byr_select_translation_vector(ways, 9, 0, 0, 0, NAN, 2, 0, -2, &found, &index) == 0);
+    CHECK(byr_select_translation_vector(ways, 9, 0, 0, 0, NAN, 2, 0, -2, &found, &index, &place) == 0);
     CHECK(found == 1 && index == 0);
+    CHECK(byr_select_translation_vector(GOOD, 20001, 0, 0, 0, 2, 2, 0, -2, &found, &index, &place) == 0);
+    CHECK(found == 1 && index == 0 && place == HELD_COUNT);
 }
 
 /* ---- Moves and positions ---- */
 
-static void collision(void) {
-    uint32_t found = HELD_WORD;
-    uint32_t kind = HELD_WORD;
-    double distance = HELD;
-    uint64_t stationary = HELD_COUNT;
-    uint64_t orbiting = HELD_COUNT;
+/* The answers of a collision. */
+struct hit {
+    uint32_t found;
+    double distance;
+    uint32_t kind;
+    uint64_t stationary;
+    uint64_t orbiting;
+    uint64_t place;
+};
 
-    begin("byr_check_translation_collision");
-    CHECK(byr_check_translation_collision(S, 8, Q_BESIDE, 8, INFINITY, 0, TOLERANCE, &found, &distance, &kind,
-                                          &stationary, &orbiting) == BYR_REFUSED_NUMBER);
-    CHECK(byr_check_translation_collision(S, 8, Q_BESIDE, 8, 10, 0, 0, &found, &distance, &kind, &stationary,
-                                          &orbiting) == BYR_REFUSED_SETTING);
-    CHECK(found == HELD_WORD);
-    CHECK(byr_check_translation_collision(S, 8, Q_BESIDE, 8, 3, 0, TOLERANCE, &found, &distance, &kind, &stationary,
-                                          &orbiting) == 0);
-    CHECK(found == 0 && kind == HELD_WORD && same(distance, HELD) && stationary == HELD_COUNT);
-    CHECK(orbiting == HELD_COUNT);
-    CHECK(byr_check_translation_collision(S, 8, Q_BESIDE, 8, 10, 0, TOLERANCE, &found, &distance, &kind,
-                                          &stationary, &orbiting) == 0);
-    CHECK(found == 1 && kind == BYR_KIND_VERTEX_EDGE && same(distance, 3));
-    CHECK(stationary == 3 && orbiting == 1);
-    CHECK(byr_check_translation_collision(S, 8, Q_BESIDE, 8, 0, 0, TOLERANCE, &found, &distance, &kind, &stationary,
-                                          &orbiting) == 0);
-    CHECK(found == 0);
+static const struct hit HELD_HIT = {HELD_WORD, HELD, HELD_WORD, HELD_COUNT, HELD_COUNT, HELD_COUNT};
+
+static uint32_t hit_by(struct hit *h, const double *a, size_t an, const double *b, size_t bn, double dx,
+                       double tolerance) {
+    return byr_check_translation_collision(a, an, b, bn, dx, 0, tolerance, &h->found, &h->distance, &h->kind,
+                                           &h->stationary, &h->orbiting, &h->place);
 }
 
-static void positions(void) {
+/* Whether a hit holds what it held, but for found and the place. */
+static int held_hit(const struct hit *h) {
+    return same(h->distance, HELD) && h->kind == HELD_WORD && h->stationary == HELD_COUNT &&
+           h->orbiting == HELD_COUNT;
+}
+
+static uint32_t lend_collision(const double *a, size_t an, const double *b, size_t bn, uint64_t *place) {
+    struct hit h = HELD_HIT;
+    uint32_t number = hit_by(&h, a, an, b, bn, 1, 0);
+
+    CHECK(h.found == HELD_WORD && held_hit(&h));
+    *place = h.place;
+    return number;
+}
+
+static void collision(void) {
+    struct hit h = HELD_HIT;
+
+    begin("byr_check_translation_collision");
+    try_polygons(lend_collision);
+    CHECK(hit_by(&h, S, 8, Q_BESIDE, 8, INFINITY, TOLERANCE) == BYR_REFUSED_NUMBER);
+    CHECK(hit_by(&h, S, 8, Q_BESIDE, 8, 10, 0) == BYR_REFUSED_SETTING);
+    CHECK(h.found == HELD_WORD && held_hit(&h));
+    CHECK(hit_by(&h, S, 8, Q_BESIDE, 8, 3, TOLERANCE) == 0);
+    CHECK(h.found == 0 && held_hit(&h));
+    CHECK(hit_by(&h, S, 8, Q_BESIDE, 8, 10, TOLERANCE) == 0);
+    CHECK(h.found == 1 && h.kind == BYR_KIND_VERTEX_EDGE && same(h.distance, 3));
+    CHECK(h.stationary == 3 && h.orbiting == 1);
+    CHECK(hit_by(&h, S, 8, Q_BESIDE, 8, 0, TOLERANCE) == 0);
+    CHECK(h.found == 0 && h.place == HELD_COUNT);
+}
+
+static uint32_t lend_interlocking(const double *a, size_t an, const double *b, size_t bn, uint64_t *place) {
+    uint32_t found = HELD_WORD;
+    double x = HELD;
+    double y = HELD;
+    uint32_t number = byr_detect_interlocking_opportunity(a, an, b, bn, 2, 11, 0, &found, &x, &y, place);
+
+    CHECK(found == HELD_WORD && same(x, HELD) && same(y, HELD));
+    return number;
+}
+
+static void interlocking(void) {
     static const double arrow[10] = {0, 0, 4, 0, 4, 4, 2, 1, 0, 4};
     uint32_t found = HELD_WORD;
     double x = HELD;
     double y = HELD;
+    uint64_t place = HELD_COUNT;
 
     begin("byr_detect_interlocking_opportunity");
-    CHECK(byr_detect_interlocking_opportunity(arrow, 10, Q, 8, NAN, 11, 0.5, &found, &x, &y) == BYR_REFUSED_NUMBER);
+    try_polygons(lend_interlocking);
+    CHECK(byr_detect_interlocking_opportunity(arrow, 10, Q, 8, NAN, 11, 0.5, &found, &x, &y, &place) ==
+          BYR_REFUSED_NUMBER);
+    CHECK(byr_detect_interlocking_opportunity(arrow, 10, Q, 8, 2, 11, 0, &found, &x, &y, &place) ==
+          BYR_REFUSED_SETTING);
     CHECK(found == HELD_WORD);
-    CHECK(byr_detect_interlocking_opportunity(S, 8, Q, 8, 2, 11, 0.5, &found, &x, &y) == 0 && found == 0);
+    CHECK(byr_detect_interlocking_opportunity(S, 8, Q, 8, 2, 11, 0.5, &found, &x, &y, &place) == 0 && found == 0);
     CHECK(same(x, HELD) && same(y, HELD));
-    CHECK(byr_detect_interlocking_opportunity(arrow, 10, Q, 8, 2, 11, 0.5, &found, &x, &y) == 0 && found == 1);
-    CHECK(same(x, 2) && same(y, 10.5));
-    begin("byr_recover_contact");
-    found = HELD_WORD;
-    x = y = HELD;
-    CHECK(byr_recover_contact(S, 8, Q_BESIDE, 8, -5, 1, 0, &found, &x, &y) == BYR_REFUSED_SETTING);
-    CHECK(found == HELD_WORD);
-    CHECK(byr_recover_contact(S, 8, S, 8, 0, 0, TOLERANCE, &found, &x, &y) == 0 && found == 0);
-    CHECK(same(x, HELD) && same(y, HELD));
-    CHECK(byr_recover_contact(S, 8, Q_BESIDE, 8, -5, 1, TOLERANCE, &found, &x, &y) == 0 && found == 1);
-    CHECK(x > -5 && x < -2);
-    begin("byr_find_start_position");
-    x = y = HELD;
-    CHECK(byr_find_start_position(S, 8, Q, 4, &x, &y) == BYR_REFUSED_LENGTH);
-    CHECK(same(x, HELD) && same(y, HELD));
-    CHECK(byr_find_start_position(S, 8, Q, 8, &x, &y) == 0 && same(x, 0) && same(y, -2));
+    CHECK(byr_detect_interlocking_opportunity(arrow, 10, Q, 8, 2, 11, 0.5, &found, &x, &y, &place) == 0);
+    CHECK(found == 1 && same(x, 2) && same(y, 10.5) && place == HELD_COUNT);
 }
 
-static void overlaps(void) {
+static uint32_t lend_recovery(const double *a, size_t an, const double *b, size_t bn, uint64_t *place) {
+    uint32_t found = HELD_WORD;
+    double x = HELD;
+    double y = HELD;
+    uint32_t number = byr_recover_contact(a, an, b, bn, -5, 1, 0, &found, &x, &y, place);
+
+    CHECK(found == HELD_WORD && same(x, HELD) && same(y, HELD));
+    return number;
+}
+
+static void recovery(void) {
+    uint32_t found = HELD_WORD;
+    double x = HELD;
+    double y = HELD;
+    uint64_t place = HELD_COUNT;
+
+    begin("byr_recover_contact");
+    try_polygons(lend_recovery);
+    CHECK(byr_recover_contact(S, 8, Q_BESIDE, 8, INFINITY, 1, 0, &found, &x, &y, &place) == BYR_REFUSED_NUMBER);
+    CHECK(byr_recover_contact(S, 8, Q_BESIDE, 8, -5, 1, 0, &found, &x, &y, &place) == BYR_REFUSED_SETTING);
+    CHECK(found == HELD_WORD);
+    CHECK(byr_recover_contact(S, 8, S, 8, 0, 0, TOLERANCE, &found, &x, &y, &place) == 0 && found == 0);
+    CHECK(same(x, HELD) && same(y, HELD));
+    CHECK(byr_recover_contact(S, 8, Q_BESIDE, 8, -5, 1, TOLERANCE, &found, &x, &y, &place) == 0 && found == 1);
+    CHECK(x > -5 && x < -2 && place == HELD_COUNT);
+}
+
+static uint32_t lend_start(const double *a, size_t an, const double *b, size_t bn, uint64_t *place) {
+    double x = HELD;
+    double y = HELD;
+    uint32_t number = byr_find_start_position(a, an, b, bn, &x, &y, place);
+
+    CHECK(same(x, HELD) && same(y, HELD));
+    return number;
+}
+
+static uint32_t lend_overlap(const double *a, size_t an, const double *b, size_t bn, uint64_t *place) {
+    uint32_t overlap = HELD_WORD;
+    uint32_t number = byr_polygons_overlap(a, an, b, bn, &overlap, place);
+
+    CHECK(overlap == HELD_WORD);
+    return number;
+}
+
+static uint32_t lend_overlap_within(const double *a, size_t an, const double *b, size_t bn, uint64_t *place) {
+    uint32_t overlap = HELD_WORD;
+    uint32_t number = byr_polygons_overlap_with_tolerance(a, an, b, bn, 0, &overlap, place);
+
+    CHECK(overlap == HELD_WORD);
+    return number;
+}
+
+static void start_and_overlaps(void) {
     static const double near[8] = {4.5, 0, 6.5, 0, 6.5, 2, 4.5, 2};
     uint32_t overlap = HELD_WORD;
+    double x = HELD;
+    double y = HELD;
+    uint64_t place = HELD_COUNT;
 
-    begin("byr_polygons_overlap");
-    CHECK(byr_polygons_overlap(NULL, 0, Q, 8, &overlap) == BYR_REFUSED_LENGTH && overlap == HELD_WORD);
-    CHECK(byr_polygons_overlap(S, 8, Q, 8, &overlap) == 0 && overlap == 1);
-    CHECK(byr_polygons_overlap(S, 8, near, 8, &overlap) == 0 && overlap == 0);
+    begin("byr_find_start_position");
+    try_polygons(lend_start);
+    CHECK(byr_find_start_position(S, 8, Q, 8, &x, &y, &place) == 0 && same(x, 0) && same(y, -2));
+    CHECK(place == HELD_COUNT);
     begin("byr_polygons_overlap_with_tolerance");
-    overlap = HELD_WORD;
-    CHECK(byr_polygons_overlap_with_tolerance(S, 8, near, 8, NAN, &overlap) == BYR_REFUSED_SETTING);
+    try_polygons(lend_overlap_within);
+    CHECK(byr_polygons_overlap_with_tolerance(S, 8, near, 8, NAN, &overlap, &place) == BYR_REFUSED_SETTING);
     CHECK(overlap == HELD_WORD);
-    CHECK(byr_polygons_overlap_with_tolerance(S, 8, near, 8, 1, &overlap) == 0 && overlap == 1);
-    CHECK(byr_polygons_overlap_with_tolerance(S, 8, near, 8, 0.25, &overlap) == 0 && overlap == 0);
+    CHECK(byr_polygons_overlap_with_tolerance(S, 8, near, 8, 1, &overlap, &place) == 0 && overlap == 1);
+    CHECK(byr_polygons_overlap_with_tolerance(S, 8, near, 8, 0.25, &overlap, &place) == 0 && overlap == 0);
+    CHECK(place == HELD_COUNT);
+    begin("byr_polygons_overlap");
+    try_polygons(lend_overlap);
+    CHECK(byr_polygons_overlap(S, 8, Q, 8, &overlap, &place) == 0 && overlap == 1);
+    CHECK(byr_polygons_overlap(S, 8, near, 8, &overlap, &place) == 0 && overlap == 0);
+    CHECK(place == HELD_COUNT);
 }
 
 /* ---- The trace ---- */
+
+static uint32_t lend_simplify(const double *list, size_t n, uint64_t *place) {
+    double room[1] = {HELD};
+    uint64_t points = HELD_COUNT;
+    uint32_t number = byr_simplify_polygon(list, n, 0, room, 1, &points, place);
+
+    CHECK(held(room, 0, 1) && points == HELD_COUNT);
+    return number;
+}
 
 static void simplification(void) {
     static const double line[6] = {0, 0, 1, 0, 2, 0};
@@ -411,22 +731,25 @@ static void simplification(void) {
     static const double spike[12] = {0, 0, 2, 0, 9, 0, 2, 0, 2, 2, 0, 2};
     double room[12];
     uint64_t points = HELD_COUNT;
+    uint64_t place = HELD_COUNT;
 
     begin("byr_simplify_polygon");
+    try_list(lend_simplify, 10001, 0);
     hold(room, 11);
-    CHECK(byr_simplify_polygon(bent, 9, TOLERANCE, room, 11, &points) == BYR_REFUSED_LENGTH);
-    CHECK(byr_simplify_polygon(bent, 10, TOLERANCE, room, 7, &points) == BYR_REFUSED_FIT);
+    CHECK(byr_simplify_polygon(bent, 10, 0, room, 11, &points, &place) == BYR_REFUSED_SETTING);
+    CHECK(byr_simplify_polygon(bent, 10, TOLERANCE, room, 7, &points, &place) == BYR_REFUSED_FIT);
     CHECK(points == HELD_COUNT && held(room, 0, 11));
-    CHECK(byr_simplify_polygon(line, 6, TOLERANCE, room, 11, &points) == 0 && points == 3);
+    CHECK(byr_simplify_polygon(line, 6, TOLERANCE, room, 11, &points, &place) == 0 && points == 3);
     CHECK(same_list(room, line, 6) && held(room, 6, 11));
-    CHECK(byr_simplify_polygon(bent, 10, TOLERANCE, room, 11, &points) == 0 && points == 4);
+    CHECK(byr_simplify_polygon(bent, 10, TOLERANCE, room, 11, &points, &place) == 0 && points == 4);
     CHECK(same_list(room + 2, bent + 4, 6) && held(room, 8, 11));
-    CHECK(byr_simplify_polygon(nearly, 10, TOLERANCE, room, 12, &points) == 0 && points == 5);
-    CHECK(byr_simplify_polygon(twice, 10, TOLERANCE, room, 12, &points) == 0 && points == 3);
+    CHECK(byr_simplify_polygon(nearly, 10, TOLERANCE, room, 12, &points, &place) == 0 && points == 5);
+    CHECK(byr_simplify_polygon(twice, 10, TOLERANCE, room, 12, &points, &place) == 0 && points == 3);
     CHECK(same_list(room, twice, 2) && same_list(room + 2, twice + 6, 4));
-    CHECK(byr_simplify_polygon(spike, 12, TOLERANCE, room, 12, &points) == 0 && points == 5);
+    CHECK(byr_simplify_polygon(spike, 12, TOLERANCE, room, 12, &points, &place) == 0 && points == 5);
     CHECK(same_list(room, spike, 2) && same_list(room + 2, spike + 4, 8));
-    CHECK(byr_simplify_polygon(NULL, 0, TOLERANCE, NULL, 0, &points) == 0 && points == 0);
+    CHECK(byr_simplify_polygon(NULL, 0, TOLERANCE, NULL, 0, &points, &place) == 0 && points == 0);
+    CHECK(place == HELD_COUNT);
 }
 
 /* The answers and rooms of a trace. */
@@ -437,22 +760,38 @@ struct trace {
     uint64_t stored;
     uint64_t passes;
     uint32_t stop;
+    uint64_t place;
 };
 
+/* The number of a trace; its place is told with 1, 8 and 9 only. */
 static uint32_t traced(struct trace *t, const double *a, size_t an, const double *b, size_t bn, double tolerance,
                        double smallest, uint64_t limit, size_t work, size_t result) {
+    uint32_t number;
+
     hold(t->work, 32);
     hold(t->result, 33);
-    t->points = t->stored = t->passes = HELD_COUNT;
+    t->points = t->stored = t->passes = t->place = HELD_COUNT;
     t->stop = HELD_WORD;
-    return byr_compute_nfp_sliding(a, an, b, bn, tolerance, smallest, limit, t->work, work, t->result, result,
-                                   &t->points, &t->stored, &t->passes, &t->stop);
+    number = byr_compute_nfp_sliding(a, an, b, bn, tolerance, smallest, limit, t->work, work, t->result, result,
+                                     &t->points, &t->stored, &t->passes, &t->stop, &t->place);
+    CHECK(number == BYR_REFUSED_LENGTH || number == BYR_REFUSED_FEW || number == BYR_REFUSED_MANY ||
+          t->place == HELD_COUNT);
+    return number;
 }
 
-/* Whether a refused trace left all as it was. */
+/* Whether a refused trace left all but the place as it was. */
 static int untouched(const struct trace *t) {
     return held(t->work, 0, 32) && held(t->result, 0, 33) && t->points == HELD_COUNT && t->stored == HELD_COUNT &&
            t->passes == HELD_COUNT && t->stop == HELD_WORD;
+}
+
+static uint32_t lend_trace(const double *a, size_t an, const double *b, size_t bn, uint64_t *place) {
+    struct trace t;
+    uint32_t number = traced(&t, a, an, b, bn, 0, -1, 10001, 1, 0);
+
+    CHECK(untouched(&t));
+    *place = t.place;
+    return number;
 }
 
 static void trace_refusals(void) {
@@ -460,9 +799,9 @@ static void trace_refusals(void) {
     struct trace t;
 
     begin("byr_compute_nfp_sliding");
+    try_polygons(lend_trace);
     memcpy(wrong, Q, sizeof wrong);
     wrong[5] = past_million();
-    CHECK(traced(&t, S, 8, Q, 4, 0, 0, 10001, 0, 0) == BYR_REFUSED_LENGTH && untouched(&t));
     CHECK(traced(&t, S, 8, wrong, 8, 0, 0, 10001, 0, 0) == BYR_REFUSED_NUMBER && untouched(&t));
     CHECK(traced(&t, S, 8, Q, 8, 0, 1e-8, 10000, 0, 0) == BYR_REFUSED_SETTING && untouched(&t));
     CHECK(traced(&t, S, 8, Q, 8, 1, -1e-9, 10000, 0, 0) == BYR_REFUSED_SETTING && untouched(&t));
@@ -506,27 +845,82 @@ static const uint8_t BOOK[64] = {
     0, 0, 0, 0, 3, 0, 0,    0,                               /* offset, vertices */
     1, 0, 0, 0, 48, 0, 0,   0};                              /* rings, entries */
 
+/* What is lent to write a book, the number with which it is refused, and the place
+ * afterwards. */
+struct book {
+    const double *coordinates;
+    size_t n;
+    uint32_t counts[10];
+    size_t rings;
+    uint32_t number;
+    uint64_t place;
+};
+
+static const struct book BOOKS[] = {
+    /* The number of rings, before anything else. */
+    {NULL, 0, {0}, 0, BYR_REFUSED_FEW, 0},
+    {WRONG, 1, {0}, 0, BYR_REFUSED_FEW, 0},
+    {WRONG, 54, {3, 3, 3, 3, 3, 3, 3, 3, 3}, 9, BYR_REFUSED_MANY, 9},
+    {WRONG, 1, {2, 257}, 10, BYR_REFUSED_MANY, 10},
+    /* Ring by ring its vertices. */
+    {WRONG, 4, {2}, 1, BYR_REFUSED_FEW, 0},
+    {WRONG, 514, {257}, 1, BYR_REFUSED_MANY, 0},
+    {WRONG, 10, {3, 2}, 2, BYR_REFUSED_FEW, 1},
+    {WRONG, 518, {257, 2}, 2, BYR_REFUSED_MANY, 0},
+    {WRONG, 518, {2, 257}, 2, BYR_REFUSED_FEW, 0},
+    {WRONG, 7, {3, 0xffffffff}, 2, BYR_REFUSED_MANY, 1},
+    {WRONG, 7, {3, 3, 3, 3, 3, 3, 3, 0}, 8, BYR_REFUSED_FEW, 7},
+    /* The sum. */
+    {WRONG, 6, {4}, 1, BYR_REFUSED_LENGTH, 1},
+    {WRONG, 12, {3, 4}, 2, BYR_REFUSED_LENGTH, 2},
+    {WRONG, 16, {3, 4}, 2, BYR_REFUSED_LENGTH, 2},
+    {WRONG, 5, {3}, 1, BYR_REFUSED_LENGTH, 1},
+    {WRONG, 7, {3}, 1, BYR_REFUSED_LENGTH, 1},
+    {NULL, 0, {3, 3, 3, 3, 3, 3, 3, 256}, 8, BYR_REFUSED_LENGTH, 8},
+    /* The rest. */
+    {WRONG, 6, {3}, 1, BYR_REFUSED_NUMBER, HELD_COUNT},
+    {WRONG, 554, {3, 3, 3, 3, 3, 3, 3, 256}, 8, BYR_REFUSED_NUMBER, HELD_COUNT},
+    {GOOD, 6, {3}, 1, BYR_REFUSED_ROOM, HELD_COUNT},
+};
+
+/* Tries each in a room that is too short for any book. */
+static void refused_books(void) {
+    uint8_t room[63];
+    size_t i;
+
+    memset(room, 0xa5, sizeof room);
+    for (i = 0; i < sizeof BOOKS / sizeof *BOOKS; i++) {
+        const struct book *b = &BOOKS[i];
+        uint64_t length = HELD_COUNT;
+        uint64_t place = HELD_COUNT;
+        row = i + 1;
+        CHECK(byr_write_book(b->coordinates, b->n, b->counts, b->rings, room, 63, &length, &place) == b->number);
+        CHECK(place == b->place && length == HELD_COUNT);
+        CHECK(room[0] == 0xa5 && memcmp(room, room + 1, 62) == 0);
+    }
+    row = 0;
+}
+
 static void writing(void) {
     static const double ring[6] = {4, 0, 0, 3, 0, 0};
     static const uint32_t three[1] = {3};
-    static const uint32_t four[1] = {4};
     double wrong[6];
     uint8_t room[67];
     uint64_t length = HELD_COUNT;
+    uint64_t place = HELD_COUNT;
 
     begin("byr_write_book");
+    refused_books();
     memset(room, 0xa5, sizeof room);
     memcpy(wrong, ring, sizeof wrong);
     wrong[0] = -past_million();
-    CHECK(byr_write_book(NULL, 0, NULL, 0, NULL, 0, &length) == BYR_REFUSED_LENGTH);
-    CHECK(byr_write_book(wrong, 6, four, 1, room, 3, &length) == BYR_REFUSED_LENGTH);
-    CHECK(byr_write_book(wrong, 6, three, 1, room, 3, &length) == BYR_REFUSED_NUMBER);
-    CHECK(byr_write_book(ring, 6, three, 1, room, 63, &length) == BYR_REFUSED_ROOM);
+    CHECK(byr_write_book(wrong, 6, three, 1, room, 66, &length, &place) == BYR_REFUSED_NUMBER);
     CHECK(length == HELD_COUNT && room[0] == 0xa5 && memcmp(room, room + 1, 66) == 0);
-    CHECK(byr_write_book(ring, 6, three, 1, room + 1, 66, &length) == 0 && length == 64);
+    CHECK(byr_write_book(ring, 6, three, 1, room + 1, 66, &length, &place) == 0 && length == 64);
     CHECK(memcmp(room + 1, BOOK, 64) == 0);
     CHECK(room[0] == 0xa5 && room[65] == 0xa5 && room[66] == 0xa5);
-    CHECK(byr_write_book(TRIANGLE, 6, three, 1, room, 64, &length) == 0 && memcmp(room, BOOK, 64) == 0);
+    CHECK(byr_write_book(TRIANGLE, 6, three, 1, room, 64, &length, &place) == 0 && memcmp(room, BOOK, 64) == 0);
+    CHECK(place == HELD_COUNT);
 }
 
 /* A closed drawing and the same begun elsewhere: two books, and one once opened. */
@@ -539,18 +933,21 @@ static void closed_drawings(void) {
     uint8_t other[80];
     uint64_t length = HELD_COUNT;
     uint64_t vertices = HELD_COUNT;
+    uint64_t place = HELD_COUNT;
 
-    CHECK(byr_write_book(CLOSED, 8, four, 1, room, 80, &length) == 0 && length == 80);
-    CHECK(byr_write_book(elsewhere, 8, four, 1, other, 80, &length) == 0 && memcmp(room, other, 80) != 0);
-    CHECK(byr_open_ring(elsewhere, 8, opened, 8, &vertices) == 0 && vertices == 3);
-    CHECK(byr_write_book(opened, 6, three, 1, other, 80, &length) == 0 && memcmp(other, BOOK, 64) == 0);
+    CHECK(byr_write_book(CLOSED, 8, four, 1, room, 80, &length, &place) == 0 && length == 80);
+    CHECK(byr_write_book(elsewhere, 8, four, 1, other, 80, &length, &place) == 0);
+    CHECK(memcmp(room, other, 80) != 0);
+    CHECK(byr_open_ring(elsewhere, 8, opened, 8, &vertices, &place) == 0 && vertices == 3);
+    CHECK(byr_write_book(opened, 6, three, 1, other, 80, &length, &place) == 0 && memcmp(other, BOOK, 64) == 0);
+    CHECK(place == HELD_COUNT);
 }
 
 static void reading(void) {
     static const double stored[6] = {0, 0, 0, 3, 4, 0};
     uint8_t odd[65];
     double coordinates[7];
-    uint32_t counts[2] = {0xbeef, 0xbeef};
+    uint32_t counts[2] = {HELD_WORD, HELD_WORD};
     uint64_t rings = HELD_COUNT;
     uint64_t place = HELD_COUNT;
 
@@ -583,10 +980,12 @@ int main(void) {
     rings();
     contacts();
     vectors();
+    perfect_fit();
     selection();
     collision();
-    positions();
-    overlaps();
+    interlocking();
+    recovery();
+    start_and_overlaps();
     simplification();
     trace_refusals();
     traces();

@@ -9,28 +9,42 @@
  * Lent lists. A polygon, ring or list of points is x, y alternating. Its length
  * is counted in elements of the pointed type, so a polygon of 4 vertices has
  * length 8. A list of length 0 may be NULL; a longer one may not, and nor may the
- * cell of an answer. Lent memory must be as long as is said and aligned for its
- * type; a book's bytes may stand at any address. What is written, a room or a
- * cell, must not overlap anything else that is lent. Lists that are only read may
- * overlap, or be one: to trace a part round itself, lend it twice.
+ * cell of an answer or of a place. Lent memory must be as long as is said and
+ * aligned for its type; a book's bytes may stand at any address. What is written, a
+ * room or a cell, must not overlap anything else that is lent. Lists that are only
+ * read may overlap, or be one: to trace a part round itself, lend it twice.
  *
  * Rings are lent open: the last vertex is joined to the first. A closed drawing,
  * whose last vertex repeats the first, goes through byr_open_ring before any other
  * call. Lent as it is, the repeat counts as a vertex with an edge of no length.
  *
  * Answers. All functions but byr_abi_version and the scalars return 0, or the
- * number of a refusal, BYR_REFUSED_. Answers are written through the last pointers,
- * and to rooms, on success only; the exceptions are told where they arise. What is
- * not written is as it was. A room may be longer than its answer, and part of an
- * entry may be left over at its end.
+ * number of a refusal, BYR_REFUSED_. Answers are written to cells, and to rooms, on
+ * success only; the exceptions are told where they arise. What is not written is as
+ * it was. A room may be longer than its answer, and part of an entry may be left
+ * over at its end.
  *
  * Bounds. A polygon has 3 to 256 vertices, a ring 0 to 256. A coordinate, of a
  * single point or segment end too, is finite and at most 1000000 in size. Moves,
  * positions, visited positions and the points of a list to simplify are finite. A
  * tolerance is above 0 and at most 1.
  *
- * Refusals are tested in the order of their numbers, and in each the lists in the
- * order in which they are lent. byr_read_book alone tests 7 before 4.
+ * Refusals. First the lists are gone through in the order in which they are lent:
+ * of one list 1, then 8, then 9 are tested before the next is looked at. Then 2 is
+ * tested of all that is lent, and then 3, 4, 5 and 6 follow in the order of their
+ * numbers. A function has those that its comment names. byr_write_book goes through
+ * its rings in an order of its own, and byr_read_book tests 7, then 4.
+ *
+ * Place. Every function that takes a list has place as its last pointer. It is
+ * written with refusals 1, 8 and 9, and is then the number of the list at fault:
+ *
+ *     0    the stationary polygon; a; the only list
+ *     1    the orbiting polygon; b
+ *     2    the visited positions
+ *
+ * For byr_write_book it is a ring or the number of rings; byr_read_book writes it
+ * with 7, and it is a byte of the book. With any other refusal, and on success,
+ * place is as it was.
  */
 #ifndef BYRLYGENT_H
 #define BYRLYGENT_H
@@ -49,20 +63,22 @@ extern "C" {
  *     if (byr_abi_version() != BYR_ABI_VERSION) { .. header and archive are not of one tree .. }
  *
  * An archive from before there was a number does not link with such a program. */
-#define BYR_ABI_VERSION 1
+#define BYR_ABI_VERSION 2
 
 /* The interface of the archive. This function itself stays as it is. */
 uint32_t byr_abi_version(void);
 
 /* Why a call was refused. */
 enum {
-    BYR_REFUSED_LENGTH = 1,     /* a list is odd, too short or too long, or the lists of a book do not add up */
+    BYR_REFUSED_LENGTH = 1,     /* a list fits no whole number of entries, or the rings of a book do not add up */
     BYR_REFUSED_NUMBER = 2,     /* a lent number is out of its bounds */
     BYR_REFUSED_SETTING = 3,    /* a tolerance or another setting is out of its bounds */
     BYR_REFUSED_ROOM = 4,       /* the rooms of a trace or of a book are too short, or not of the form asked */
     BYR_REFUSED_FIT = 5,        /* the answer has more entries than its room */
     BYR_REFUSED_SHORT_PATH = 6, /* the path of a trace has under three points */
-    BYR_REFUSED_BOOK = 7        /* a book is wrong */
+    BYR_REFUSED_BOOK = 7,       /* a book is wrong */
+    BYR_REFUSED_FEW = 8,        /* a list has too few entries: vertices, points or rings */
+    BYR_REFUSED_MANY = 9        /* a list has too many */
 };
 
 /* Why a trace stopped. */
@@ -137,98 +153,111 @@ uint32_t byr_point_to_segment_distance(double px, double py, double ax, double a
 uint32_t byr_point_on_segment(double px, double py, double ax, double ay, double bx, double by,
                               double tolerance, uint32_t *on);
 
-/* ---- Rings of 0 to 256 vertices. Refusals: 1, 2, and 5 where there is a room. ---- */
+/* ---- Rings of 0 to 256 vertices. ----
+ * Refusals: 1, 9, 2, and 5 where there is a room. No ring is too short, so there is
+ * no 8. */
 
 /* Writes the ring mirrored at x = 0, in the other order. vertices: how many. */
-uint32_t byr_mirror_polygon(const double *ring, size_t n, double *room, size_t room_n, uint64_t *vertices);
+uint32_t byr_mirror_polygon(const double *ring, size_t n, double *room, size_t room_n, uint64_t *vertices,
+                            uint64_t *place);
 
 /* Writes the ring without its last vertex if there are more than three and the
  * last equals the first, else the ring. vertices: how many are written. */
-uint32_t byr_open_ring(const double *ring, size_t n, double *room, size_t room_n, uint64_t *vertices);
+uint32_t byr_open_ring(const double *ring, size_t n, double *room, size_t room_n, uint64_t *vertices,
+                       uint64_t *place);
 
 /* simple: 1 if there are three vertices or more, and no two edges meet but
  * neighbours, by byr_segments_intersect; else 0. A ring with a closing repeat is
  * not simple. */
-uint32_t byr_is_simple_polygon(const double *ring, size_t n, uint32_t *simple);
+uint32_t byr_is_simple_polygon(const double *ring, size_t n, uint32_t *simple, uint64_t *place);
 
 /* distance: the least from a vertex of one ring to an edge of the other; +infinity
  * if a ring has no vertex. It is the rings' distance if they do not cross. */
-uint32_t byr_ring_distance(const double *a, size_t an, const double *b, size_t bn, double *distance);
+uint32_t byr_ring_distance(const double *a, size_t an, const double *b, size_t bn, double *distance,
+                           uint64_t *place);
 
 /* area2: twice the signed area, above 0 for counter-clockwise order. */
-uint32_t byr_signed_area2(const double *ring, size_t n, double *area2);
+uint32_t byr_signed_area2(const double *ring, size_t n, double *area2, uint64_t *place);
 
 /* area: the signed area by a compensated sum, 0.0 below three vertices. */
-uint32_t byr_signed_area_robust(const double *ring, size_t n, double *area);
+uint32_t byr_signed_area_robust(const double *ring, size_t n, double *area, uint64_t *place);
 
 /* ---- Sliding: polygons of 3 to 256 vertices. ----
+ * Refusals 1, 8 and 9 are told of the stationary polygon (or a) at place 0, and of
+ * the orbiting one (or b) at place 1.
+ *
  * The orbiting polygon is lent where it stands, already moved; only
  * byr_detect_interlocking_opportunity, byr_find_start_position and
  * byr_compute_nfp_sliding take it as drawn, with its position apart. */
 
 /* Every contact of the two polygons, nearer than the tolerance. Per contact,
  * which: kind, stationary index, orbiting index; points: x, y. count: how many.
- * Refusals: 1, 2, 3, 5 (then both rooms are as they were). */
+ * Refusals: 1, 8, 9, 2, 3, 5 (then both rooms are as they were). */
 uint32_t byr_find_contacts(const double *stationary, size_t sn, const double *orbiting, size_t on,
                            double tolerance, uint64_t *which, size_t which_n, double *points, size_t points_n,
-                           uint64_t *count);
+                           uint64_t *count, uint64_t *place);
 
 /* The two directions in which each contact lets the orbiting polygon slide. Per
- * vector, vectors: direction x, y and distance; sources: the place of its contact
- * among those of byr_find_contacts. count: how many. Refusals: 1, 2, 3, 5 (then
- * both rooms are as they were). */
+ * vector, vectors: direction x, y and distance; sources: the index of its contact
+ * among those of byr_find_contacts. count: how many. Refusals: 1, 8, 9, 2, 3, 5
+ * (then both rooms are as they were). */
 uint32_t byr_compute_translation_vectors(const double *stationary, size_t sn, const double *orbiting, size_t on,
                                          double tolerance, double *vectors, size_t vectors_n,
-                                         uint64_t *sources, size_t sources_n, uint64_t *count);
+                                         uint64_t *sources, size_t sources_n, uint64_t *count,
+                                         uint64_t *place);
 
 /* The same without those that lead from (rx,ry) to a visited position, of which
- * there may be 0 to 10001. Refusals: 1, 2, 3, 5 (then both rooms are as they were). */
+ * there may be 0 to 10001. Refusals: 1, 8, 9, 2, 3, 5 (then both rooms are as they
+ * were); of the visited positions, at place 2, only 1 and 9. */
 uint32_t byr_handle_perfect_fit(const double *stationary, size_t sn, const double *orbiting, size_t on, double rx,
                                 double ry, const double *visited, size_t visited_n, double tolerance,
                                 double *vectors, size_t vectors_n, uint64_t *sources, size_t sources_n,
-                                uint64_t *count);
+                                uint64_t *count, uint64_t *place);
 
 /* Which of the vectors, three numbers each, the sliding takes: found is 0 for an
  * empty list, else 1, and then index is that of the first with the greatest
  * score. has_previous is 0 for no previous direction. All bit patterns are taken.
- * Refusal: 1 if the length is no multiple of three. */
+ * Refusal: 1, at place 0, if the length is no multiple of three. */
 uint32_t byr_select_translation_vector(const double *vectors, size_t n, uint32_t has_previous, double previous_x,
                                        double previous_y, double centroid_x, double centroid_y,
-                                       double position_x, double position_y, uint32_t *found, uint64_t *index);
+                                       double position_x, double position_y, uint32_t *found, uint64_t *index,
+                                       uint64_t *place);
 
 /* What the orbiting polygon runs into when it moves by (dx,dy): found is 0 for
  * nothing, else 1, and then distance, kind (0 or 1) and both indices are those of
- * the nearest hit, the first in scan order. Refusals: 1, 2, 3. */
+ * the nearest hit, the first in scan order. Refusals: 1, 8, 9, 2, 3. */
 uint32_t byr_check_translation_collision(const double *stationary, size_t sn, const double *orbiting, size_t on,
                                          double dx, double dy, double tolerance, uint32_t *found,
                                          double *distance, uint32_t *kind, uint64_t *stationary_i,
-                                         uint64_t *orbiting_i);
+                                         uint64_t *orbiting_i, uint64_t *place);
 
 /* A position one tolerance nearer to a concave vertex, from (x,y), at which the
  * polygons do not overlap: found is 0 for none, else 1, and then (to_x,to_y).
- * Refusals: 1, 2, 3. */
+ * Refusals: 1, 8, 9, 2, 3. */
 uint32_t byr_detect_interlocking_opportunity(const double *stationary, size_t sn, const double *orbiting,
                                              size_t on, double x, double y, double tolerance,
-                                             uint32_t *found, double *to_x, double *to_y);
+                                             uint32_t *found, double *to_x, double *to_y, uint64_t *place);
 
 /* Where to go from (x,y) to bring the orbiting polygon, lent where it stands, back
  * to the stationary one: found is 0 if it is no farther than the tolerance, else
- * 1, and then (to_x,to_y). Refusals: 1, 2, 3. */
+ * 1, and then (to_x,to_y). Refusals: 1, 8, 9, 2, 3. */
 uint32_t byr_recover_contact(const double *stationary, size_t sn, const double *orbiting, size_t on, double x,
-                             double y, double tolerance, uint32_t *found, double *to_x, double *to_y);
+                             double y, double tolerance, uint32_t *found, double *to_x, double *to_y,
+                             uint64_t *place);
 
 /* overlap: 0 if an axis parts the polygons by more than 1e-6, else 1; touching
- * polygons count as overlapping. Refusals: 1, 2. */
-uint32_t byr_polygons_overlap(const double *a, size_t an, const double *b, size_t bn, uint32_t *overlap);
+ * polygons count as overlapping. Refusals: 1, 8, 9, 2. */
+uint32_t byr_polygons_overlap(const double *a, size_t an, const double *b, size_t bn, uint32_t *overlap,
+                              uint64_t *place);
 
-/* The same by more than the tolerance. Refusals: 1, 2, 3. */
+/* The same by more than the tolerance. Refusals: 1, 8, 9, 2, 3. */
 uint32_t byr_polygons_overlap_with_tolerance(const double *a, size_t an, const double *b, size_t bn,
-                                             double tolerance, uint32_t *overlap);
+                                             double tolerance, uint32_t *overlap, uint64_t *place);
 
 /* x, y: where the orbiting polygon's highest vertex meets the stationary one's
- * lowest. Refusals: 1, 2. */
+ * lowest. Refusals: 1, 8, 9, 2. */
 uint32_t byr_find_start_position(const double *stationary, size_t sn, const double *orbiting, size_t on, double *x,
-                                 double *y);
+                                 double *y, uint64_t *place);
 
 /* Writes those of a list of 0 to 10001 points that stay; all of them if fewer than
  * three would. The last point's neighbour is the first. A point stays if the turn
@@ -236,9 +265,10 @@ uint32_t byr_find_start_position(const double *stationary, size_t sn, const doub
  * farther than the tolerance from the segment between its neighbours, as the tip
  * of a spike is. So the tolerance is for spikes: a point nearly in line stays. The
  * neighbours are those of the list as lent: of two equal points side by side
- * neither stays. points: how many are written. Refusals: 1, 2, 3, 5. */
+ * neither stays. points: how many are written. Refusals: 1 and 9 at place 0, 2, 3,
+ * 5; no list is too short. */
 uint32_t byr_simplify_polygon(const double *list, size_t n, double tolerance, double *room, size_t room_n,
-                              uint64_t *points);
+                              uint64_t *points, uint64_t *place);
 
 /* Traces the orbiting polygon round the stationary one. Closed drawings go through
  * byr_open_ring first. min_translation is finite and not negative, max_iterations
@@ -248,7 +278,7 @@ uint32_t byr_simplify_polygon(const double *list, size_t n, double tolerance, do
  *
  * Success: the work room holds the path, stored points, and the result room the
  * path simplified, points points; passes are those begun, stop is a BYR_STOP_.
- * Refusals 1, 2, 3, 4: nothing is written.
+ * Refusals 1, 8, 9: place alone is written. Refusals 2, 3, 4: nothing is.
  * Refusal 5, a point was to be stored and the work room is full: it holds the
  * stored points; passes is written.
  * Refusal 6, fewer than three points at the end: the work room holds the path;
@@ -256,7 +286,8 @@ uint32_t byr_simplify_polygon(const double *list, size_t n, double tolerance, do
 uint32_t byr_compute_nfp_sliding(const double *stationary, size_t sn, const double *orbiting, size_t on,
                                  double contact_tolerance, double min_translation, uint64_t max_iterations,
                                  double *work, size_t work_n, double *result, size_t result_n,
-                                 uint64_t *points, uint64_t *stored, uint64_t *passes, uint32_t *stop);
+                                 uint64_t *points, uint64_t *stored, uint64_t *passes, uint32_t *stop,
+                                 uint64_t *place);
 
 /* ---- The outline book ---- */
 
@@ -266,9 +297,18 @@ uint32_t byr_compute_nfp_sliding(const double *stationary, size_t sn, const doub
  * taken either way round. A closing repeat is a vertex like any other: the closed
  * (0,0),(4,0),(0,3),(0,0) and (4,0),(0,3),(0,0),(4,0) have two books, and opened
  * one. length: the book's bytes, 16 a vertex, 8 a ring and 8; 32840 at most.
- * Refusals: 1, 2, 4. */
+ *
+ * Refusals, in this order, and the place that each tells:
+ *
+ *     8 for no rings, 9 for more than eight               the number of rings
+ *     ring by ring, 8 under three vertices, 9 above 256   the ring, from 0 on
+ *     1 unless there are two coordinates for each vertex
+ *     counted; so also for an odd list                    the number of rings
+ *     2, then 4                                           none
+ *
+ * So 8 at place 0 is a book of no rings if none is lent, and else a short ring 0. */
 uint32_t byr_write_book(const double *coordinates, size_t n, const uint32_t *counts, size_t rings, uint8_t *room,
-                        size_t room_n, uint64_t *length);
+                        size_t room_n, uint64_t *length, uint64_t *place);
 
 /* Hands out the rings of a book as stored: their coordinates one after the other
  * and the vertices of each; rings: how many. 4096 coordinates and 8 counts always

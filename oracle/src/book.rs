@@ -4,10 +4,13 @@
 
 use crate::answers::Point;
 use crate::calls::points_of;
-use crate::refusals::{self, unless, Answer, LARGEST, LEAST_VERTICES, MOST_VERTICES};
+use crate::refusals::{self, unless, Answer, Refusal};
+use crate::refusals::{LARGEST, LEAST_VERTICES, MOST_VERTICES};
 use std::cmp::Ordering;
 
-/// Most rings of a book; the fewest are one.
+/// Fewest rings of a book.
+pub const LEAST_RINGS: usize = 1;
+/// Most rings of a book.
 pub const MOST_RINGS: usize = 8;
 /// Bytes of the shortest book: one ring of three vertices.
 pub const LEAST_BYTES: usize = 64;
@@ -83,14 +86,17 @@ pub fn file_of(rings: &[Vec<f64>]) -> Vec<u8> {
     layout(&rings.iter().map(|ring| points_of(ring)).collect::<Vec<_>>())
 }
 
-/// 1 unless the counts are those of a book and the list is as long as their sum.
+/// 8 and 9 of the number of rings, told at that number; then ring by ring 8 and 9
+/// of its vertices, told at the ring; then 1, at the number of rings, unless the
+/// list is as long as all vertices ask.
 fn lengths(coordinates: &[f64], counts: &[u32]) -> Answer<()> {
-    unless((1..=MOST_RINGS).contains(&counts.len()), 1)?;
-    for &count in counts {
-        unless((LEAST_VERTICES..=MOST_VERTICES).contains(&(count as usize)), 1)?;
+    let rings = counts.len() as u64;
+    refusals::entries(counts.len(), LEAST_RINGS, MOST_RINGS, rings)?;
+    for (ring, &count) in (0..).zip(counts) {
+        refusals::entries(count as usize, LEAST_VERTICES, MOST_VERTICES, ring)?;
     }
     let sum: u64 = counts.iter().map(|&count| u64::from(count)).sum();
-    unless(coordinates.len() as u64 == 2 * sum, 1)
+    unless(coordinates.len() as u64 == 2 * sum, Refusal::at(1, rings))
 }
 
 /// The list cut into rings of these lengths.
@@ -111,7 +117,7 @@ pub fn write_book(coordinates: &[f64], counts: &[u32], room: &mut [u8]) -> Answe
     refusals::coordinates(coordinates)?;
     let rings = cut(&points_of(coordinates), counts);
     let book = layout(&rings.iter().map(|ring| least_reading(ring)).collect::<Vec<_>>());
-    unless(book.len() <= room.len(), 4)?;
+    unless(book.len() <= room.len(), Refusal::of(4))?;
     room[..book.len()].copy_from_slice(&book);
     Ok(book.len())
 }
@@ -135,22 +141,9 @@ pub fn patched(file: &[u8], place: usize, bytes: &[u8]) -> Vec<u8> {
 // Reading
 // ---------------------------------------------------------------------------
 
-/// Why a book was not read.
-#[derive(Debug, Clone, Copy, PartialEq, Eq)]
-pub enum Unread {
-    /// Refusal 7: the book is wrong, and its first fault is in this place.
-    Wrong(usize),
-    /// Refusal 4: a room is too short.
-    NoRoom,
-}
-
-/// The fault in this place unless the check holds.
-fn check(holds: bool, place: usize) -> Result<(), Unread> {
-    if holds {
-        Ok(())
-    } else {
-        Err(Unread::Wrong(place))
-    }
+/// 7 with the fault in this place unless the check holds.
+fn check(holds: bool, place: usize) -> Answer<()> {
+    unless(holds, Refusal::at(7, place as u64))
 }
 
 /// The field in this place.
@@ -166,11 +159,11 @@ fn coordinate(book: &[u8], place: usize) -> f64 {
 }
 
 /// Checks the end; answers how many rings there are and where the entries begin.
-fn end_of(book: &[u8]) -> Result<(usize, usize), Unread> {
+fn end_of(book: &[u8]) -> Answer<(usize, usize)> {
     let length = book.len();
     check((LEAST_BYTES..=MOST_BYTES).contains(&length), 0)?;
     let rings = field(book, length - END);
-    check((1..=MOST_RINGS as u64).contains(&rings), length - END)?;
+    check((LEAST_RINGS as u64..=MOST_RINGS as u64).contains(&rings), length - END)?;
     let entries = field(book, length - FIELD);
     check(entries + ENTRY as u64 * rings + END as u64 == length as u64, length - FIELD)?;
     Ok((rings as usize, entries as usize))
@@ -178,7 +171,7 @@ fn end_of(book: &[u8]) -> Result<(usize, usize), Unread> {
 
 /// Checks the entries, and that the rings end where these begin; answers the
 /// vertices of each ring.
-fn entries_of(book: &[u8], rings: usize, entries: usize) -> Result<Vec<u32>, Unread> {
+fn entries_of(book: &[u8], rings: usize, entries: usize) -> Answer<Vec<u32>> {
     let mut counts = Vec::new();
     let mut before = 0;
     for place in (0..rings).map(|ring| entries + ENTRY * ring) {
@@ -194,7 +187,7 @@ fn entries_of(book: &[u8], rings: usize, entries: usize) -> Result<Vec<u32>, Unr
 }
 
 /// Checks the book; answers its coordinates and the vertices of each ring.
-fn checked(book: &[u8]) -> Result<(Vec<f64>, Vec<u32>), Unread> {
+fn checked(book: &[u8]) -> Answer<(Vec<f64>, Vec<u32>)> {
     let (rings, entries) = end_of(book)?;
     let counts = entries_of(book, rings, entries)?;
     let mut coordinates = Vec::new();
@@ -213,15 +206,10 @@ fn checked(book: &[u8]) -> Result<(Vec<f64>, Vec<u32>), Unread> {
 
 /// Hands out the rings of a book as stored, to the front of each room; answers
 /// how many rings there are.
-pub fn read_book(
-    book: &[u8],
-    coordinates: &mut [f64],
-    counts: &mut [u32],
-) -> Result<usize, Unread> {
+pub fn read_book(book: &[u8], coordinates: &mut [f64], counts: &mut [u32]) -> Answer<usize> {
     let (stored, vertices) = checked(book)?;
-    if coordinates.len() < stored.len() || counts.len() < vertices.len() {
-        return Err(Unread::NoRoom);
-    }
+    unless(stored.len() <= coordinates.len(), Refusal::of(4))?;
+    unless(vertices.len() <= counts.len(), Refusal::of(4))?;
     coordinates[..stored.len()].copy_from_slice(&stored);
     counts[..vertices.len()].copy_from_slice(&vertices);
     Ok(vertices.len())
@@ -235,8 +223,7 @@ pub fn read_book(
 pub fn printed(book: &[u8]) -> String {
     let (coordinates, counts) = match checked(book) {
         Ok(read) => read,
-        Err(Unread::Wrong(place)) => return format!("refused 7 {place}\n"),
-        Err(Unread::NoRoom) => unreachable!("no room is lent"),
+        Err(refusal) => return format!("{refusal}\n"),
     };
     let mut text = format!("rings {}\n", counts.len());
     for (i, ring) in cut(&points_of(&coordinates), &counts).iter().enumerate() {

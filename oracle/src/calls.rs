@@ -6,7 +6,8 @@ use crate::answers::{Error, Nfp, Point, Trace};
 use crate::fixed::nfp_sliding as sliding;
 use crate::fixed::nfp_sliding::{Contact, ContactType, SlidingNfpConfig, TranslationVector};
 use crate::fixed::{helpers, polygon_ops, robust};
-use crate::refusals::{self, fits, polygons, Answer, Settings};
+use crate::refusals::{self, fits, lists, polygons, Answer, Refusal, Settings};
+use crate::refusals::{PATH, POLYGON, RING, VECTORS};
 
 /// The points of a list of x, y alternating.
 pub fn points_of(list: &[f64]) -> Vec<Point> {
@@ -114,9 +115,9 @@ pub fn point_on_segment(p: Point, a: Point, b: Point, tolerance: f64) -> Answer<
 // Rings
 // ---------------------------------------------------------------------------
 
-/// The points of a ring of 0 to 256 vertices, or refusal 1 or 2.
+/// The points of a ring of 0 to 256 vertices, or refusal 1, 9 or 2.
 fn ring_of(ring: &[f64]) -> Answer<Vec<Point>> {
-    refusals::ring_length(ring)?;
+    lists(&[(ring, RING)])?;
     refusals::coordinates(ring)?;
     Ok(points_of(ring))
 }
@@ -138,8 +139,7 @@ pub fn is_simple_polygon(ring: &[f64]) -> Answer<bool> {
 
 /// The least distance of a vertex of one ring to an edge of the other.
 pub fn ring_distance(a: &[f64], b: &[f64]) -> Answer<f64> {
-    refusals::ring_length(a)?;
-    refusals::ring_length(b)?;
+    lists(&[(a, RING), (b, RING)])?;
     refusals::coordinates(a)?;
     refusals::coordinates(b)?;
     Ok(polygon_ops::ring_distance(&points_of(a), &points_of(b)))
@@ -249,9 +249,7 @@ pub fn handle_perfect_fit(
     vectors: &mut [f64],
     sources: &mut [u64],
 ) -> Answer<usize> {
-    refusals::polygon_length(stationary)?;
-    refusals::polygon_length(orbiting)?;
-    refusals::path_length(visited)?;
+    lists(&[(stationary, POLYGON), (orbiting, POLYGON), (visited, PATH)])?;
     refusals::coordinates(stationary)?;
     refusals::coordinates(orbiting)?;
     refusals::finite(&[reference.0, reference.1])?;
@@ -272,9 +270,7 @@ pub fn select_translation_vector(
     centroid: Point,
     position: Point,
 ) -> Answer<Option<u64>> {
-    if !vectors.len().is_multiple_of(3) {
-        return Err(1);
-    }
+    lists(&[(vectors, VECTORS)])?;
     // The text answers the vector itself; its place rides along in the contact.
     let carried = |(place, v): (usize, &[f64])| {
         let contact = Contact {
@@ -378,7 +374,7 @@ pub fn find_start_position(stationary: &[f64], orbiting: &[f64]) -> Answer<Point
 
 /// Writes the list without its collinear points; answers the points left.
 pub fn simplify_polygon(list: &[f64], tolerance: f64, room: &mut [f64]) -> Answer<usize> {
-    refusals::path_length(list)?;
+    lists(&[(list, PATH)])?;
     refusals::finite(list)?;
     refusals::tolerance(tolerance)?;
     let simplified = sliding::simplify_polygon(&points_of(list), tolerance);
@@ -388,8 +384,8 @@ pub fn simplify_polygon(list: &[f64], tolerance: f64, room: &mut [f64]) -> Answe
 /// What a trace answers.
 #[derive(Debug, Clone, Copy, PartialEq, Eq)]
 pub enum Traced {
-    /// Refusal 1, 2, 3 or 4: nothing was traced.
-    Refused(u32),
+    /// Any refusal but 5 and 6: nothing was traced.
+    Refused(Refusal),
     /// Refusal 5: the work room is full of stored points.
     Full { passes: u64 },
     /// Refusal 6: the path has under three points.
@@ -399,18 +395,18 @@ pub enum Traced {
 }
 
 impl Traced {
-    /// The refusal's number, 0 for success.
-    pub fn number(&self) -> u32 {
+    /// The refusal, nothing for success.
+    pub fn refusal(&self) -> Option<Refusal> {
         match *self {
-            Self::Refused(number) => number,
-            Self::Full { .. } => 5,
-            Self::Short { .. } => 6,
-            Self::Done { .. } => 0,
+            Self::Refused(refusal) => Some(refusal),
+            Self::Full { .. } => Some(Refusal::of(5)),
+            Self::Short { .. } => Some(Refusal::of(6)),
+            Self::Done { .. } => None,
         }
     }
 }
 
-/// Refusals 1 to 4 of a trace, in their order.
+/// The refusals of a trace before it begins, in their order.
 fn trace_tests(
     stationary: &[f64],
     orbiting: &[f64],
@@ -457,8 +453,8 @@ pub fn compute_nfp_sliding(
     work: &mut [f64],
     result: &mut [f64],
 ) -> Traced {
-    if let Err(number) = trace_tests(stationary, orbiting, settings, work, result) {
-        return Traced::Refused(number);
+    if let Err(refusal) = trace_tests(stationary, orbiting, settings, work, result) {
+        return Traced::Refused(refusal);
     }
     let config = SlidingNfpConfig {
         contact_tolerance: settings.contact_tolerance,

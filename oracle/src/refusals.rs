@@ -1,8 +1,45 @@
 //! docs/SCOPE.md's tests of lent lists, numbers, settings and rooms. Each answers
-//! the refusal number if its test fails; a call runs them in docs/SCOPE.md's order.
+//! the refusal if its test fails; a call runs them in docs/SCOPE.md's order.
 
-/// An answer, or the number of the refusal.
-pub type Answer<T> = Result<T, u32>;
+use std::fmt;
+
+/// A refusal: its number, and the place it tells, 0 where it tells none.
+#[derive(Debug, Clone, Copy, PartialEq, Eq)]
+pub struct Refusal {
+    pub number: u32,
+    pub place: u64,
+}
+
+impl Refusal {
+    /// The refusal with this number, which tells no place.
+    pub fn of(number: u32) -> Self {
+        Self::at(number, 0)
+    }
+
+    /// The refusal with this number that tells this place.
+    pub fn at(number: u32, place: u64) -> Self {
+        Self { number, place }
+    }
+
+    /// Whether it tells a place: of a list or ring, or of a book's first fault.
+    pub fn tells_place(&self) -> bool {
+        matches!(self.number, 1 | 7 | 8 | 9)
+    }
+}
+
+impl fmt::Display for Refusal {
+    /// The line that a program prints, without its end.
+    fn fmt(&self, f: &mut fmt::Formatter<'_>) -> fmt::Result {
+        write!(f, "refused {}", self.number)?;
+        if self.tells_place() {
+            write!(f, " {}", self.place)?;
+        }
+        Ok(())
+    }
+}
+
+/// An answer, or the refusal.
+pub type Answer<T> = Result<T, Refusal>;
 
 /// Most vertices of a ring or polygon.
 pub const MOST_VERTICES: usize = 256;
@@ -23,75 +60,90 @@ pub struct Settings {
     pub max_iterations: u64,
 }
 
-/// The refusal with this number unless the test holds.
-pub fn unless(test: bool, number: u32) -> Answer<()> {
+/// The refusal unless the test holds.
+pub fn unless(test: bool, refusal: Refusal) -> Answer<()> {
     if test {
         Ok(())
     } else {
-        Err(number)
+        Err(refusal)
     }
 }
 
-/// 1 unless the list holds whole points, from `least` to `most` of them.
-pub fn points_between(list: &[f64], least: usize, most: usize) -> Answer<()> {
-    let points = list.len() / 2;
-    unless(list.len().is_multiple_of(2) && least <= points && points <= most, 1)
+/// What a lent list holds: how many numbers an entry has, and how many entries
+/// there are at least and at most.
+#[derive(Debug, Clone, Copy)]
+pub struct Kind {
+    width: usize,
+    least: usize,
+    most: usize,
 }
 
-/// 1 unless the list can be a ring.
-pub fn ring_length(ring: &[f64]) -> Answer<()> {
-    points_between(ring, 0, MOST_VERTICES)
+/// A ring.
+pub const RING: Kind = Kind { width: 2, least: 0, most: MOST_VERTICES };
+/// A sliding polygon.
+pub const POLYGON: Kind = Kind { width: 2, least: LEAST_VERTICES, most: MOST_VERTICES };
+/// Visited positions, or a list to simplify.
+pub const PATH: Kind = Kind { width: 2, least: 0, most: MOST_POINTS };
+/// Vectors to select from.
+pub const VECTORS: Kind = Kind { width: 3, least: 0, most: usize::MAX };
+
+/// 8 for too few entries, 9 for too many, at this place.
+pub fn entries(count: usize, least: usize, most: usize, place: u64) -> Answer<()> {
+    unless(least <= count, Refusal::at(8, place))?;
+    unless(count <= most, Refusal::at(9, place))
 }
 
-/// 1 unless the list can be a sliding polygon.
-pub fn polygon_length(polygon: &[f64]) -> Answer<()> {
-    points_between(polygon, LEAST_VERTICES, MOST_VERTICES)
+/// The first fault of a list, at this place: 1 for a length that fits no whole
+/// number of entries, then 8, then 9.
+fn list(list: &[f64], kind: Kind, place: u64) -> Answer<()> {
+    unless(list.len().is_multiple_of(kind.width), Refusal::at(1, place))?;
+    entries(list.len() / kind.width, kind.least, kind.most, place)
 }
 
-/// 1 unless the list can be visited positions, or be simplified.
-pub fn path_length(path: &[f64]) -> Answer<()> {
-    points_between(path, 0, MOST_POINTS)
+/// The first fault of a call's lists, one after the other; the place is the
+/// list's among them.
+pub fn lists(lists: &[(&[f64], Kind)]) -> Answer<()> {
+    (0..).zip(lists).try_for_each(|(place, &(numbers, kind))| list(numbers, kind, place))
 }
 
 /// 2 unless every number is a coordinate: finite and at most a million in size.
 pub fn coordinates(numbers: &[f64]) -> Answer<()> {
-    unless(numbers.iter().all(|x| x.abs() <= LARGEST), 2)
+    unless(numbers.iter().all(|x| x.abs() <= LARGEST), Refusal::of(2))
 }
 
 /// 2 unless every number is finite.
 pub fn finite(numbers: &[f64]) -> Answer<()> {
-    unless(numbers.iter().all(|x| x.is_finite()), 2)
+    unless(numbers.iter().all(|x| x.is_finite()), Refusal::of(2))
 }
 
 /// 3 unless the tolerance is above 0 and at most 1.
 pub fn tolerance(tolerance: f64) -> Answer<()> {
-    unless(tolerance > 0.0 && tolerance <= 1.0, 3)
+    unless(tolerance > 0.0 && tolerance <= 1.0, Refusal::of(3))
 }
 
 /// 3 unless every setting is within its bounds.
 pub fn settings(settings: &Settings) -> Answer<()> {
     tolerance(settings.contact_tolerance)?;
     let move_size = settings.min_translation;
-    unless(move_size.is_finite() && move_size >= 0.0, 3)?;
-    unless(settings.max_iterations <= MOST_PASSES, 3)
+    unless(move_size.is_finite() && move_size >= 0.0, Refusal::of(3))?;
+    unless(settings.max_iterations <= MOST_PASSES, Refusal::of(3))
 }
 
 /// 4 unless the work room holds whole points, at least one, and the result room
 /// is at least as long.
 pub fn trace_rooms(work: &[f64], result: &[f64]) -> Answer<()> {
-    unless(work.len().is_multiple_of(2) && work.len() >= 2, 4)?;
-    unless(result.len() >= work.len(), 4)
+    unless(work.len().is_multiple_of(2) && work.len() >= 2, Refusal::of(4))?;
+    unless(result.len() >= work.len(), Refusal::of(4))
 }
 
 /// 5 unless so many entries, each of that many elements, fit a room so long.
 pub fn fits(entries: usize, each: usize, room: usize) -> Answer<()> {
-    unless(entries * each <= room, 5)
+    unless(entries * each <= room, Refusal::of(5))
 }
 
-/// 1 and then 2 for a stationary and an orbiting polygon.
+/// 1, 8 and 9, and then 2, for a stationary and an orbiting polygon.
 pub fn polygons(stationary: &[f64], orbiting: &[f64]) -> Answer<()> {
-    polygon_length(stationary)?;
-    polygon_length(orbiting)?;
+    lists(&[(stationary, POLYGON), (orbiting, POLYGON)])?;
     coordinates(stationary)?;
     coordinates(orbiting)
 }

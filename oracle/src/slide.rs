@@ -1,7 +1,7 @@
 //! The program that traces one ring of a book round another: what it prints for
 //! an input, and the inputs that the repository stores with their outputs.
 
-use crate::book::{book_of, file_of, read_book, Unread, MOST_BYTES};
+use crate::book::{book_of, file_of, read_book, MOST_BYTES};
 use crate::calls::{compute_nfp_sliding, Traced};
 use crate::refusals::{Settings, LARGEST, MOST_POINTS};
 use crate::replay::{answer_bits, bytes};
@@ -40,7 +40,8 @@ fn traced(stationary: &[f64], orbiting: &[f64], settings: &Settings) -> String {
     let [mut work, mut result] = [vec![0.0; 2 * MOST_POINTS], vec![0.0; 2 * MOST_POINTS]];
     let traced = compute_nfp_sliding(stationary, orbiting, settings, &mut work, &mut result);
     let Traced::Done { points, passes, stop, .. } = traced else {
-        return format!("refused {}\n", traced.number());
+        let refusal = traced.refusal().expect("only what is done is not refused");
+        return format!("{refusal}\n");
     };
     let mut text = format!("path {points} passes {passes} stop {stop}\n");
     for point in result.chunks_exact(2).take(points as usize) {
@@ -59,8 +60,7 @@ pub fn printed(input: &[u8]) -> String {
             let (stationary, rest) = coordinates.split_at(2 * counts[0] as usize);
             traced(stationary, &rest[..2 * counts[1] as usize], &settings_of(input))
         }
-        Err(Unread::Wrong(place)) => format!("refused 7 {place}\n"),
-        Err(Unread::NoRoom) => unreachable!("the rooms hold every book"),
+        Err(refusal) => format!("{refusal}\n"),
     }
 }
 

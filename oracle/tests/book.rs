@@ -1,8 +1,9 @@
 //! The outline book: docs/SCOPE.md's example, the least reading, each refusal.
 
 use oracle::answers::Point;
-use oracle::book::{layout, least_reading, printed, read_book, readings, write_book, Unread};
+use oracle::book::{layout, least_reading, printed, read_book, readings, write_book};
 use oracle::calls::points_of;
+use oracle::refusals::{Answer, Refusal};
 use oracle::seeded::Seeded;
 
 /// docs/SCOPE.md's ring, as lent.
@@ -40,7 +41,7 @@ fn with_number(book: &[u8], place: usize, number: f64) -> Vec<u8> {
 }
 
 /// What reading this book into long rooms comes to; refused ones leave them.
-fn read(book: &[u8]) -> Result<usize, Unread> {
+fn read(book: &[u8]) -> Answer<usize> {
     let (mut coordinates, mut counts) = ([7.5; 4096], [9; 8]);
     let answer = read_book(book, &mut coordinates, &mut counts);
     if answer.is_err() {
@@ -120,40 +121,47 @@ fn a_closing_repeat_is_a_vertex() {
 }
 
 #[test]
-fn wrong_lengths_are_1() {
+fn wrong_lengths_are_told_by_number_and_place() {
     let square = [0.0, 0.0, 4.0, 0.0, 4.0, 4.0, 0.0, 4.0];
     let refused = |coordinates: &[f64], counts: &[u32]| {
         let mut room = [0xa5; 256];
         let answer = write_book(coordinates, counts, &mut room);
         assert!(answer.is_ok() || room == [0xa5; 256]);
-        answer.err().unwrap_or(0)
+        answer.err().map(|no| (no.number, no.place))
     };
-    assert_eq!(refused(&square, &[4]), 0);
-    assert_eq!(refused(&square, &[3]), 1);
-    assert_eq!(refused(&square, &[5]), 1);
-    assert_eq!(refused(&square[..7], &[3]), 1);
-    assert_eq!(refused(&square[..7], &[4]), 1);
-    assert_eq!(refused(&square[..4], &[2]), 1);
-    assert_eq!(refused(&[], &[]), 1);
-    assert_eq!(refused(&square, &[4, 0]), 1);
-    assert_eq!(refused(&[], &[1 << 31, 1 << 31]), 1);
-    assert_eq!(refused(&RING, &[u32::MAX, 4]), 1);
-    assert_eq!(refused(&[RING; 9].concat(), &[3; 9]), 1);
-    assert_eq!(refused(&[0.0; 514], &[257]), 1);
+    assert_eq!(refused(&square, &[4]), None);
+    // The sum, an odd list included, is told at the number of rings.
+    assert_eq!(refused(&square, &[3]), Some((1, 1)));
+    assert_eq!(refused(&square, &[5]), Some((1, 1)));
+    assert_eq!(refused(&square[..7], &[3]), Some((1, 1)));
+    assert_eq!(refused(&square[..7], &[4]), Some((1, 1)));
+    assert_eq!(refused(&square, &[3, 3]), Some((1, 2)));
+    // A ring's count is told at the ring, whatever the list has.
+    assert_eq!(refused(&square[..4], &[2]), Some((8, 0)));
+    assert_eq!(refused(&square, &[4, 0]), Some((8, 1)));
+    assert_eq!(refused(&square[..7], &[3, 257, 2]), Some((9, 1)));
+    assert_eq!(refused(&[], &[1 << 31, 1 << 31]), Some((9, 0)));
+    assert_eq!(refused(&RING, &[u32::MAX, 4]), Some((9, 0)));
+    assert_eq!(refused(&[0.0; 514], &[257]), Some((9, 0)));
+    // The number of rings is told first, at that number.
+    assert_eq!(refused(&[], &[]), Some((8, 0)));
+    assert_eq!(refused(&square[..7], &[]), Some((8, 0)));
+    assert_eq!(refused(&[RING; 9].concat(), &[3; 9]), Some((9, 9)));
+    assert_eq!(refused(&[], &[2; 16]), Some((9, 16)));
 }
 
 #[test]
-fn wrong_lengths_numbers_and_rooms_are_1_2_and_4_in_this_order() {
+fn lengths_numbers_and_rooms_are_refused_in_this_order() {
     let mut faulty = RING;
     faulty[5] = 1_000_000.0_f64.next_up();
-    assert_eq!(write_book(&faulty, &[4], &mut []), Err(1));
-    assert_eq!(write_book(&faulty, &[3], &mut []), Err(2));
+    assert_eq!(write_book(&faulty, &[4], &mut []), Err(Refusal::at(1, 1)));
+    assert_eq!(write_book(&faulty, &[3], &mut []), Err(Refusal::of(2)));
     let mut room = [0xa5; 63];
-    assert_eq!(write_book(&RING, &[3], &mut room), Err(4));
+    assert_eq!(write_book(&RING, &[3], &mut room), Err(Refusal::of(4)));
     assert_eq!(room, [0xa5; 63]);
     for number in [f64::NAN, f64::INFINITY, f64::NEG_INFINITY, -1_000_000.0_f64.next_up()] {
         faulty[0] = number;
-        assert_eq!(write_book(&faulty, &[3], &mut [0; 64]), Err(2));
+        assert_eq!(write_book(&faulty, &[3], &mut [0; 64]), Err(Refusal::of(2)));
     }
     assert_eq!(write_book(&[-1e6, 1e6, 1e6, 1e6, 0.0, 0.0], &[3], &mut [0; 64]), Ok(64));
 }
@@ -163,7 +171,8 @@ fn each_fault_has_its_place() {
     let book = book_of(&[&RING, &[0.0, 0.0, 1.0, 0.0, 0.0, 0.0, 0.0, 1.0]]);
     let (length, entries) = (136, 112);
     assert_eq!((book.len(), read(&book)), (length, Ok(2)));
-    let wrong = |book: &[u8], place: usize| assert_eq!(read(book), Err(Unread::Wrong(place)));
+    let wrong =
+        |book: &[u8], place: usize| assert_eq!(read(book), Err(Refusal::at(7, place as u64)));
     wrong(&book[..63], 0);
     wrong(&[&book[..], &[0; 32_705]].concat(), 0);
     for rings in [0, 9, u32::MAX] {
@@ -194,13 +203,13 @@ fn each_fault_has_its_place() {
 fn the_first_fault_is_told() {
     let ring = |vertices: &[f64]| points_of(vertices);
     let turned = layout(&[ring(&RING), ring(&[1.0, 1.0, 0.0, 0.0, 0.0, 1.0])]);
-    assert_eq!(read(&turned), Err(Unread::Wrong(0)));
+    assert_eq!(read(&turned), Err(Refusal::at(7, 0)));
     // A coordinate of a later ring comes before an earlier ring's reading.
-    assert_eq!(read(&with_number(&turned, 88, 2e6)), Err(Unread::Wrong(88)));
+    assert_eq!(read(&with_number(&turned, 88, 2e6)), Err(Refusal::at(7, 88)));
     let both = with_field(&with_field(&turned, 104, 8), 100, 2);
-    assert_eq!(read(&both), Err(Unread::Wrong(100)));
-    assert_eq!(read(&with_field(&both, 116, 0)), Err(Unread::Wrong(116)));
-    assert_eq!(read(&with_field(&with_field(&both, 116, 0), 112, 0)), Err(Unread::Wrong(112)));
+    assert_eq!(read(&both), Err(Refusal::at(7, 100)));
+    assert_eq!(read(&with_field(&both, 116, 0)), Err(Refusal::at(7, 116)));
+    assert_eq!(read(&with_field(&with_field(&both, 116, 0), 112, 0)), Err(Refusal::at(7, 112)));
 }
 
 #[test]
@@ -208,17 +217,17 @@ fn entries_never_begin_before_the_first_byte() {
     for length in 64..72_usize {
         let offset = (length as u32).wrapping_sub(8 + 8 * 8);
         let file = with_field(&with_field(&vec![0; length], length - 8, 8), length - 4, offset);
-        assert_eq!(read(&file), Err(Unread::Wrong(length - 4)));
+        assert_eq!(read(&file), Err(Refusal::at(7, length as u64 - 4)));
     }
 }
 
 #[test]
 fn faults_are_told_before_rooms() {
-    assert_eq!(read_book(&with_number(&BOOK, 0, 1.0), &mut [], &mut []), Err(Unread::Wrong(0)));
+    assert_eq!(read_book(&with_number(&BOOK, 0, 1.0), &mut [], &mut []), Err(Refusal::at(7, 0)));
     for (numbers, rings, answer) in [(6, 1, true), (7, 2, true), (5, 1, false), (6, 0, false)] {
         let (mut coordinates, mut counts) = (vec![7.5; numbers], vec![9; rings]);
         let read = read_book(&BOOK, &mut coordinates, &mut counts);
-        assert_eq!(read, if answer { Ok(1) } else { Err(Unread::NoRoom) });
+        assert_eq!(read, if answer { Ok(1) } else { Err(Refusal::of(4)) });
         assert!(answer || (coordinates == vec![7.5; numbers] && counts == vec![9; rings]));
     }
 }
@@ -231,10 +240,10 @@ fn the_longest_book_has_32840_bytes() {
     let book = book_of(&rings.iter().map(|ring| &ring[..]).collect::<Vec<_>>());
     assert_eq!((book.len(), read(&book)), (32_840, Ok(8)));
     let mut room = vec![0; 32_839];
-    assert_eq!(write_book(&rings.concat(), &[256; 8], &mut room), Err(4));
-    assert_eq!(read(&[&book[..], &[0]].concat()), Err(Unread::Wrong(0)));
+    assert_eq!(write_book(&rings.concat(), &[256; 8], &mut room), Err(Refusal::of(4)));
+    assert_eq!(read(&[&book[..], &[0]].concat()), Err(Refusal::at(7, 0)));
     let (mut coordinates, mut counts) = ([0.0; 4096], [0; 8]);
-    assert_eq!(read_book(&book, &mut coordinates[1..], &mut counts), Err(Unread::NoRoom));
+    assert_eq!(read_book(&book, &mut coordinates[1..], &mut counts), Err(Refusal::of(4)));
     assert_eq!(read_book(&book, &mut coordinates, &mut counts), Ok(8));
     // Writing what was read gives the same book.
     let mut again = vec![0; 32_840];
@@ -252,7 +261,7 @@ fn all_readings_of_a_ring_give_one_book_and_only_it_is_read() {
         for reading in readings(&ring) {
             assert_eq!(book_of(&[&flat(&reading)]), book);
             let kept = layout(std::slice::from_ref(&reading));
-            assert_eq!(read(&kept), if kept == book { Ok(1) } else { Err(Unread::Wrong(0)) });
+            assert_eq!(read(&kept), if kept == book { Ok(1) } else { Err(Refusal::at(7, 0)) });
         }
     }
 }

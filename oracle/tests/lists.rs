@@ -5,8 +5,8 @@ use oracle::replay::{book, bytes, list, rings, scalars, sliding, traces};
 use oracle::seeded::Seeded;
 use std::collections::BTreeSet;
 
-/// Most bytes of a stored list that has a long form.
-const MOST_BYTES: usize = 1_200_000;
+/// Most bytes of a stored list.
+const MOST_BYTES: usize = 1_800_000;
 
 /// The list that a replay program of the repository reads.
 fn stored(program: &str) -> Vec<u8> {
@@ -35,12 +35,12 @@ fn lengths<const N: usize>(record: &[u64], places: [usize; N]) -> [usize; N] {
 
 #[test]
 fn scalars_are_as_written() {
-    assert!(stored("replay_scalars") == bytes(&scalars::records().concat()));
+    as_written("replay_scalars", scalars::records());
 }
 
 #[test]
 fn rings_are_as_written() {
-    assert!(stored("replay_rings") == bytes(&rings::records().concat()));
+    as_written("replay_rings", rings::records());
 }
 
 #[test]
@@ -48,7 +48,7 @@ fn ring_records_keep_their_bounds() {
     for record in rings::records().into_iter().chain(long("rings", 4_000)) {
         let [a, b, room] = [1, 2, 3].map(|place| record[place] as usize);
         assert!(a <= 600 && b <= 600 && room <= 600);
-        assert_eq!(record.len(), 6 + a + b + 2 * room);
+        assert_eq!(record.len(), rings::HEADER + a + b + 2 * room);
     }
 }
 
@@ -90,7 +90,7 @@ fn sliding_records_keep_their_bounds() {
         assert!(a <= 600 && b <= 600 && list <= 20_100 && extra <= 8);
         assert!(one <= sliding::MOST_ROOM && two <= sliding::MOST_ROOM);
         assert_eq!(record.len(), sliding::HEADER + a + b + list + extra + 2 * (one + two));
-        assert_eq!(record[13..sliding::HEADER], [0; 3]);
+        assert_eq!(record[14..sliding::HEADER], [0; 2]);
     }
 }
 
@@ -101,7 +101,7 @@ fn trace_records_keep_their_bounds() {
         assert!(a <= 600 && b <= 600);
         assert!(work <= traces::MOST_ROOM && result <= traces::MOST_ROOM);
         assert_eq!(record.len(), traces::HEADER + a + b + 2 * (work + result));
-        assert_eq!(record[12..traces::HEADER], [0; 4]);
+        assert_eq!(record[13..traces::HEADER], [0; 3]);
     }
 }
 
@@ -149,7 +149,7 @@ fn failed(record: &[u64]) -> Check {
 fn books_are_refused_in_every_way() {
     let records = book::records();
     let met: BTreeSet<_> = records.iter().map(|record| (record[0], record[5])).collect();
-    let write = [0, 1, 2, 4].map(|number| (book::WRITE, number));
+    let write = [0, 1, 2, 4, 8, 9].map(|number| (book::WRITE, number));
     let read = [0, 4, 7].map(|number| (book::READ, number));
     assert!(met.into_iter().eq(write.into_iter().chain(read)));
     let failed: BTreeSet<_> =
@@ -171,10 +171,11 @@ fn each_sliding_call_is_refused_and_answers() {
     let met: BTreeSet<_> = records.iter().map(|record| (record[0], record[7])).collect();
     let numbers = |call: u64| -> &[u64] {
         match call {
-            0..=2 | 10 => &[0, 1, 2, 3, 5],
+            0..=2 => &[0, 1, 2, 3, 5, 8, 9],
             3 => &[0, 1],
-            7 | 9 => &[0, 1, 2],
-            _ => &[0, 1, 2, 3],
+            7 | 9 => &[0, 1, 2, 8, 9],
+            10 => &[0, 1, 2, 3, 5, 9],
+            _ => &[0, 1, 2, 3, 8, 9],
         }
     };
     for call in 0..=10 {
@@ -185,6 +186,23 @@ fn each_sliding_call_is_refused_and_answers() {
             records.iter().any(|record| is(&record))
         };
         assert!(call == sliding::START || (found(true) && found(false)), "call {call}");
+    }
+}
+
+#[test]
+fn each_call_on_rings_is_refused_and_answers() {
+    let met: BTreeSet<_> = rings::records().iter().map(|record| (record[0], record[4])).collect();
+    let numbers = |call: u64| -> &[u64] {
+        match call {
+            rings::MIRROR_POLYGON | rings::OPEN_RING => &[0, 1, 2, 5, 9],
+            rings::IS_SIMPLE_POLYGON..=rings::SIGNED_AREA_ROBUST => &[0, 1, 2, 9],
+            rings::POINT_ON_SEGMENT => &[0, 2, 3],
+            _ => &[0, 2],
+        }
+    };
+    for call in 0..=12 {
+        let of_call = met.iter().filter(|pair| pair.0 == call).map(|pair| &pair.1);
+        assert!(of_call.eq(numbers(call)), "call {call}");
     }
 }
 
@@ -210,15 +228,16 @@ fn contacts_and_hits_are_of_every_kind() {
 fn traces_end_in_every_way() {
     let records = traces::records();
     let numbers: BTreeSet<_> = records.iter().map(|record| record[7]).collect();
-    assert!(numbers.into_iter().eq(0..=6));
+    assert!(numbers.into_iter().eq([0, 1, 2, 3, 4, 5, 6, 8, 9]));
     let stops = |number: u64| -> BTreeSet<u64> {
         records.iter().filter(|record| record[7] == number).map(|record| record[11]).collect()
     };
     assert!(stops(0).into_iter().eq(1..=5));
     assert!(stops(6).into_iter().eq([1, 2, 3, 5]));
-    assert!((1..=5).all(|number| stops(number).into_iter().eq([0])));
-    let most = records.iter().filter(|record| record[6] > 200 && record[7] != 3).count();
-    assert!(most < 10, "{most} traces have a limit above 200");
+    assert!([1, 2, 3, 4, 5, 8, 9].map(stops).iter().all(|stops| stops.iter().eq(&[0])));
+    let begun = records.iter().filter(|record| matches!(record[7], 0 | 5 | 6));
+    let most = begun.filter(|record| record[6] > 200).count();
+    assert!(most < 10, "{most} traces that begin have a limit above 200");
 }
 
 #[test]

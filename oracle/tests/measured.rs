@@ -1,7 +1,7 @@
 //! docs/SCOPE.md's measured pieces, starred or not, against the calls.
 
 use oracle::calls::{self, Hit, Traced};
-use oracle::refusals::Settings;
+use oracle::refusals::{Refusal, Settings};
 
 const S: [f64; 8] = [0.0, 0.0, 4.0, 0.0, 4.0, 4.0, 0.0, 4.0];
 const Q: [f64; 8] = [0.0, 0.0, 2.0, 0.0, 2.0, 2.0, 0.0, 2.0];
@@ -93,20 +93,21 @@ fn area_and_mirror() {
 
 #[test]
 fn lengths() {
-    for (n, number) in [(2, Err(1)), (257, Err(1)), (3, Ok(())), (256, Ok(()))] {
-        assert_eq!(calls::find_start_position(&ring(n), &Q).map(|_| ()), number);
-        assert_eq!(calls::find_start_position(&S, &ring(n)).map(|_| ()), number);
+    for (n, number) in [(2, Some(8)), (257, Some(9)), (3, None), (256, None)] {
+        let at = |place| number.map(|number| Refusal::at(number, place));
+        assert_eq!(calls::find_start_position(&ring(n), &Q).err(), at(0));
+        assert_eq!(calls::find_start_position(&S, &ring(n)).err(), at(1));
         let settings =
             Settings { contact_tolerance: TOLERANCE, min_translation: 1e-8, max_iterations: 1 };
         let (mut work, mut result) = ([0.0; 8], [0.0; 8]);
         let traced = calls::compute_nfp_sliding(&ring(n), &Q, &settings, &mut work, &mut result);
-        assert_eq!(traced == Traced::Refused(1), number.is_err());
+        assert_eq!(traced.refusal().filter(Refusal::tells_place), at(0));
     }
-    for (n, number) in [(0, Ok(())), (2, Ok(())), (256, Ok(())), (257, Err(1))] {
-        assert_eq!(calls::signed_area2(&ring(n)).map(|_| ()), number);
-        assert_eq!(calls::is_simple_polygon(&ring(n)).map(|_| ()), number);
-        assert_eq!(calls::ring_distance(&ring(n), &Q).map(|_| ()), number);
-        assert_eq!(calls::mirror_polygon(&ring(n), &mut [0.0; 512]).map(|_| ()), number);
+    for (n, refusal) in [(0, None), (2, None), (256, None), (257, Some(Refusal::at(9, 0)))] {
+        assert_eq!(calls::signed_area2(&ring(n)).err(), refusal);
+        assert_eq!(calls::is_simple_polygon(&ring(n)).err(), refusal);
+        assert_eq!(calls::ring_distance(&ring(n), &Q).err(), refusal);
+        assert_eq!(calls::mirror_polygon(&ring(n), &mut [0.0; 512]).err(), refusal);
     }
 }
 
@@ -114,7 +115,7 @@ fn lengths() {
 fn coordinates() {
     for largest in [1_000_000.0, -1_000_000.0_f64] {
         let past = if largest > 0.0 { largest.next_up() } else { largest.next_down() };
-        for (number, expected) in [(largest, Ok(())), (past, Err(2))] {
+        for (number, expected) in [(largest, Ok(())), (past, Err(Refusal::of(2)))] {
             let mut polygon = S;
             polygon[4] = number;
             assert_eq!(calls::find_start_position(&polygon, &Q).map(|_| ()), expected);
@@ -127,9 +128,10 @@ fn coordinates() {
 
 #[test]
 fn tolerances() {
-    assert_eq!(trace(0.0, 100).0, Traced::Refused(3));
-    assert_ne!(trace(1.0, 100).0.number(), 3);
-    for (tolerance, expected) in [(0.0, Err(3)), (-0.0, Err(3)), (1.0, Ok(true))] {
+    assert_eq!(trace(0.0, 100).0, Traced::Refused(Refusal::of(3)));
+    assert_ne!(trace(1.0, 100).0.refusal(), Some(Refusal::of(3)));
+    let refused = Err(Refusal::of(3));
+    for (tolerance, expected) in [(0.0, refused), (-0.0, refused), (1.0, Ok(true))] {
         assert_eq!(calls::polygons_overlap_with_tolerance(&S, &Q, tolerance), expected);
     }
 }
@@ -140,5 +142,5 @@ fn pass_limits() {
     assert_eq!(traced, Traced::Short { passes: 0, stop: 5 });
     assert_eq!(work[..3], [0.0, -2.0, 7.5]);
     assert_eq!(result, [8.5; 20]);
-    assert_eq!(trace(TOLERANCE, 10_001).0, Traced::Refused(3));
+    assert_eq!(trace(TOLERANCE, 10_001).0, Traced::Refused(Refusal::of(3)));
 }

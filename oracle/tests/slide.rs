@@ -17,7 +17,7 @@ fn the_cases_end_in_every_way() {
         .iter()
         .map(|(_, input)| first_words(printed(input).lines().next().expect("a line")))
         .collect();
-    let refusals = [1, 3, 6, 7].map(|number| format!("refused {number}"));
+    let refusals = [3, 6, 7, 8].map(|number| format!("refused {number}"));
     let stops = [1, 2, 3, 4, 5].map(|reason| format!("stop {reason}"));
     assert!(ends.into_iter().eq(refusals.into_iter().chain(stops)));
 }
@@ -27,4 +27,10 @@ fn a_short_input_has_no_book() {
     for length in 0..=24 {
         assert_eq!(printed(&vec![0; length]), "refused 7 0\n");
     }
+}
+
+#[test]
+fn a_book_of_one_ring_has_too_few_vertices_to_orbit() {
+    let (_, input) = cases().into_iter().find(|case| case.0 == "one_ring").expect("it is a case");
+    assert_eq!(printed(&input), "refused 8 1\n");
 }

@@ -1,7 +1,7 @@
 //! How a trace counts, stops and fills its rooms.
 
 use oracle::calls::{self, Traced};
-use oracle::refusals::Settings;
+use oracle::refusals::{Refusal, Settings};
 
 const S: [f64; 8] = [0.0, 0.0, 4.0, 0.0, 4.0, 4.0, 0.0, 4.0];
 const Q: [f64; 8] = [0.0, 0.0, 2.0, 0.0, 2.0, 2.0, 0.0, 2.0];
@@ -40,7 +40,7 @@ fn a_full_room_is_told_when_a_point_is_about_to_be_stored() {
     assert_eq!(result, [7.5; 6]);
     // The fifth pass stores nothing, so the sixth is the one that is refused.
     assert_eq!(trace(&S, &Q, &DEFAULT, [10, 10]).0, Traced::Full { passes: 6 });
-    assert_eq!(trace(&S, &Q, &DEFAULT, [14, 14]).0.number(), 0);
+    assert_eq!(trace(&S, &Q, &DEFAULT, [14, 14]).0.refusal(), None);
 }
 
 #[test]
@@ -123,17 +123,19 @@ fn a_path_that_closes_may_lead_through_the_stationary_polygon() {
 #[test]
 fn rooms_are_tested_after_settings() {
     for (rooms, number) in [([0, 8], 4), ([7, 8], 4), ([1, 8], 4), ([8, 7], 4), ([2, 3], 5)] {
-        assert_eq!(trace(&S, &Q, &DEFAULT, rooms).0.number(), number, "{rooms:?}");
+        let refused = |a: &[f64], b: &[f64], settings| trace(a, b, settings, rooms).0.refusal();
+        assert_eq!(refused(&S, &Q, &DEFAULT), Some(Refusal::of(number)), "{rooms:?}");
         let settings = Settings { min_translation: -1.0, ..DEFAULT };
-        assert_eq!(trace(&S, &Q, &settings, rooms).0, Traced::Refused(3));
-        assert_eq!(trace(&[f64::NAN; 8], &Q, &settings, rooms).0, Traced::Refused(2));
-        assert_eq!(trace(&[f64::NAN; 8], &Q[..5], &settings, rooms).0, Traced::Refused(1));
+        assert_eq!(refused(&S, &Q, &settings), Some(Refusal::of(3)));
+        assert_eq!(refused(&[f64::NAN; 8], &Q, &settings), Some(Refusal::of(2)));
+        assert_eq!(refused(&[f64::NAN; 8], &Q[..5], &settings), Some(Refusal::at(1, 1)));
     }
 }
 
 #[test]
 fn settings_have_their_bounds() {
-    let passes = |settings: Settings| trace(&S, &Q, &settings, [20, 20]).0.number() != 3;
+    let passes =
+        |settings: Settings| trace(&S, &Q, &settings, [20, 20]).0.refusal() != Some(Refusal::of(3));
     for (contact_tolerance, expected) in
         [(0.0, false), (-0.0, false), (5e-324, true), (1.0, true), (1.0_f64.next_up(), false)]
     {

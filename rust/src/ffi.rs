@@ -6,7 +6,7 @@
 #![allow(clippy::too_many_arguments)]
 
 /// The interface that is declared here: `BYR_ABI_VERSION` of the header.
-pub const ABI_VERSION: u32 = 1;
+pub const ABI_VERSION: u32 = 2;
 
 /// Panics unless the archive has the interface that is declared here.
 pub fn hold_interface() {
@@ -120,6 +120,7 @@ functions! {
         room: *mut f64,
         room_n: usize,
         vertices: *mut u64,
+        place: *mut u64,
     ) -> u32;
     fn byr_open_ring(
         ring: *const f64,
@@ -127,17 +128,19 @@ functions! {
         room: *mut f64,
         room_n: usize,
         vertices: *mut u64,
+        place: *mut u64,
     ) -> u32;
-    fn byr_is_simple_polygon(ring: *const f64, n: usize, simple: *mut u32) -> u32;
+    fn byr_is_simple_polygon(ring: *const f64, n: usize, simple: *mut u32, place: *mut u64) -> u32;
     fn byr_ring_distance(
         a: *const f64,
         an: usize,
         b: *const f64,
         bn: usize,
         distance: *mut f64,
+        place: *mut u64,
     ) -> u32;
-    fn byr_signed_area2(ring: *const f64, n: usize, area2: *mut f64) -> u32;
-    fn byr_signed_area_robust(ring: *const f64, n: usize, area: *mut f64) -> u32;
+    fn byr_signed_area2(ring: *const f64, n: usize, area2: *mut f64, place: *mut u64) -> u32;
+    fn byr_signed_area_robust(ring: *const f64, n: usize, area: *mut f64, place: *mut u64) -> u32;
     fn byr_find_contacts(
         stationary: *const f64,
         sn: usize,
@@ -149,6 +152,7 @@ functions! {
         points: *mut f64,
         points_n: usize,
         count: *mut u64,
+        place: *mut u64,
     ) -> u32;
     fn byr_compute_translation_vectors(
         stationary: *const f64,
@@ -161,6 +165,7 @@ functions! {
         sources: *mut u64,
         sources_n: usize,
         count: *mut u64,
+        place: *mut u64,
     ) -> u32;
     fn byr_handle_perfect_fit(
         stationary: *const f64,
@@ -177,6 +182,7 @@ functions! {
         sources: *mut u64,
         sources_n: usize,
         count: *mut u64,
+        place: *mut u64,
     ) -> u32;
     fn byr_select_translation_vector(
         vectors: *const f64,
@@ -190,6 +196,7 @@ functions! {
         position_y: f64,
         found: *mut u32,
         index: *mut u64,
+        place: *mut u64,
     ) -> u32;
     fn byr_check_translation_collision(
         stationary: *const f64,
@@ -204,6 +211,7 @@ functions! {
         kind: *mut u32,
         stationary_i: *mut u64,
         orbiting_i: *mut u64,
+        place: *mut u64,
     ) -> u32;
     fn byr_detect_interlocking_opportunity(
         stationary: *const f64,
@@ -216,6 +224,7 @@ functions! {
         found: *mut u32,
         to_x: *mut f64,
         to_y: *mut f64,
+        place: *mut u64,
     ) -> u32;
     fn byr_recover_contact(
         stationary: *const f64,
@@ -228,6 +237,7 @@ functions! {
         found: *mut u32,
         to_x: *mut f64,
         to_y: *mut f64,
+        place: *mut u64,
     ) -> u32;
     fn byr_polygons_overlap(
         a: *const f64,
@@ -235,6 +245,7 @@ functions! {
         b: *const f64,
         bn: usize,
         overlap: *mut u32,
+        place: *mut u64,
     ) -> u32;
     fn byr_polygons_overlap_with_tolerance(
         a: *const f64,
@@ -243,6 +254,7 @@ functions! {
         bn: usize,
         tolerance: f64,
         overlap: *mut u32,
+        place: *mut u64,
     ) -> u32;
     fn byr_find_start_position(
         stationary: *const f64,
@@ -251,6 +263,7 @@ functions! {
         on: usize,
         x: *mut f64,
         y: *mut f64,
+        place: *mut u64,
     ) -> u32;
     fn byr_simplify_polygon(
         list: *const f64,
@@ -259,6 +272,7 @@ functions! {
         room: *mut f64,
         room_n: usize,
         points: *mut u64,
+        place: *mut u64,
     ) -> u32;
     fn byr_compute_nfp_sliding(
         stationary: *const f64,
@@ -276,6 +290,7 @@ functions! {
         stored: *mut u64,
         passes: *mut u64,
         stop: *mut u32,
+        place: *mut u64,
     ) -> u32;
     fn byr_write_book(
         coordinates: *const f64,
@@ -285,6 +300,7 @@ functions! {
         room: *mut u8,
         room_n: usize,
         length: *mut u64,
+        place: *mut u64,
     ) -> u32;
     fn byr_read_book(
         book: *const u8,

@@ -22,11 +22,26 @@
 //! before any other call. Lent as it is, the repeat counts as a vertex with an
 //! edge of no length.
 //!
+//! A list with too few entries or too many is refused by name:
+//!
+//! ```
+//! use byrlygent::nfp_sliding::{compute_nfp_sliding, SlidingNfpConfig};
+//! use byrlygent::{List, Refusal};
+//!
+//! let square = [(0.0, 0.0), (4.0, 0.0), (4.0, 4.0), (0.0, 4.0)];
+//! let refusal = compute_nfp_sliding(&square, &square[..2], &SlidingNfpConfig::default())
+//!     .expect_err("two vertices are no polygon");
+//! assert!(matches!(refusal, Refusal::Few(entries) if entries.list == List::Orbiting));
+//! let words = "the orbiting polygon has 2 vertices: it may have 3 to 256";
+//! assert_eq!(refusal.to_string(), words);
+//! ```
+//!
 //! Each call first compares the number of the archive's interface with the one
 //! that this crate is written for, and panics where they differ.
 
 mod ffi;
 mod lent;
+mod lists;
 pub mod nfp_sliding;
 pub mod outline_book;
 pub mod polygon_ops;
@@ -34,6 +49,7 @@ mod refusal;
 pub mod robust;
 pub mod scalar;
 
+pub use lists::{Entries, List};
 pub use refusal::{Refusal, Result};
 
 /// A point, or a vector. A list of points may hold anything that converts to it,

@@ -2,8 +2,8 @@
 //! was begun or which way round it went.
 
 use crate::lent::{flat, points};
-use crate::refusal::plain;
-use crate::{ffi, Point, Refusal, Result};
+use crate::refusal::{among, plain};
+use crate::{ffi, Entries, List, Point, Refusal, Result};
 
 /// Most coordinates and most rings of a book.
 const MOST_COORDINATES: usize = 4096;
@@ -34,9 +34,9 @@ pub fn write_book<R: AsRef<[P]>, P: Into<Point> + Copy>(rings: &[R]) -> Result<V
     let count = |ring: &R| u32::try_from(ring.as_ref().len()).unwrap_or(u32::MAX);
     let counts: Vec<u32> = rings.iter().map(count).collect();
     let mut room = vec![0; 8 * coordinates.len() + 8 * counts.len() + 8];
-    let mut length = 0;
-    // SAFETY: all lists are as long as is said, and the answer has a place.
-    plain(unsafe {
+    let (mut length, mut place) = (0, 0);
+    // SAFETY: all lists are as long as is said, and both cells are there.
+    let number = unsafe {
         ffi::byr_write_book(
             coordinates.as_ptr(),
             coordinates.len(),
@@ -45,17 +45,27 @@ pub fn write_book<R: AsRef<[P]>, P: Into<Point> + Copy>(rings: &[R]) -> Result<V
             room.as_mut_ptr(),
             room.len(),
             &mut length,
+            &mut place,
         )
-    })?;
+    };
+    among(&lists_of(rings), number, place)?;
     room.truncate(length as usize);
     Ok(room)
+}
+
+/// The rings of a book to write, and last the book itself: the place of a wrong
+/// number of rings is that number, so at place 0 it is the book if it has no rings,
+/// and else ring 0.
+fn lists_of<R: AsRef<[P]>, P>(rings: &[R]) -> Vec<Entries> {
+    let ring = |(i, ring): (usize, &R)| Entries::polygon(List::RingOfBook(i), ring.as_ref().len());
+    rings.iter().enumerate().map(ring).chain([Entries::book(rings.len())]).collect()
 }
 
 /// The rings of a book as stored, in order and bit for bit.
 pub fn read_book(book: &[u8]) -> Result<Vec<Vec<Point>>> {
     let (mut coordinates, mut counts) = (vec![0.0; MOST_COORDINATES], [0; MOST_RINGS]);
     let (mut rings, mut place) = (0, 0);
-    // SAFETY: all lists are as long as is said, and both answers have a place.
+    // SAFETY: all lists are as long as is said, and both cells are there.
     let number = unsafe {
         ffi::byr_read_book(
             book.as_ptr(),

@@ -1,15 +1,15 @@
 //! Predicates on points, segments and rings of at most 256 vertices. Coordinates
 //! are finite and at most 1,000,000 in size.
 
-use crate::lent::{flat, measured, points};
-use crate::refusal::plain;
-use crate::{ffi, Point, Result};
+use crate::lent::{flat, measured, points, ring_measured};
+use crate::refusal::{among, plain};
+use crate::{ffi, Entries, List, Point, Result};
 
 /// 1 if a, b, c turn counter-clockwise, -1 if clockwise, 0 if the determinant is
 /// within 1e-9 of 0.
 pub fn orientation(a: Point, b: Point, c: Point) -> Result<i32> {
     let mut turn = 0;
-    // SAFETY: the answer has a place.
+    // SAFETY: the cell of the answer is there.
     plain(unsafe { ffi::byr_orientation(a.0, a.1, b.0, b.1, c.0, c.1, &mut turn) })?;
     Ok(turn)
 }
@@ -18,7 +18,7 @@ pub fn orientation(a: Point, b: Point, c: Point) -> Result<i32> {
 /// 1e-9.
 pub fn on_segment(a: Point, b: Point, p: Point) -> Result<bool> {
     let mut on = 0;
-    // SAFETY: the answer has a place.
+    // SAFETY: the cell of the answer is there.
     plain(unsafe { ffi::byr_on_segment(a.0, a.1, b.0, b.1, p.0, p.1, &mut on) })?;
     Ok(on != 0)
 }
@@ -42,7 +42,7 @@ pub fn on_segment(a: Point, b: Point, p: Point) -> Result<bool> {
 /// ```
 pub fn segments_intersect(p1: Point, p2: Point, p3: Point, p4: Point) -> Result<bool> {
     let mut meet = 0;
-    // SAFETY: the answer has a place.
+    // SAFETY: the cell of the answer is there.
     plain(unsafe {
         ffi::byr_segments_intersect(p1.0, p1.1, p2.0, p2.1, p3.0, p3.1, p4.0, p4.1, &mut meet)
     })?;
@@ -79,16 +79,17 @@ pub fn open_ring(vertices: &[impl Into<Point> + Copy]) -> Result<Vec<Point>> {
 }
 
 /// A function of the library that writes some of a ring's vertices to a room.
-type Copying = unsafe fn(*const f64, usize, *mut f64, usize, *mut u64) -> u32;
+type Copying = unsafe fn(*const f64, usize, *mut f64, usize, *mut u64, *mut u64) -> u32;
 
 /// What a function that copies a ring writes.
 fn copied(vertices: &[impl Into<Point> + Copy], copying: Copying) -> Result<Vec<Point>> {
     let ring = flat(vertices);
-    let (mut room, mut count) = (vec![0.0; ring.len()], 0);
-    // SAFETY: both lists are as long as is said, and the answer has a place.
-    plain(unsafe {
-        copying(ring.as_ptr(), ring.len(), room.as_mut_ptr(), room.len(), &mut count)
-    })?;
+    let (mut room, mut count, mut place) = (vec![0.0; ring.len()], 0, 0);
+    // SAFETY: both lists are as long as is said, and both cells are there.
+    let number = unsafe {
+        copying(ring.as_ptr(), ring.len(), room.as_mut_ptr(), room.len(), &mut count, &mut place)
+    };
+    among(&[Entries::ring(List::Ring, vertices.len())], number, place)?;
     Ok(points(&room, count))
 }
 
@@ -102,27 +103,23 @@ fn copied(vertices: &[impl Into<Point> + Copy], copying: Copying) -> Result<Vec<
 /// # Ok::<(), byrlygent::Refusal>(())
 /// ```
 pub fn is_simple_polygon(vertices: &[impl Into<Point> + Copy]) -> Result<bool> {
-    let (ring, mut simple) = (flat(vertices), 0);
-    // SAFETY: the list is as long as is said, and the answer has a place.
-    plain(unsafe { ffi::byr_is_simple_polygon(ring.as_ptr(), ring.len(), &mut simple) })?;
-    Ok(simple != 0)
+    ring_measured(ffi::byr_is_simple_polygon, vertices).map(|simple| simple != 0)
 }
 
 /// The least distance from a vertex of one ring to an edge of the other, +infinity
 /// if a ring has no vertex; the rings' distance if they do not cross.
 pub fn ring_distance(a: &[impl Into<Point> + Copy], b: &[impl Into<Point> + Copy]) -> Result<f64> {
-    let (a, b, mut distance) = (flat(a), flat(b), 0.0);
-    // SAFETY: both lists are as long as is said, and the answer has a place.
-    plain(unsafe {
-        ffi::byr_ring_distance(a.as_ptr(), a.len(), b.as_ptr(), b.len(), &mut distance)
-    })?;
+    let lists = [Entries::ring(List::First, a.len()), Entries::ring(List::Second, b.len())];
+    let (a, b, mut distance, mut place) = (flat(a), flat(b), 0.0, 0);
+    // SAFETY: both lists are as long as is said, and both cells are there.
+    let number = unsafe {
+        ffi::byr_ring_distance(a.as_ptr(), a.len(), b.as_ptr(), b.len(), &mut distance, &mut place)
+    };
+    among(&lists, number, place)?;
     Ok(distance)
 }
 
 /// Twice the signed area, above 0 for counter-clockwise order.
 pub fn signed_area2(vertices: &[impl Into<Point> + Copy]) -> Result<f64> {
-    let (ring, mut area2) = (flat(vertices), 0.0);
-    // SAFETY: the list is as long as is said, and the answer has a place.
-    plain(unsafe { ffi::byr_signed_area2(ring.as_ptr(), ring.len(), &mut area2) })?;
-    Ok(area2)
+    ring_measured(ffi::byr_signed_area2, vertices)
 }

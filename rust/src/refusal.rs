@@ -1,19 +1,20 @@
 //! Why a call gave no answer, in words that tell what to mend.
 
+use crate::lists::Entries;
 use crate::nfp_sliding::StopReason;
 use std::fmt;
 
 /// An answer, or why there is none.
 pub type Result<T> = std::result::Result<T, Refusal>;
 
-/// Why a call gave no answer. The library's refusals 4 and 5 are not among these:
-/// they speak of lent rooms, and the rooms lent here are long enough. Later
-/// versions may have more.
+/// Why a call gave no answer. The library's refusals 1, 4 and 5 are not among
+/// these: 1 speaks of lists that hold part of an entry or of rings that do not add
+/// up, and the lists lent here are made of whole entries, all counted; 4 and 5 speak
+/// of lent rooms, and the rooms lent here are long enough. Later versions may have
+/// more.
 #[derive(Debug, Clone, Copy, PartialEq, Eq)]
 #[non_exhaustive]
 pub enum Refusal {
-    /// Refusal 1: a list has a wrong length.
-    Length,
     /// Refusal 2: a number is out of its bounds.
     Number,
     /// Refusal 3: a setting is out of its bounds.
@@ -30,17 +31,22 @@ pub enum Refusal {
         /// The byte of the first fault.
         place: usize,
     },
+    /// Refusal 8: a list has too few entries.
+    Few(Entries),
+    /// Refusal 9: a list has too many entries.
+    Many(Entries),
 }
 
 impl Refusal {
     /// The number that the library gives it.
     pub fn number(self) -> u32 {
         match self {
-            Self::Length => 1,
             Self::Number => 2,
             Self::Setting => 3,
             Self::ShortPath { .. } => 6,
             Self::Book { .. } => 7,
+            Self::Few(_) => 8,
+            Self::Many(_) => 9,
         }
     }
 }
@@ -48,11 +54,6 @@ impl Refusal {
 impl fmt::Display for Refusal {
     fn fmt(&self, f: &mut fmt::Formatter<'_>) -> fmt::Result {
         match self {
-            Self::Length => f.write_str(
-                "a list has a wrong length: give a sliding polygon 3 to 256 vertices, any other \
-                 ring at most 256, a list of points at most 10001, a book 1 to 8 rings of 3 to 256 \
-                 vertices",
-            ),
             Self::Number => f.write_str(
                 "a number is out of bounds: coordinates must be finite and from -1000000 to \
                  1000000, moves and positions finite",
@@ -70,20 +71,30 @@ impl fmt::Display for Refusal {
                 f,
                 "the book is wrong at byte {place}: write it anew from the drawing's rings"
             ),
+            Self::Few(entries) | Self::Many(entries) => write!(f, "{entries}"),
         }
     }
 }
 
 impl std::error::Error for Refusal {}
 
+/// The refusal with this number and place, of a call that is lent these lists, in
+/// the order in which the library counts them; nothing for 0.
+pub(crate) fn among(lists: &[Entries], number: u32, place: u64) -> Result<()> {
+    match number {
+        8 => Err(Refusal::Few(lists[place as usize])),
+        9 => Err(Refusal::Many(lists[place as usize])),
+        _ => plain(number),
+    }
+}
+
 /// The refusal with this number, of a call that tells nothing beside it; nothing
 /// for 0.
 pub(crate) fn plain(number: u32) -> Result<()> {
     match number {
         0 => Ok(()),
-        1 => Err(Refusal::Length),
         2 => Err(Refusal::Number),
         3 => Err(Refusal::Setting),
-        _ => unreachable!("refusal {number}: the rooms lent are long enough"),
+        _ => unreachable!("refusal {number}: lists are whole and rooms are long enough"),
     }
 }

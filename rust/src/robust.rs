@@ -1,7 +1,6 @@
 //! The signed area by a compensated sum.
 
-use crate::lent::flat;
-use crate::refusal::plain;
+use crate::lent::ring_measured;
 use crate::{ffi, Point, Result};
 
 /// The signed area of a ring of at most 256 vertices, above 0 for
@@ -13,8 +12,5 @@ use crate::{ffi, Point, Result};
 /// # Ok::<(), byrlygent::Refusal>(())
 /// ```
 pub fn signed_area_robust(polygon: &[impl Into<Point> + Copy]) -> Result<f64> {
-    let (polygon, mut area) = (flat(polygon), 0.0);
-    // SAFETY: the list is as long as is said, and the answer has a place.
-    plain(unsafe { ffi::byr_signed_area_robust(polygon.as_ptr(), polygon.len(), &mut area) })?;
-    Ok(area)
+    ring_measured(ffi::byr_signed_area_robust, polygon)
 }

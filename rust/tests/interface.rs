@@ -8,6 +8,9 @@ use std::{env, fs};
 /// The archive that this package links.
 const ARCHIVE: &str = env!("BYRLYGENT_ARCHIVE");
 
+/// The interface that this package is written for.
+const OWN: u32 = 2;
+
 /// Runs a command that must succeed.
 fn done(program: &str, words: &[&str]) {
     let status = Command::new(program).args(words).status();
@@ -51,15 +54,16 @@ fn an_archive_of_another_interface_is_never_called() {
     assert!(own.status.success(), "{}", said(&own));
     assert!(own.stdout.starts_with(b"8 passes, ended back at the start\n4 -4\n"));
 
-    let same = slide(&with_number(1));
+    let same = slide(&with_number(OWN));
     assert!(same.status.success() && same.stdout == own.stdout, "{}", said(&same));
 
     let before = slide(&without_number("without").0);
     assert!(!before.status.success() && before.stdout.is_empty());
     assert!(said(&before).contains("byr_abi_version"), "{}", said(&before));
 
-    let other = slide(&with_number(2));
+    let past = OWN - 1;
+    let other = slide(&with_number(past));
     assert!(!other.status.success() && other.stdout.is_empty());
-    let words = "libbyrlygent.a has interface 2, and this crate is written for 1";
-    assert!(said(&other).contains(words), "{}", said(&other));
+    let words = format!("libbyrlygent.a has interface {past}, and this crate is written for {OWN}");
+    assert!(said(&other).contains(&words), "{}", said(&other));
 }

@@ -1,8 +1,9 @@
-//! Each refusal, and the words that it has for a person.
+//! Each refusal, and the words that it has for a person; tests/lists.rs has those
+//! of lists with too few entries or too many.
 
 use byrlygent::nfp_sliding::{self, compute_nfp_sliding, SlidingNfpConfig, StopReason};
 use byrlygent::outline_book::{read_book, write_book};
-use byrlygent::{polygon_ops, robust, Point, Refusal};
+use byrlygent::{polygon_ops, robust, Entries, List, Point, Refusal};
 
 const SQUARE: [Point; 4] = [(0.0, 0.0), (4.0, 0.0), (4.0, 4.0), (0.0, 4.0)];
 
@@ -29,7 +30,6 @@ fn each_refusal_says_what_to_mend() {
         let text = refusal.to_string();
         assert!(parts.iter().all(|part| text.contains(part)), "{text}");
     };
-    told(Refusal::Length, &["wrong length", "3 to 256 vertices", "10001", "1 to 8 rings"]);
     told(Refusal::Number, &["out of bounds", "finite", "-1000000 to 1000000"]);
     told(Refusal::Setting, &["above 0 and at most 1", "not negative", "at most 10000"]);
     let reasons = [
@@ -48,24 +48,10 @@ fn each_refusal_says_what_to_mend() {
 #[test]
 fn refusals_have_the_numbers_of_the_library() {
     let short = Refusal::ShortPath { passes: 0, stop: StopReason::Passes };
-    let all =
-        [Refusal::Length, Refusal::Number, Refusal::Setting, short, Refusal::Book { place: 0 }];
-    assert_eq!(all.map(Refusal::number), [1, 2, 3, 6, 7]);
-}
-
-#[test]
-fn polygons_have_3_to_256_vertices_and_rings_up_to_256() {
-    let wheel: Vec<Point> = (0..257).map(|i| (f64::from(i), f64::from(i * i))).collect();
-    for (vertices, answer) in [(0, true), (2, true), (3, true), (256, true), (257, false)] {
-        let area = polygon_ops::signed_area2(&wheel[..vertices]);
-        assert_eq!(area.is_ok(), answer);
-        assert!(answer || area == Err(Refusal::Length));
-    }
-    for (vertices, answer) in [(0, false), (2, false), (3, true), (256, true), (257, false)] {
-        let start = nfp_sliding::find_start_position(&SQUARE, &wheel[..vertices]);
-        assert_eq!(start.is_ok(), answer);
-        assert!(answer || start == Err(Refusal::Length));
-    }
+    let plain = [Refusal::Number, Refusal::Setting, short, Refusal::Book { place: 0 }];
+    assert_eq!(plain.map(Refusal::number), [2, 3, 6, 7]);
+    let entries = Entries { list: List::Ring, has: 257, least: 0, most: 256 };
+    assert_eq!([Refusal::Few(entries), Refusal::Many(entries)].map(Refusal::number), [8, 9]);
 }
 
 #[test]
@@ -122,12 +108,4 @@ fn a_wrong_book_tells_the_place() {
     wrong = book.clone();
     wrong[8..16].copy_from_slice(&f64::NAN.to_le_bytes());
     assert_eq!(read_book(&wrong), Err(Refusal::Book { place: 8 }));
-}
-
-#[test]
-fn books_of_no_ring_or_of_nine_are_refused() {
-    assert_eq!(write_book::<Vec<Point>, Point>(&[]), Err(Refusal::Length));
-    assert_eq!(write_book(&[SQUARE; 9]), Err(Refusal::Length));
-    assert_eq!(write_book(&[&SQUARE[..2]]), Err(Refusal::Length));
-    assert_eq!(write_book(&[SQUARE; 8]).map(|book| book.len()), Ok(8 * 72 + 8));
 }

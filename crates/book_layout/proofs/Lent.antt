@@ -10,8 +10,7 @@ use lib.Dec.{T, leb, eqb}
 use lib.Ieee.{Float, nan, inf, fin, binary64, fits, isNan, ofBits}
 use lib.Ieee.Bits.{ofBits-fits}
 use borrow.Author.Tests.{le-leb, leb-true, eq-eqb, eqb-true}
-use Rattle.refusals.specs.Refusals.{first}
-use Rattle.refusals.specs.Screens.{wrongRings, wrongCounts, wrongSum, wrongNumber, wrongBook}
+use Rattle.refusals.specs.Screens.{wrongBook}
 use Rattle.refusals.specs.Rows.{ofRings}
 use Rattle.refusals.specs.Bounds.{coordinate, every, coordinates}
 use Rattle.reading.specs.Reading.{Vertex, vertices}
@@ -21,7 +20,7 @@ use Rattle.reading.proofs.Order.{no-bool}
 use Rattle.reading.proofs.Places.{length-ringOf}
 use Rattle.number_bytes.specs.Bytes.{numberOf, Each, Byte}
 use Rattle.number_bytes.proofs.Each.{each-take, each-drop}
-use Rattle.refusals.specs.Rings.{verticesLeast, verticesMost, ringsMost, within, total, ringsOk, sizedAll, sumOk}
+use Rattle.refusals.specs.Rings.{verticesLeast, verticesMost, ringsMost, within, total, sizedAll}
 use Rattle.book_layout.specs.Layout.{coordinateBytes, vertexBytes, coordinateBits, Coordinate, Outline, Accepted, coordsIn, ringsIn, ringCount, entryOffset, coordsOf, countsOf, ringsOf}
 use Rattle.book_layout.specs.Faults.{_passes, bookCheck}
 use Rattle.book_layout.specs.Writer.{ringsFrom, bookSize, writeRefusal, Held, Formed}
@@ -29,6 +28,7 @@ use Rattle.book_layout.specs.Reader.{numbersOf}
 use Rattle.laws.proofs.Both.{both}
 use Rattle.refusals.proofs.Counts.{within-true, is-within}
 use Rattle.refusals.proofs.Sized.{row-parts, holds}
+use Rattle.refusals.proofs.RingRow.{rings-taken, taken-rings}
 use Rattle.book_layout.proofs.Found.{corners, coords-hold, length-coordsIn, length-countsIn}
 use Rattle.book_layout.proofs.Exact.{checked, listing}
 
@@ -36,28 +36,17 @@ use Rattle.book_layout.proofs.Exact.{checked, listing}
 
 module _ (xs : List Float) (ns : List ℕ) (size : ℕ) where
   pub takes : writeRefusal xs ns size passes → Held xs ns × (bookSize ns ≤ size)
-  unfolding writeRefusal ofRings
+  unfolding writeRefusal
   takes h =
-      let last = first (wrongSum xs ns) (wrongNumber xs) in
       let p = row-parts (ofRings xs ns) (wrongBook (bookSize ns) size) h in
-      let r = row-parts (wrongRings ns) (first (wrongCounts ns) last) (p .0) in
-      let k = row-parts (wrongCounts ns) last (r .1) in
-      let s = row-parts (wrongSum xs ns) (wrongNumber xs) (k .1) in
-      let w = is-within 1 ringsMost (length ns) (holds (ringsOk ns) 1 0 refl (r .0)) in (
-        record {
-          one = w .0;
-          few = w .1;
-          sized = holds (sizedAll ns) 1 0 refl (k .0);
-          whole = eqb-true (length xs) (2 * total ns) (holds (sumOk xs ns) 1 0 refl (s .0));
-          bounded = holds (coordinates xs) 2 0 refl (s .1);
-        },
+      let t = rings-taken xs ns (p .0) in (
+        record { one = t .0; few = t .1; sized = t .2; whole = t .3; bounded = t .4 },
         leb-true (bookSize ns) size (holds (leb (bookSize ns) size) 4 0 refl (p .1)),
       )
 
   pub taken : Held xs ns → bookSize ns ≤ size → writeRefusal xs ns size passes
-  unfolding writeRefusal ofRings
-  taken h l =
-      rw (within-true 1 ringsMost (length ns) (h .one) (h .few), h .sized, eq-eqb (length xs) (2 * total ns) (h .whole), h .bounded, le-leb (bookSize ns) size l)
+  unfolding writeRefusal
+  taken h l = rw (taken-rings xs ns (h .one) (h .few) (h .sized) (h .whole) (h .bounded), le-leb (bookSize ns) size l)
 
 -- ---- coordinates
 

@@ -12,7 +12,7 @@ use Rattle.refusals.specs.Rows.{ofRings}
 use Rattle.reading.specs.Reading.{Vertex, ord, less, best, bestOf, leastReading}
 use Rattle.reading.specs.Lent.{kept, ringOf}
 use Rattle.number_bytes.specs.Bytes.{bytesOf, numberOf}
-use Rattle.refusals.specs.Rings.{total, sizedAll}
+use Rattle.refusals.specs.Rings.{total}
 use Rattle.book_layout.specs.Layout.{coordBytes, body, entries, layout, bookOf, coordinateBits, coordsIn, countsIn, coordsOf, countsOf, ringCount, entryOffset}
 use Rattle.book_layout.specs.Writer.{writeRefusal}
 use Rattle.book_layout.specs.Reader.{readRefusal}
@@ -103,32 +103,47 @@ abbrev huge : List Float
 huge = fin false 1 (pos 20) ∷ zero ∷ zero ∷ three ∷ zero ∷ zero ∷ []
 
 pub written : writeRefusal lent (3 ∷ []) 64 ≡ none
-unfolding writeRefusal ofRings sizedAll total every coordinate
+unfolding writeRefusal ofRings total every coordinate
 written = refl
 
 pub small-room : writeRefusal lent (3 ∷ []) 63 ≡ refuse 4 0
-unfolding writeRefusal ofRings sizedAll total every coordinate
+unfolding writeRefusal ofRings total every coordinate
 small-room = refl
 
 pub number-before-room : writeRefusal huge (3 ∷ []) 63 ≡ refuse 2 0
-unfolding writeRefusal ofRings sizedAll total every coordinate
+unfolding writeRefusal ofRings total every coordinate
 number-before-room = refl
 
-pub length-before-number : writeRefusal huge (4 ∷ []) 63 ≡ refuse 1 0
-unfolding writeRefusal ofRings sizedAll total every coordinate
-length-before-number = refl
+-- the sum, told with the number of rings, comes before the numbers
+pub sum-before-number : writeRefusal huge (4 ∷ []) 63 ≡ refuse 1 1
+unfolding writeRefusal ofRings total every coordinate
+sum-before-number = refl
 
-pub odd-list : writeRefusal (zero ∷ lent) (3 ∷ []) 64 ≡ refuse 1 0
-unfolding writeRefusal ofRings sizedAll total every coordinate
+pub odd-list : writeRefusal (zero ∷ lent) (3 ∷ []) 63 ≡ refuse 1 1
+unfolding writeRefusal ofRings total every coordinate
 odd-list = refl
 
-pub no-counts : writeRefusal [] [] 64 ≡ refuse 1 0
-unfolding writeRefusal ofRings sizedAll total every coordinate
+-- the number of rings comes first, told with that number
+pub no-counts : writeRefusal [] [] 63 ≡ refuse 8 0
+unfolding writeRefusal ofRings total every coordinate
 no-counts = refl
 
-pub pair : writeRefusal (take 4 lent) (2 ∷ []) 64 ≡ refuse 1 0
-unfolding writeRefusal ofRings sizedAll total every coordinate
+pub nine-counts : writeRefusal [] (2 ∷ 3 ∷ 3 ∷ 3 ∷ 3 ∷ 3 ∷ 3 ∷ 3 ∷ 3 ∷ []) 63 ≡ refuse 9 9
+unfolding writeRefusal ofRings total every coordinate
+nine-counts = refl
+
+-- then ring by ring, told with the ring, and before the sum
+pub pair : writeRefusal (take 4 lent) (2 ∷ []) 63 ≡ refuse 8 0
+unfolding writeRefusal ofRings total every coordinate
 pair = refl
+
+pub second-pair : writeRefusal lent (3 ∷ 2 ∷ []) 63 ≡ refuse 8 1
+unfolding writeRefusal ofRings total every coordinate
+second-pair = refl
+
+pub first-too-long : writeRefusal lent (257 ∷ 2 ∷ []) 63 ≡ refuse 9 0
+unfolding writeRefusal ofRings total every coordinate
+first-too-long = refl
 
 -- ---- the reader's, for rooms of so many numbers and counts
 

@@ -1,6 +1,6 @@
 // The outline book.
+use handed::refusal::hand_refusal;
 use handed::value::hand_count;
-use handed::value::hand_count_or_place;
 ghost use mathlib.Core.Path.{_≡_};
 ghost use lib.ListN.{length};
 ghost use Rattle.book_layout.specs.Writer.{writeCall, writeRoom};
@@ -14,17 +14,22 @@ pub extern "C" fn byr_write_book(
     counts: &[u32],
     room: &mut [u8],
     bytes: &mut u64,
+    place: &mut u64,
 ) -> u32
     ensures { λ r. ⌜ r ≡ returned (writeCall (now (coordinates .entry)) (now (counts .entry)) (length (now (room .entry)))) ⌝ }
     ensures { λ _.
         ⌜ now (bytes .exit) ≡ told itself (writeCall (now (coordinates .entry)) (now (counts .entry)) (length (now (room .entry))))
         (now (bytes .entry)) ⌝ }
+    ensures { λ _.
+        ⌜ now (place .exit) ≡ toldPlace (writeCall (now (coordinates .entry)) (now (counts .entry)) (length (now (room .entry))))
+        (now (place .entry)) ⌝ }
     ensures { λ _. ⌜ now (room .exit) ≡ writeRoom (now (coordinates .entry)) (now (counts .entry)) (now (room .entry)) ⌝ }
 {
-    hand_count(
+    let no = hand_count(
         book_writer::calls::write_book(coordinates, counts, room),
         bytes,
-    )
+    );
+    hand_refusal(no, place)
 }
 
 // The rings of a book as stored, in the room for coordinates, and their vertex counts in the room for counts: how many rings there are, or the place of the
@@ -47,9 +52,9 @@ pub extern "C" fn byr_read_book(
     ensures { λ _. ⌜ now (coordinates .exit) ≡ readRoom (now (book .entry)) (now (coordinates .entry)) (length (now (counts .entry))) ⌝ }
     ensures { λ _. ⌜ now (counts .exit) ≡ readCounts (now (book .entry)) (length (now (coordinates .entry))) (now (counts .entry)) ⌝ }
 {
-    hand_count_or_place(
+    let no = hand_count(
         book_reader::calls::read_book(book, coordinates, counts),
         rings,
-        place,
-    )
+    );
+    hand_refusal(no, place)
 }

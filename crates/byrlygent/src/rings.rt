@@ -1,4 +1,5 @@
 // Segments and rings: the calls of `polygon_ops.rs` and `robust.rs`.
+use handed::refusal::hand_refusal;
 use handed::value::hand_count;
 use handed::value::hand_number;
 use handed::value::hand_truth;
@@ -7,7 +8,7 @@ use plane::Point;
 ghost use mathlib.Core.Path.{_≡_};
 ghost use lib.ListN.{length};
 ghost use Rattle.plane.specs.Vector.{point};
-ghost use Rattle.handed.specs.Handed.{returned, told, itself, flag};
+ghost use Rattle.handed.specs.Handed.{returned, told, toldPlace, itself, flag};
 ghost use Rattle.segments.specs.Calls.{orientationCall, onSegmentCall, intersectCall};
 ghost use Rattle.ring_copies.specs.Calls.{mirrorCall, mirrorRoom, openCall, openRoom};
 ghost use Rattle.simple_polygon.specs.Calls.{isSimpleCall};
@@ -31,7 +32,8 @@ pub extern "C" fn byr_orientation(
     let a = Point { x: ax, y: ay };
     let b = Point { x: bx, y: by };
     let c = Point { x: cx, y: cy };
-    hand_turn(segments::calls::orientation(a, b, c), turn)
+    let no = hand_turn(segments::calls::orientation(a, b, c), turn);
+    no.number
 }
 
 // Whether p, known to be collinear with the segment a b, lies on it.
@@ -51,7 +53,8 @@ pub extern "C" fn byr_on_segment(
     let a = Point { x: ax, y: ay };
     let b = Point { x: bx, y: by };
     let p = Point { x: px, y: py };
-    hand_truth(segments::calls::on_segment(a, b, p), on)
+    let no = hand_truth(segments::calls::on_segment(a, b, p), on);
+    no.number
 }
 
 // Whether the closed segments 1 2 and 3 4 meet.
@@ -75,7 +78,8 @@ pub extern "C" fn byr_segments_intersect(
     let p2 = Point { x: x2, y: y2 };
     let p3 = Point { x: x3, y: y3 };
     let p4 = Point { x: x4, y: y4 };
-    hand_truth(segments::calls::segments_intersect(p1, p2, p3, p4), meet)
+    let no = hand_truth(segments::calls::segments_intersect(p1, p2, p3, p4), meet);
+    no.number
 }
 
 // The distance of p from the segment a b.
@@ -96,66 +100,98 @@ pub extern "C" fn byr_point_segment_distance(
     let p = Point { x: px, y: py };
     let a = Point { x: ax, y: ay };
     let b = Point { x: bx, y: by };
-    hand_number(
+    let no = hand_number(
         ring_distance::calls::point_segment_distance(p, a, b),
         distance,
-    )
+    );
+    no.number
 }
 
 // The ring mirrored in the y axis, its order reversed, in the room: how many vertices it has.
 #[no_mangle]
-pub extern "C" fn byr_mirror_polygon(ring: &[f64], room: &mut [f64], vertices: &mut u64) -> u32
+pub extern "C" fn byr_mirror_polygon(
+    ring: &[f64],
+    room: &mut [f64],
+    vertices: &mut u64,
+    place: &mut u64,
+) -> u32
     ensures { λ r. ⌜ r ≡ returned (mirrorCall (now (ring .entry)) (length (now (room .entry)))) ⌝ }
     ensures { λ _.
         ⌜ now (vertices .exit) ≡ told itself (mirrorCall (now (ring .entry)) (length (now (room .entry)))) (now (vertices .entry)) ⌝ }
+    ensures { λ _.
+        ⌜ now (place .exit) ≡ toldPlace (mirrorCall (now (ring .entry)) (length (now (room .entry))))
+        (now (place .entry)) ⌝ }
     ensures { λ _. ⌜ now (room .exit) ≡ mirrorRoom (now (ring .entry)) (now (room .entry)) ⌝ }
 {
-    hand_count(ring_copies::calls::mirror_polygon(ring, room), vertices)
+    let no = hand_count(ring_copies::calls::mirror_polygon(ring, room), vertices);
+    hand_refusal(no, place)
 }
 
 // The ring without its closing repeat, in the room: how many vertices it has.
 #[no_mangle]
-pub extern "C" fn byr_open_ring(ring: &[f64], room: &mut [f64], vertices: &mut u64) -> u32
+pub extern "C" fn byr_open_ring(
+    ring: &[f64],
+    room: &mut [f64],
+    vertices: &mut u64,
+    place: &mut u64,
+) -> u32
     ensures { λ r. ⌜ r ≡ returned (openCall (now (ring .entry)) (length (now (room .entry)))) ⌝ }
     ensures { λ _.
         ⌜ now (vertices .exit) ≡ told itself (openCall (now (ring .entry)) (length (now (room .entry)))) (now (vertices .entry)) ⌝ }
+    ensures { λ _.
+        ⌜ now (place .exit) ≡ toldPlace (openCall (now (ring .entry)) (length (now (room .entry))))
+        (now (place .entry)) ⌝ }
     ensures { λ _. ⌜ now (room .exit) ≡ openRoom (now (ring .entry)) (now (room .entry)) ⌝ }
 {
-    hand_count(ring_copies::calls::open_ring(ring, room), vertices)
+    let no = hand_count(ring_copies::calls::open_ring(ring, room), vertices);
+    hand_refusal(no, place)
 }
 
 // Whether a ring is simple. Fewer than three vertices are not.
 #[no_mangle]
-pub extern "C" fn byr_is_simple_polygon(ring: &[f64], simple: &mut u32) -> u32
+pub extern "C" fn byr_is_simple_polygon(ring: &[f64], simple: &mut u32, place: &mut u64) -> u32
     ensures { λ r. ⌜ r ≡ returned (isSimpleCall (now (ring .entry))) ⌝ }
     ensures { λ _. ⌜ now (simple .exit) ≡ told flag (isSimpleCall (now (ring .entry))) (now (simple .entry)) ⌝ }
+    ensures { λ _. ⌜ now (place .exit) ≡ toldPlace (isSimpleCall (now (ring .entry))) (now (place .entry)) ⌝ }
 {
-    hand_truth(simple_polygon::calls::is_simple_polygon(ring), simple)
+    let no = hand_truth(simple_polygon::calls::is_simple_polygon(ring), simple);
+    hand_refusal(no, place)
 }
 
 // The shortest distance between the edges of two rings, +infinity where one has no vertex.
 #[no_mangle]
-pub extern "C" fn byr_ring_distance(a: &[f64], b: &[f64], distance: &mut f64) -> u32
+pub extern "C" fn byr_ring_distance(
+    a: &[f64],
+    b: &[f64],
+    distance: &mut f64,
+    place: &mut u64,
+) -> u32
     ensures { λ r. ⌜ r ≡ returned (ringDistanceCall (now (a .entry)) (now (b .entry))) ⌝ }
     ensures { λ _. ⌜ now (distance .exit) ≡ told itself (ringDistanceCall (now (a .entry)) (now (b .entry))) (now (distance .entry)) ⌝ }
+    ensures { λ _. ⌜ now (place .exit) ≡ toldPlace (ringDistanceCall (now (a .entry)) (now (b .entry))) (now (place .entry)) ⌝ }
 {
-    hand_number(ring_distance::calls::ring_distance(a, b), distance)
+    let no = hand_number(ring_distance::calls::ring_distance(a, b), distance);
+    hand_refusal(no, place)
 }
 
 // Twice the signed area of a ring: above 0 where its order is counter-clockwise.
 #[no_mangle]
-pub extern "C" fn byr_signed_area2(ring: &[f64], area2: &mut f64) -> u32
+pub extern "C" fn byr_signed_area2(ring: &[f64], area2: &mut f64, place: &mut u64) -> u32
     ensures { λ r. ⌜ r ≡ returned (area2Call (now (ring .entry))) ⌝ }
     ensures { λ _. ⌜ now (area2 .exit) ≡ told itself (area2Call (now (ring .entry))) (now (area2 .entry)) ⌝ }
+    ensures { λ _. ⌜ now (place .exit) ≡ toldPlace (area2Call (now (ring .entry))) (now (place .entry)) ⌝ }
 {
-    hand_number(signed_area::calls::signed_area2(ring), area2)
+    let no = hand_number(signed_area::calls::signed_area2(ring), area2);
+    hand_refusal(no, place)
 }
 
 // The signed area of a ring by a compensated sum, 0.0 below three vertices.
 #[no_mangle]
-pub extern "C" fn byr_signed_area_robust(ring: &[f64], area: &mut f64) -> u32
+pub extern "C" fn byr_signed_area_robust(ring: &[f64], area: &mut f64, place: &mut u64) -> u32
     ensures { λ r. ⌜ r ≡ returned (robustCall (now (ring .entry))) ⌝ }
     ensures { λ _. ⌜ now (area .exit) ≡ told itself (robustCall (now (ring .entry))) (now (area .entry)) ⌝ }
+    ensures { λ _. ⌜ now (place .exit) ≡ toldPlace (robustCall (now (ring .entry))) (now (place .entry)) ⌝ }
 {
-    hand_number(signed_area::calls::signed_area_robust(ring), area)
+    let no = hand_number(signed_area::calls::signed_area_robust(ring), area);
+    hand_refusal(no, place)
 }

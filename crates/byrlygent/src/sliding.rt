@@ -2,6 +2,7 @@
 use handed::found::hand_checked;
 use handed::found::hand_position;
 use handed::found::hand_selected;
+use handed::refusal::hand_refusal;
 use handed::trace::hand_traced;
 use handed::value::hand_count;
 use handed::value::hand_number;
@@ -13,7 +14,7 @@ use selection::Previous;
 ghost use mathlib.Core.Path.{_≡_};
 ghost use lib.ListN.{length};
 ghost use Rattle.plane.specs.Vector.{point};
-ghost use Rattle.handed.specs.Handed.{returned, told, toldFound, itself, flag, isFound, xOf, yOf, hitDistance, hitKind, hitStationary, hitOrbiting};
+ghost use Rattle.handed.specs.Handed.{returned, told, toldFound, placeOf, toldPlace, itself, flag, isFound, xOf, yOf, hitDistance, hitKind, hitStationary, hitOrbiting};
 ghost use Rattle.projection.specs.Calls.{projectCall, distanceCall, nearCall};
 ghost use Rattle.contacts_call.specs.Calls.{findCall, findWhich, findPoints};
 ghost use Rattle.vectors_call.specs.Calls.{vectorsCall, vectorsRoom, sourcesRoom, fitCall, fitRoom, fitSources};
@@ -46,10 +47,11 @@ pub extern "C" fn byr_project_point_to_segment(
     let p = Point { x: px, y: py };
     let a = Point { x: ax, y: ay };
     let b = Point { x: bx, y: by };
-    hand_number(
+    let no = hand_number(
         projection::calls::project_point_to_segment(p, a, b),
         parameter,
-    )
+    );
+    no.number
 }
 
 // The distance of p from the segment a b.
@@ -69,10 +71,11 @@ pub extern "C" fn byr_point_to_segment_distance(
     let p = Point { x: px, y: py };
     let a = Point { x: ax, y: ay };
     let b = Point { x: bx, y: by };
-    hand_number(
+    let no = hand_number(
         projection::calls::point_to_segment_distance(p, a, b),
         distance,
-    )
+    );
+    no.number
 }
 
 // Whether p is nearer to the segment a b than the tolerance.
@@ -93,7 +96,8 @@ pub extern "C" fn byr_point_on_segment(
     let p = Point { x: px, y: py };
     let a = Point { x: ax, y: ay };
     let b = Point { x: bx, y: by };
-    hand_truth(projection::calls::point_on_segment(p, a, b, tolerance), on)
+    let no = hand_truth(projection::calls::point_on_segment(p, a, b, tolerance), on);
+    no.number
 }
 
 // The contacts of two polygons, and how many there are: per contact kind, stationary index and orbiting index in `which`, x and y in `points`.
@@ -105,6 +109,7 @@ pub extern "C" fn byr_find_contacts(
     which: &mut [u64],
     points: &mut [f64],
     count: &mut u64,
+    place: &mut u64,
 ) -> u32
     ensures { λ r.
         ⌜ r ≡ returned
@@ -115,16 +120,22 @@ pub extern "C" fn byr_find_contacts(
         (findCall (now (stationary .entry)) (now (orbiting .entry)) tolerance (length (now (which .entry))) (length (now (points .entry))))
         (now (count .entry)) ⌝ }
     ensures { λ _.
+        ⌜ now (place .exit) ≡ toldPlace
+        (findCall (now (stationary .entry)) (now (orbiting .entry)) tolerance (length (now (which .entry)))
+        (length (now (points .entry))))
+        (now (place .entry)) ⌝ }
+    ensures { λ _.
         ⌜ now (which .exit) ≡ findWhich (now (stationary .entry)) (now (orbiting .entry)) tolerance (now (which .entry))
         (now (points .entry)) ⌝ }
     ensures { λ _.
         ⌜ now (points .exit) ≡ findPoints (now (stationary .entry)) (now (orbiting .entry)) tolerance (now (which .entry))
         (now (points .entry)) ⌝ }
 {
-    hand_count(
+    let no = hand_count(
         contacts_call::calls::find_contacts(stationary, orbiting, tolerance, which, points),
         count,
-    )
+    );
+    hand_refusal(no, place)
 }
 
 // The vectors of those contacts, and how many there are: per vector its direction and its distance in `vectors`, its contact's index in `sources`.
@@ -136,6 +147,7 @@ pub extern "C" fn byr_compute_translation_vectors(
     vectors: &mut [f64],
     sources: &mut [u64],
     count: &mut u64,
+    place: &mut u64,
 ) -> u32
     ensures { λ r.
         ⌜ r ≡ returned
@@ -147,13 +159,18 @@ pub extern "C" fn byr_compute_translation_vectors(
         (sources .entry))))
         (now (count .entry)) ⌝ }
     ensures { λ _.
+        ⌜ now (place .exit) ≡ toldPlace
+        (vectorsCall (now (stationary .entry)) (now (orbiting .entry)) tolerance (length (now (vectors .entry)))
+        (length (now (sources .entry))))
+        (now (place .entry)) ⌝ }
+    ensures { λ _.
         ⌜ now (vectors .exit) ≡ vectorsRoom (now (stationary .entry)) (now (orbiting .entry)) tolerance (now (vectors .entry))
         (now (sources .entry)) ⌝ }
     ensures { λ _.
         ⌜ now (sources .exit) ≡ sourcesRoom (now (stationary .entry)) (now (orbiting .entry)) tolerance (now (vectors .entry))
         (now (sources .entry)) ⌝ }
 {
-    hand_count(
+    let no = hand_count(
         vectors_call::calls::compute_translation_vectors(
             stationary,
             orbiting,
@@ -162,7 +179,8 @@ pub extern "C" fn byr_compute_translation_vectors(
             sources,
         ),
         count,
-    )
+    );
+    hand_refusal(no, place)
 }
 
 // Those of them that lead from the reference (rx, ry) to no visited position.
@@ -177,6 +195,7 @@ pub extern "C" fn byr_handle_perfect_fit(
     vectors: &mut [f64],
     sources: &mut [u64],
     count: &mut u64,
+    place: &mut u64,
 ) -> u32
     ensures { λ r.
         ⌜ r ≡ returned
@@ -188,6 +207,11 @@ pub extern "C" fn byr_handle_perfect_fit(
         (vectors .entry))) (length (now (sources .entry))))
         (now (count .entry)) ⌝ }
     ensures { λ _.
+        ⌜ now (place .exit) ≡ toldPlace
+        (fitCall (now (stationary .entry)) (now (orbiting .entry)) (point rx ry) (now (visited .entry)) tolerance
+        (length (now (vectors .entry))) (length (now (sources .entry))))
+        (now (place .entry)) ⌝ }
+    ensures { λ _.
         ⌜ now (vectors .exit) ≡ fitRoom (now (stationary .entry)) (now (orbiting .entry)) (point rx ry) (now (visited .entry))
         tolerance (now (vectors .entry)) (now (sources .entry)) ⌝ }
     ensures { λ _.
@@ -195,7 +219,7 @@ pub extern "C" fn byr_handle_perfect_fit(
         tolerance (now (vectors .entry)) (now (sources .entry)) ⌝ }
 {
     let reference = Point { x: rx, y: ry };
-    hand_count(
+    let no = hand_count(
         vectors_call::calls::handle_perfect_fit(
             stationary,
             orbiting,
@@ -206,7 +230,8 @@ pub extern "C" fn byr_handle_perfect_fit(
             sources,
         ),
         count,
-    )
+    );
+    hand_refusal(no, place)
 }
 
 // A previous direction: none where `has` is 0.
@@ -234,6 +259,7 @@ pub extern "C" fn byr_select_translation_vector(
     y: f64,
     found: &mut u32,
     index: &mut u64,
+    place: &mut u64,
 ) -> u32
     ensures { λ r. ⌜ r ≡ returned (selectCall (now (vectors .entry)) (previousOf has px py) (point cx cy) (point x y)) ⌝ }
     ensures { λ _.
@@ -242,15 +268,19 @@ pub extern "C" fn byr_select_translation_vector(
     ensures { λ _.
         ⌜ now (index .exit) ≡ toldFound itself (selectCall (now (vectors .entry)) (previousOf has px py) (point cx cy) (point x y))
         (now (index .entry)) ⌝ }
+    ensures { λ _.
+        ⌜ now (place .exit) ≡ toldPlace (selectCall (now (vectors .entry)) (previousOf has px py) (point cx cy) (point x y))
+        (now (place .entry)) ⌝ }
 {
     let before = previous(has, px, py);
     let centroid = Point { x: cx, y: cy };
     let position = Point { x, y };
-    hand_selected(
+    let no = hand_selected(
         selection::calls::select_translation_vector(vectors, before, centroid, position),
         found,
         index,
-    )
+    );
+    hand_refusal(no, place)
 }
 
 // What orbiting, moved by (dx, dy), runs into first: nothing, or the hit's distance, its kind and both indices.
@@ -266,6 +296,7 @@ pub extern "C" fn byr_check_translation_collision(
     kind: &mut u32,
     si: &mut u64,
     oi: &mut u64,
+    place: &mut u64,
 ) -> u32
     ensures { λ r. ⌜ r ≡ returned (collisionCall (now (stationary .entry)) (now (orbiting .entry)) (point dx dy) tolerance) ⌝ }
     ensures { λ _.
@@ -283,6 +314,9 @@ pub extern "C" fn byr_check_translation_collision(
     ensures { λ _.
         ⌜ now (oi .exit) ≡ toldFound hitOrbiting
         (collisionCall (now (stationary .entry)) (now (orbiting .entry)) (point dx dy) tolerance) (now (oi .entry)) ⌝ }
+    ensures { λ _.
+        ⌜ now (place .exit) ≡ toldPlace (collisionCall (now (stationary .entry)) (now (orbiting .entry)) (point dx dy) tolerance)
+        (now (place .entry)) ⌝ }
 {
     let translation = Point { x: dx, y: dy };
     let answer = collision::calls::check_translation_collision(
@@ -291,7 +325,8 @@ pub extern "C" fn byr_check_translation_collision(
         translation,
         tolerance,
     );
-    hand_checked(answer, found, distance, kind, si, oi)
+    let no = hand_checked(answer, found, distance, kind, si, oi);
+    hand_refusal(no, place)
 }
 
 // The first position toward a concave vertex at which the orbiting polygon, lent as drawn, does not overlap, or nothing; (x, y) is where it is now.
@@ -305,6 +340,7 @@ pub extern "C" fn byr_detect_interlocking_opportunity(
     found: &mut u32,
     tox: &mut f64,
     toy: &mut f64,
+    place: &mut u64,
 ) -> u32
     ensures { λ r. ⌜ r ≡ returned (interlockCall (now (stationary .entry)) (now (orbiting .entry)) (point x y) tolerance) ⌝ }
     ensures { λ _.
@@ -316,6 +352,9 @@ pub extern "C" fn byr_detect_interlocking_opportunity(
     ensures { λ _.
         ⌜ now (toy .exit) ≡ toldFound yOf (interlockCall (now (stationary .entry)) (now (orbiting .entry)) (point x y) tolerance)
         (now (toy .entry)) ⌝ }
+    ensures { λ _.
+        ⌜ now (place .exit) ≡ toldPlace (interlockCall (now (stationary .entry)) (now (orbiting .entry)) (point x y) tolerance)
+        (now (place .entry)) ⌝ }
 {
     let current = Point { x, y };
     let answer = interlocking::calls::detect_interlocking_opportunity(
@@ -324,7 +363,8 @@ pub extern "C" fn byr_detect_interlocking_opportunity(
         current,
         tolerance,
     );
-    hand_position(answer, found, tox, toy)
+    let no = hand_position(answer, found, tox, toy);
+    hand_refusal(no, place)
 }
 
 // Where the orbiting polygon, lent where it is, is moved to from its position (x, y) to touch the stationary one again, or nothing.
@@ -338,6 +378,7 @@ pub extern "C" fn byr_recover_contact(
     found: &mut u32,
     tox: &mut f64,
     toy: &mut f64,
+    place: &mut u64,
 ) -> u32
     ensures { λ r. ⌜ r ≡ returned (recoverCall (now (stationary .entry)) (now (orbiting .entry)) (point x y) tolerance) ⌝ }
     ensures { λ _.
@@ -349,19 +390,30 @@ pub extern "C" fn byr_recover_contact(
     ensures { λ _.
         ⌜ now (toy .exit) ≡ toldFound yOf (recoverCall (now (stationary .entry)) (now (orbiting .entry)) (point x y) tolerance)
         (now (toy .entry)) ⌝ }
+    ensures { λ _.
+        ⌜ now (place .exit) ≡ toldPlace (recoverCall (now (stationary .entry)) (now (orbiting .entry)) (point x y) tolerance)
+        (now (place .entry)) ⌝ }
 {
     let current = Point { x, y };
     let recovered = recovery::calls::recover_contact(stationary, orbiting, current, tolerance);
-    hand_position(recovered, found, tox, toy)
+    let no = hand_position(recovered, found, tox, toy);
+    hand_refusal(no, place)
 }
 
 // Whether two polygons overlap, or lie no more than 1e-6 apart.
 #[no_mangle]
-pub extern "C" fn byr_polygons_overlap(a: &[f64], b: &[f64], overlap: &mut u32) -> u32
+pub extern "C" fn byr_polygons_overlap(
+    a: &[f64],
+    b: &[f64],
+    overlap: &mut u32,
+    place: &mut u64,
+) -> u32
     ensures { λ r. ⌜ r ≡ returned (overlapCall (now (a .entry)) (now (b .entry))) ⌝ }
     ensures { λ _. ⌜ now (overlap .exit) ≡ told flag (overlapCall (now (a .entry)) (now (b .entry))) (now (overlap .entry)) ⌝ }
+    ensures { λ _. ⌜ now (place .exit) ≡ toldPlace (overlapCall (now (a .entry)) (now (b .entry))) (now (place .entry)) ⌝ }
 {
-    hand_truth(overlap::calls::polygons_overlap(a, b), overlap)
+    let no = hand_truth(overlap::calls::polygons_overlap(a, b), overlap);
+    hand_refusal(no, place)
 }
 
 // The same with a lent tolerance.
@@ -371,15 +423,20 @@ pub extern "C" fn byr_polygons_overlap_with_tolerance(
     b: &[f64],
     tolerance: f64,
     overlap: &mut u32,
+    place: &mut u64,
 ) -> u32
     ensures { λ r. ⌜ r ≡ returned (overlapWithCall (now (a .entry)) (now (b .entry)) tolerance) ⌝ }
     ensures { λ _.
         ⌜ now (overlap .exit) ≡ told flag (overlapWithCall (now (a .entry)) (now (b .entry)) tolerance) (now (overlap .entry)) ⌝ }
+    ensures { λ _.
+        ⌜ now (place .exit) ≡ toldPlace (overlapWithCall (now (a .entry)) (now (b .entry)) tolerance)
+        (now (place .entry)) ⌝ }
 {
-    hand_truth(
+    let no = hand_truth(
         overlap::calls::polygons_overlap_with_tolerance(a, b, tolerance),
         overlap,
-    )
+    );
+    hand_refusal(no, place)
 }
 
 // The position of orbiting, as drawn, at which its highest vertex is stationary's lowest.
@@ -389,16 +446,21 @@ pub extern "C" fn byr_find_start_position(
     orbiting: &[f64],
     x: &mut f64,
     y: &mut f64,
+    place: &mut u64,
 ) -> u32
     ensures { λ r. ⌜ r ≡ returned (startCall (now (stationary .entry)) (now (orbiting .entry))) ⌝ }
     ensures { λ _. ⌜ now (x .exit) ≡ told xOf (startCall (now (stationary .entry)) (now (orbiting .entry))) (now (x .entry)) ⌝ }
     ensures { λ _. ⌜ now (y .exit) ≡ told yOf (startCall (now (stationary .entry)) (now (orbiting .entry))) (now (y .entry)) ⌝ }
+    ensures { λ _.
+        ⌜ now (place .exit) ≡ toldPlace (startCall (now (stationary .entry)) (now (orbiting .entry)))
+        (now (place .entry)) ⌝ }
 {
-    hand_start(
+    let no = hand_start(
         start_position::calls::find_start_position(stationary, orbiting),
         x,
         y,
-    )
+    );
+    hand_refusal(no, place)
 }
 
 // The list without its collinear points, in the room: how many points it has.
@@ -408,17 +470,22 @@ pub extern "C" fn byr_simplify_polygon(
     tolerance: f64,
     room: &mut [f64],
     points: &mut u64,
+    place: &mut u64,
 ) -> u32
     ensures { λ r. ⌜ r ≡ returned (simplifyCall (now (list .entry)) tolerance (length (now (room .entry)))) ⌝ }
     ensures { λ _.
         ⌜ now (points .exit) ≡ told itself (simplifyCall (now (list .entry)) tolerance (length (now (room .entry))))
         (now (points .entry)) ⌝ }
+    ensures { λ _.
+        ⌜ now (place .exit) ≡ toldPlace (simplifyCall (now (list .entry)) tolerance (length (now (room .entry))))
+        (now (place .entry)) ⌝ }
     ensures { λ _. ⌜ now (room .exit) ≡ simplifyRoom (now (list .entry)) tolerance (now (room .entry)) ⌝ }
 {
-    hand_count(
+    let no = hand_count(
         simplify::calls::simplify_polygon(list, tolerance, room),
         points,
-    )
+    );
+    hand_refusal(no, place)
 }
 
 // The path of the orbiting polygon around the stationary one: traced in the work room, simplified in the result room; how many points both have, the passes
@@ -436,6 +503,7 @@ pub extern "C" fn byr_compute_nfp_sliding(
     stored: &mut u64,
     passes: &mut u64,
     stop: &mut u32,
+    place: &mut u64,
 ) -> u32
     ensures { λ r.
         ⌜ r ≡ refusalOf
@@ -463,6 +531,11 @@ pub extern "C" fn byr_compute_nfp_sliding(
         .entry))) (length (now (result .entry))))
         (now (stop .entry)) ⌝ }
     ensures { λ _.
+        ⌜ now (place .exit) ≡ placeOf
+        (refusalOf (traceCall (now (stationary .entry)) (now (orbiting .entry)) (settingsOf tolerance smallest limit)
+        (length (now (work .entry))) (length (now (result .entry)))))
+        (now (place .entry)) ⌝ }
+    ensures { λ _.
         ⌜ now (work .exit) ≡ traceWork (now (stationary .entry)) (now (orbiting .entry)) (settingsOf tolerance smallest limit)
         (now (work .entry)) (length (now (result .entry))) ⌝ }
     ensures { λ _.
@@ -481,5 +554,6 @@ pub extern "C" fn byr_compute_nfp_sliding(
         work,
         result,
     );
-    hand_traced(traced, points, stored, passes, stop)
+    let no = hand_traced(traced, points, stored, passes, stop);
+    hand_refusal(no, place)
 }

@@ -24,7 +24,7 @@ unfolding findRefusal ofTouching ofTwoPolygons ofRooms every coordinate lt le eq
 points-short = rw numbers
 
 -- a polygon of two vertices comes before a tolerance of 0, and that before the rooms
-pub two-vertices : findCall (f0 ∷ f0 ∷ four ∷ f0 ∷ []) Q f0 0 0 ≡ refuses (refuse 1 0)
+pub two-vertices : findCall (f0 ∷ f0 ∷ four ∷ f0 ∷ []) Q f0 0 0 ≡ refuses (refuse 8 0)
 unfolding findRefusal ofTouching ofTwoPolygons ofRooms
 two-vertices = refl
 

@@ -2,17 +2,28 @@
 use Prim.Native.Nat.{ℕ}
 use mathlib.Core.Bool.{Bool, cond}
 use mathlib.Core.Option.{Option, none, some}
-use lib.Dec.{eqb}
 use lib.Ieee.{Float}
 use Rattle.plane.specs.declared.Point.{Point}
 use Rattle.collision.specs.Calls.{Values}
 use Rattle.refusals.specs.Answers.{Outcome, answers, refuses}
 use Rattle.refusals.specs.Refusals as refusal
+use Rattle.refusals.specs.declared.Refusal.{Refusal}
 
--- the number of no refusal where the call answers, and else the refusal's
-unfoldable pub returned : {A : Type 0} → Outcome A → ℕ
-returned (answers a) = refusal.none .number
-returned (refuses r) = r .number
+-- the refusal of a call: none where it answers
+unfoldable pub refusalIn : {A : Type 0} → Outcome A → Refusal
+refusalIn (answers a) = refusal.none
+refusalIn (refuses r) = r
+
+-- its number
+abbrev pub returned : {A : Type 0} → Outcome A → ℕ
+returned o = refusalIn o .number
+
+-- a cell for a place: that of a refusal that tells one, and else what the cell held
+unfoldable pub placeOf : Refusal → ℕ → ℕ
+placeOf r held = cond (refusal.tellsPlace (r .number)) (r .place) held
+
+abbrev pub toldPlace : {A : Type 0} → Outcome A → ℕ → ℕ
+toldPlace o held = placeOf (refusalIn o) held
 
 -- a cell: what is said of the answer, and on a refusal what it held
 unfoldable pub told : {A B : Type 0} → (A → B) → Outcome A → B → B
@@ -24,11 +35,6 @@ unfoldable pub toldFound : {A B : Type 0} → (A → B) → Outcome (Option A) �
 toldFound say (answers none) held = held
 toldFound say (answers (some a)) held = say a
 toldFound say (refuses r) held = held
-
--- a cell for the place of a book's first fault
-unfoldable pub toldPlace : {A : Type 0} → Outcome A → ℕ → ℕ
-toldPlace (answers a) held = held
-toldPlace (refuses r) held = cond (eqb (r .number) (refusal.refusedBook)) (r .place) held
 
 -- an answer as it is
 abbrev pub itself : {A : Type 0} → A → A

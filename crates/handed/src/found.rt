@@ -1,7 +1,8 @@
-// Answers that may be nothing. Each function returns 0 and writes to `found` 1 or 0, and what was found after it only where there is something; or it
-// returns the refusal's number and leaves the cells as they were.
+// Answers that may be nothing. Each function returns no refusal and writes to `found` 1 or 0, and what was found after it only where there is something;
+// or it returns the refusal and leaves the cells as they were.
 use collision::Collision;
 use collision::answer::Checked;
+use refusals::Refusal;
 use refusals::answer::Found;
 use refusals::answer::Position;
 use selection::answer::Selected;
@@ -9,33 +10,33 @@ ghost use mathlib.Core.Path.{_≡_};
 ghost use Rattle.collision.specs.Calls.{checked};
 ghost use Rattle.refusals.specs.Answers.{position};
 ghost use Rattle.selection.specs.Calls.{selected};
-ghost use Rattle.handed.specs.Handed.{returned, told, toldFound, itself, isFound, xOf, yOf, hitDistance, hitKind, hitStationary, hitOrbiting};
+ghost use Rattle.handed.specs.Handed.{refusalIn, told, toldFound, itself, isFound, xOf, yOf, hitDistance, hitKind, hitStationary, hitOrbiting};
 
 // The index of a vector, or nothing.
-pub fn hand_selected(answer: Selected, found: &mut u32, index: &mut u64) -> u32
+pub fn hand_selected(answer: Selected, found: &mut u32, index: &mut u64) -> Refusal
     ensures { λ r.
-        ⌜ (r ≡ returned (selected answer))
+        ⌜ (r ≡ refusalIn (selected answer))
         × (now (found .exit) ≡ told isFound (selected answer) (now (found .entry)))
         × (now (index .exit) ≡ toldFound itself (selected answer) (now (index .entry))) ⌝ }
 {
     match answer {
         Selected::Nothing => {
             *found = 0;
-            0
+            Refusal::none()
         }
         Selected::Index(i) => {
             *found = 1;
             *index = i as u64;
-            0
+            Refusal::none()
         }
-        Selected::Refused(no) => no.number,
+        Selected::Refused(no) => no,
     }
 }
 
 // A position, or nothing.
-pub fn hand_position(answer: Position, found: &mut u32, x: &mut f64, y: &mut f64) -> u32
+pub fn hand_position(answer: Position, found: &mut u32, x: &mut f64, y: &mut f64) -> Refusal
     ensures { λ r.
-        ⌜ (r ≡ returned (position answer))
+        ⌜ (r ≡ refusalIn (position answer))
         × (now (found .exit) ≡ told isFound (position answer) (now (found .entry)))
         × (now (x .exit) ≡ toldFound xOf (position answer) (now (x .entry)))
         × (now (y .exit) ≡ toldFound yOf (position answer) (now (y .entry))) ⌝ }
@@ -44,16 +45,16 @@ pub fn hand_position(answer: Position, found: &mut u32, x: &mut f64, y: &mut f64
         Position::Is(f) => match f {
             Found::Nothing => {
                 *found = 0;
-                0
+                Refusal::none()
             }
             Found::At(p) => {
                 *found = 1;
                 *x = p.x;
                 *y = p.y;
-                0
+                Refusal::none()
             }
         },
-        Position::Refused(no) => no.number,
+        Position::Refused(no) => no,
     }
 }
 
@@ -65,9 +66,9 @@ pub fn hand_checked(
     kind: &mut u32,
     si: &mut u64,
     oi: &mut u64,
-) -> u32
+) -> Refusal
     ensures { λ r.
-        ⌜ (r ≡ returned (checked answer))
+        ⌜ (r ≡ refusalIn (checked answer))
         × (now (found .exit) ≡ told isFound (checked answer) (now (found .entry)))
         × (now (distance .exit) ≡ toldFound hitDistance (checked answer) (now (distance .entry)))
         × (now (kind .exit) ≡ toldFound hitKind (checked answer) (now (kind .entry)))
@@ -78,7 +79,7 @@ pub fn hand_checked(
         Checked::Is(c) => match c {
             Collision::Nothing => {
                 *found = 0;
-                0
+                Refusal::none()
             }
             Collision::Hit {
                 distance: d,
@@ -91,9 +92,9 @@ pub fn hand_checked(
                 *kind = k as u32;
                 *si = s as u64;
                 *oi = o as u64;
-                0
+                Refusal::none()
             }
         },
-        Checked::Refused(no) => no.number,
+        Checked::Refused(no) => no,
     }
 }

@@ -1,6 +1,7 @@
 // The answer of a trace: the counts, the passes and the stop reason, of which the passes are told with refusal 5, and both the last with 6.
 use nfp_sliding::answer::Traced;
 use nfp_sliding::answer::refusal;
+use refusals::Refusal;
 ghost use mathlib.Core.Path.{_≡_};
 ghost use Rattle.nfp_sliding.specs.Calls.{traced, refusalOf};
 ghost use Rattle.handed.specs.Traces.{pointsTold, storedTold, passesTold, stopTold};
@@ -12,9 +13,9 @@ pub fn hand_traced(
     stored: &mut u64,
     passes: &mut u64,
     stop: &mut u32,
-) -> u32
+) -> Refusal
     ensures { λ r.
-        ⌜ (r ≡ refusalOf (traced answer) .number)
+        ⌜ (r ≡ refusalOf (traced answer))
         × (now (points .exit) ≡ pointsTold (traced answer) (now (points .entry)))
         × (now (stored .exit) ≡ storedTold (traced answer) (now (stored .entry)))
         × (now (passes .exit) ≡ passesTold (traced answer) (now (passes .entry)))
@@ -45,5 +46,5 @@ pub fn hand_traced(
             *stop = why;
         }
     }
-    no.number
+    no
 }

@@ -2,22 +2,27 @@
 use Prim.Native.Nat.{ℕ, zero, suc}
 use mathlib.Core.Bool.{cond}
 use mathlib.Core.List.{List, [], _∷_, _++_}
-use lib.Dec.{eqb}
 use lib.Ieee.{Float, binary64, toBits}
 use Rattle.print.specs.Digits.{decimal}
-use Rattle.print.specs.Text.{newline, pairLine}
+use Rattle.print.specs.Text.{space, newline, pairLine}
 use Rattle.ring.specs.Ring.{pointAt}
+use Rattle.refusals.specs.Refusals.{tellsPlace}
 use Rattle.refusals.specs.declared.Refusal.{Refusal}
 
--- "refused 7 " and the place
-unfoldable pub faultLine : ℕ → List ℕ
-faultLine place = (114 ∷ 101 ∷ 102 ∷ 117 ∷ 115 ∷ 101 ∷ 100 ∷ 32 ∷ 55 ∷ 32 ∷ []) ++ (decimal place ++ newline)
+-- "refused "
+abbrev pub refused : List ℕ
+refused = 114 ∷ 101 ∷ 102 ∷ 117 ∷ 115 ∷ 101 ∷ 100 ∷ 32 ∷ []
 
--- "refused " and the number, for 7 with the place
+-- the number alone, and the number with the place
+abbrev pub numberLine : ℕ → List ℕ
+numberLine number = refused ++ (decimal number ++ newline)
+
+abbrev pub placeLine : ℕ → ℕ → List ℕ
+placeLine number place = refused ++ (decimal number ++ (space ++ (decimal place ++ newline)))
+
+-- a refusal, with its place where it tells one
 unfoldable pub refusalLine : Refusal → List ℕ
-refusalLine r =
-    cond (eqb (r .number) 7) (faultLine (r .place))
-    ((114 ∷ 101 ∷ 102 ∷ 117 ∷ 115 ∷ 101 ∷ 100 ∷ 32 ∷ []) ++ (decimal (r .number) ++ newline))
+refusalLine r = cond (tellsPlace (r .number)) (placeLine (r .number) (r .place)) (numberLine (r .number))
 
 -- the first n points of a list, a line each
 unfoldable pub pointLines : List Float → ℕ → List ℕ

@@ -9,29 +9,40 @@ ghost use mathlib.Core.Path.{_≡_};
 ghost use Prim.Native.Nat.{_+_, _*_, _≤_};
 ghost use lib.ListN.{length};
 ghost use Rattle.print.specs.Text.{Put};
-ghost use Rattle.lines.specs.Lines.{faultLine, refusalLine, pointLines};
+ghost use Rattle.lines.specs.Lines.{numberLine, placeLine, refusalLine, pointLines};
 
-// A wrong book, with the place of its first fault.
-fn put_fault(place: u64, out: &mut [u8]) -> usize
+// A refusal's number alone.
+fn put_number(number: u32, out: &mut [u8]) -> usize
     requires { ⌜ 100 ≤ length (now out) ⌝ }
-    ensures { λ r. ⌜ Put (now (out .entry)) 0 (faultLine place) (now (out .exit)) r ⌝ }
+    ensures { λ r. ⌜ Put (now (out .entry)) 0 (numberLine number) (now (out .exit)) r ⌝ }
 {
-    let at = put_text(out, 0, b"refused 7 ");
-    let end = put_decimal(out, at, place);
+    let at = put_text(out, 0, b"refused ");
+    let end = put_decimal(out, at, number as u64);
     put_text(out, end, b"\n")
 }
 
-// A refusal: its number, and for 7 its place.
+// A refusal's number and its place.
+fn put_place(number: u32, place: u64, out: &mut [u8]) -> usize
+    requires { ⌜ 100 ≤ length (now out) ⌝ }
+    ensures { λ r. ⌜ Put (now (out .entry)) 0 (placeLine number place) (now (out .exit)) r ⌝ }
+{
+    let at = put_text(out, 0, b"refused ");
+    let blank = put_decimal(out, at, number as u64);
+    let next = put_text(out, blank, b" ");
+    let end = put_decimal(out, next, place);
+    put_text(out, end, b"\n")
+}
+
+// A refusal: its number, and its place where it tells one.
 pub fn put_refusal(no: Refusal, out: &mut [u8]) -> usize
     requires { ⌜ 100 ≤ length (now out) ⌝ }
     ensures { λ r. ⌜ Put (now (out .entry)) 0 (refusalLine no) (now (out .exit)) r ⌝ }
 {
-    if no.number == 7 {
-        return put_fault(no.place, out);
+    if no.tells_place() {
+        put_place(no.number, no.place, out)
+    } else {
+        put_number(no.number, out)
     }
-    let at = put_text(out, 0, b"refused ");
-    let end = put_decimal(out, at, no.number as u64);
-    put_text(out, end, b"\n")
 }
 
 // The first n points of a list, a line each, by their bit patterns, from out[at] on.

@@ -1,18 +1,19 @@
 -- What bounds a trace: where its room was not full its reason is one of 1 to 5; it stores at most a point for each pass
 -- it begins; and a room that has a point for each pass that it may begin is never full. So a work room of 20,002 numbers
 -- always suffices. Assumes nothing.
-use Prim.Native.Nat.{ℕ, zero, suc, _+_, _*_, _-_, _≤_}
+use Prim.Native.Nat.{ℕ, zero, suc, _+_, _*_, _-_, _/_, _%_, _≤_}
 use native.Mathlib.Omega.{arith}
 use mathlib.Core.Path.{_≡_, refl, sym, _∙_}
 use mathlib.Core.Bool.{Bool, true, false, cond, true≢false}
 use mathlib.Core.List.{List, _++_}
 use lib.ListN.{length, length-append}
-use lib.Dec.{ltb, leb}
+use lib.Dec.{ltb, leb, eqb}
 use lib.Ieee.{Float}
 use borrow.Author.Tests.{le-ltb}
 use Rattle.refusals.specs.Refusals.{passed, unless, first}
-use Rattle.refusals.specs.Bounds.{coordinates as bounded-by, polygonLength, settingsOk, workOk}
-use Rattle.refusals.specs.Screens.{wrongPolygon, wrongNumber, wrongSettings, wrongWork}
+use Rattle.refusals.specs.Bounds.{coordinates as bounded-by, settingsOk, workOk}
+use Rattle.refusals.specs.Lists.{Extent, listFault, polygonExtent}
+use Rattle.refusals.specs.Screens.{wrongNumber, wrongSettings, wrongWork}
 use Rattle.refusals.specs.Rows.{ofTwoPolygons, ofTrace}
 use Rattle.refusals.specs.declared.Refusal.{Refusal}
 use Rattle.refusals.specs.declared.Settings.{Settings}
@@ -83,16 +84,26 @@ module _ (s : Scene) (room : ℕ) where
 
 -- ---- tests in a row
 
-either-most : (a b : Refusal) → a .number ≤ 4 → b .number ≤ 4 → first a b .number ≤ 4
-either-most a b h k = by (passed a)
+-- a test that does not give refusal 5
+abbrev NotFive : Refusal → Type 0
+NotFive r = r .number ≡ 5 → ⊥
+
+either-not : (a b : Refusal) → NotFive a → NotFive b → NotFive (first a b)
+either-not a b h k = by (passed a)
   where
-    by : (t : Bool) → cond t b a .number ≤ 4
+    by : (t : Bool) → NotFive (cond t b a)
     by true = k
     by false = h
 
-test-most : (ok : Bool) (num : ℕ) → num ≤ 4 → unless ok num 0 .number ≤ 4
-test-most true num h = omega arith
-test-most false num h = h
+test-not : (ok : Bool) (num at : ℕ) → (num ≡ 5 → ⊥) → NotFive (unless ok num at)
+test-not true num at h e = omega (arith, e)
+test-not false num at h e = h e
+
+fault-not : (e : Extent) (at : ℕ) → NotFive (listFault e at)
+fault-not e at =
+    either-not (unless (eqb (e .size % e .width) 0) 1 at) _ (test-not (eqb (e .size % e .width) 0) 1 at (λ h. omega (arith, h)))
+    (either-not (unless (leb (e .least) (e .size / e .width)) 8 at) _ (test-not (leb (e .least) (e .size / e .width)) 8 at (λ h. omega (arith, h)))
+    (test-not (leb (e .size / e .width) (e .most)) 9 at (λ h. omega (arith, h))))
 
 -- ---- the trace of two polygons
 
@@ -147,16 +158,16 @@ module _ (st orb : List Float) (s : Settings) (work : ℕ) where
       by true = came-to-ends (s .«contact_tolerance»)
       by false = tt
 
-  -- the tests of what is lent give no refusal above 4
-  lent-number : (result : ℕ) → ofTrace st orb s work result .number ≤ 4
+  -- the tests of what is lent do not give it
+  lent-number : (result : ℕ) → NotFive (ofTrace st orb s work result)
   unfolding ofTrace ofTwoPolygons
   lent-number result =
-      either-most (ofTwoPolygons st orb) _
-      (either-most (wrongPolygon st) _ (test-most (polygonLength st) 1 (omega arith))
-      (either-most (wrongPolygon orb) _ (test-most (polygonLength orb) 1 (omega arith))
-      (either-most (wrongNumber st) _ (test-most (bounded-by st) 2 (omega arith)) (test-most (bounded-by orb) 2 (omega arith)))))
-      (either-most (wrongSettings s) _ (test-most (settingsOk s) 3 (omega arith))
-      (either-most (wrongWork work) _ (test-most (workOk work) 4 (omega arith)) (test-most (leb work result) 4 (omega arith))))
+      either-not (ofTwoPolygons st orb) _
+      (either-not (first (listFault (polygonExtent st) 0) (listFault (polygonExtent orb) 1)) _
+      (either-not (listFault (polygonExtent st) 0) _ (fault-not (polygonExtent st) 0) (fault-not (polygonExtent orb) 1))
+      (either-not (wrongNumber st) _ (test-not (bounded-by st) 2 0 (λ h. omega (arith, h))) (test-not (bounded-by orb) 2 0 (λ h. omega (arith, h)))))
+      (either-not (wrongSettings s) _ (test-not (settingsOk s) 3 0 (λ h. omega (arith, h)))
+      (either-not (wrongWork work) _ (test-not (workOk work) 4 0 (λ h. omega (arith, h))) (test-not (leb work result) 4 0 (λ h. omega (arith, h)))))
 
   -- with room for 10,001 points the call never answers refusal 5, that the path does not fit
   pub never-five : (result : ℕ) → 20002 ≤ work → refusalOf (traceCall st orb s work result) .number ≡ 5 → ⊥
@@ -179,4 +190,4 @@ module _ (st orb : List Float) (s : Settings) (work : ℕ) where
       by true e h =
           fits (t .full) (brief t) (s .«contact_tolerance») refl
           (never-full (lent-ready st orb s work result refl refl e .0 .limit) w) h
-      by false e h = omega (arith, h, lent-number result)
+      by false e h = lent-number result h

@@ -56,7 +56,7 @@ boxes-meet : boxesApart triangle beyond f1e-6 ≡ false
 unfolding boxesApart boxOf apartOf extentTo widerOf pointAt smallerOf largerOf orNumber ahead minusZero add lt eq neg ofBits
 boxes-meet = refl
 
-two-vertices : overlapCall S (f0 ∷ f0 ∷ f1 ∷ f1 ∷ []) ≡ refuses (refuse 1 0)
+two-vertices : overlapCall S (f0 ∷ f0 ∷ f1 ∷ f1 ∷ []) ≡ refuses (refuse 8 1)
 unfolding ofTwoPolygons
 two-vertices = refl
 

@@ -27,25 +27,6 @@ total-bounds (n ∷ ns) h =
     let b = total-bounds ns (p .1) in
     ((omega arith), (omega arith))
 
--- a sum that is 0 where a count is out of bounds, and only there
-module _ (ns : List ℕ) (sum : ℕ) (e : sum ≡ cond (sizedAll ns) (total ns) 0) where
-  pub sum-is : sizedAll ns ≡ true → sum ≡ total ns
-  sum-is h = e ∙ ap (λ (t : Bool). cond t (total ns) 0) h
-
-  pub sum-none : 1 ≤ length ns → sum ≡ 0 → sizedAll ns ≡ false
-  sum-none one z = go (sizedAll ns) refl
-    where
-      go : (b : Bool) → sizedAll ns ≡ b → b ≡ false
-      go false h = refl
-      go true h = absurd (omega (arith, z, sum-is h, total-bounds ns h))
-
-  pub sum-some : (sum ≡ 0 → ⊥) → (sizedAll ns ≡ true) × (sum ≡ total ns)
-  sum-some n = go (sizedAll ns) refl
-    where
-      go : (b : Bool) → sizedAll ns ≡ b → (b ≡ true) × (sum ≡ total ns)
-      go true h = (refl, sum-is h)
-      go false h = absurd (n (e ∙ ap (λ (t : Bool). cond t (total ns) 0) h))
-
 module _ (ns : List ℕ) (i : ℕ) where
   pub total-on : i < length ns → total (drop i ns) ≡ getD ns i 0 + total (drop (i + 1) ns)
   unfolding total
@@ -58,21 +39,6 @@ module _ (ns : List ℕ) (i : ℕ) where
   sized-is : i < length ns → sizedAll (drop i ns) ≡ (within verticesLeast verticesMost (getD ns i 0) && sizedAll (drop (i + 1) ns))
   unfolding sizedAll
   sized-is h = rw (drop-cons ns i 0 h, add-one)
-
-  pub sized-on : i < length ns → verticesLeast ≤ getD ns i 0 → getD ns i 0 ≤ verticesMost → sizedAll (drop i ns) ≡ sizedAll (drop (i + 1) ns)
-  sized-on h l k = sized-is h ∙ (rw (le-leb verticesLeast (getD ns i 0) l, le-leb (getD ns i 0) verticesMost k))
-
-  pub sized-low : i < length ns → getD ns i 0 < verticesLeast → sizedAll (drop i ns) ≡ false
-  sized-low h l = sized-is h ∙ (rw (lt-leb verticesLeast (getD ns i 0) l))
-
-  pub sized-high : i < length ns → verticesMost < getD ns i 0 → sizedAll (drop i ns) ≡ false
-  sized-high h l =
-      let k : verticesLeast ≤ getD ns i 0 = omega arith in
-      sized-is h ∙ (rw (le-leb verticesLeast (getD ns i 0) k, lt-leb (getD ns i 0) verticesMost l))
-
-  pub sized-end : length ns ≤ i → sizedAll (drop i ns) ≡ true
-  unfolding sizedAll
-  sized-end h = rw (drop-of-length-le ns h)
 
   -- a list that passes, from here on
   pub sized-here : i < length ns → sizedAll (drop i ns) ≡ true → (verticesLeast ≤ getD ns i 0) × (getD ns i 0 ≤ verticesMost) × (sizedAll (drop (i + 1) ns) ≡ true)

@@ -18,7 +18,3 @@ first-assoc a b c = go (passed a) refl
     go : (p : Bool) → passed a ≡ p → first (first a b) c ≡ first a (first b c)
     go true h = simp h
     go false h = simp h
-
--- two tests, and then the rest of the row
-pub two-then : (rest : Refusal) {n la lb f a b : Refusal} → la ≡ a → lb ≡ b → f ≡ first la lb → n ≡ first f rest → n ≡ first a (first b rest)
-two-then rest {n} {la} {lb} ea eb ef e = rw (e, ef, ← ea, ← eb) (first-assoc la lb rest)

@@ -7,5 +7,6 @@ pub mod Room
 pub mod Calls
 pub mod Sized
 pub mod Counts
+pub mod Faults
 pub mod RingRow
 pub mod Worked

@@ -1,56 +1,82 @@
 -- The row of tests of rings and their vertex counts, one after the other. Assumes nothing.
-use Prim.Native.Nat.{ℕ, _*_, _≤_, _<_}
+use Prim.Native.Nat.{ℕ, _*_, _/_, _≤_}
 use mathlib.Core.Path.{_≡_, refl, sym, _∙_}
 use mathlib.Core.Bool.{Bool, true, false}
-use mathlib.Core.List.{List}
+use mathlib.Core.List.{List, map}
+use native.Mathlib.Omega.{arith}
 use lib.ListN.{length}
-use lib.Dec.{leb}
 use lib.Ieee.{Float}
-use borrow.Author.Tests.{le-leb, lt-leb, eq-eqb, ne-eqb}
-use Rattle.refusals.specs.Refusals.{refusedLength, passed, unless, refuse, first}
-use Rattle.refusals.specs.Rings.{ringsMost, ringsOk, total, sizedAll}
-use Rattle.refusals.specs.Screens.{wrongRings, wrongCounts, wrongSum, wrongNumber}
+use borrow.Author.Tests.{eq-eqb, eqb-true}
+use Rattle.refusals.specs.Refusals.{refusedLength, passed, first}
+use Rattle.refusals.specs.Bounds.{coordinates}
+use Rattle.refusals.specs.Rings.{ringsMost, total, sizedAll, sumOk}
+use Rattle.refusals.specs.Lists.{listFault, faultOf, ringsExtent, countExtent}
+use Rattle.refusals.specs.Screens.{wrongSum, wrongNumber}
 use Rattle.refusals.specs.Rows.{ofRings}
 use Rattle.refusals.specs.declared.Refusal.{Refusal}
-use Rattle.refusals.proofs.First.{off}
-use Rattle.refusals.proofs.Sized.{row-parts, holds}
-use Rattle.refusals.proofs.Counts.{is-within}
+use Rattle.refusals.proofs.First.{on, off, first-assoc}
+use Rattle.refusals.proofs.Sized.{Fine, fine, row-parts, holds}
+use Rattle.refusals.proofs.Faults.{fault-none, counts-sized, sized-counts}
 
 -- the number of rings
-pub no-rings : (ns : List ℕ) → length ns < 1 → refuse refusedLength 0 ≡ wrongRings ns
-no-rings ns h = rw (lt-leb 1 (length ns) h)
-
-pub some-rings : (ns : List ℕ) {r : Refusal} → 1 ≤ length ns → r ≡ unless (leb (length ns) ringsMost) refusedLength 0 → r ≡ wrongRings ns
-some-rings ns h e = rw (le-leb 1 (length ns) h) e
-
-pub are-rings : (ns : List ℕ) {n : Refusal} {p : Bool} → n ≡ wrongRings ns → p ≡ passed n → p ≡ true → (1 ≤ length ns) × (length ns ≤ ringsMost)
-are-rings ns e h t = is-within 1 ringsMost (length ns) (holds (ringsOk ns) 1 0 refl (rw (← e, ← h) t))
+are-rings : (ns : List ℕ) (at : ℕ) → passed (listFault (ringsExtent ns) at) ≡ true → (1 ≤ length ns) × (length ns ≤ ringsMost)
+are-rings ns at h = let f = fine (ringsExtent ns) at h in (omega (arith, f .enough), omega (arith, f .within))
 
 module _ (xs : List Float) (ns : List ℕ) where
-  pub number-speaks : {n : Refusal} {p : Bool} → n ≡ wrongRings ns → p ≡ passed n → p ≡ false → n ≡ ofRings xs ns
-  unfolding ofRings
-  number-speaks e h f = e ∙ sym (off _ _ e h f)
+  abbrev rings : Refusal
+  rings = listFault (ringsExtent ns) (length ns)
+
+  abbrev each : Refusal
+  each = faultOf (map countExtent ns)
+
+  abbrev last : Refusal
+  last = first (wrongSum xs ns) (wrongNumber xs)
+
+  -- the rings one by one, and their sum
+  abbrev pub lists : Refusal
+  lists = first each (wrongSum xs ns)
 
   -- rings that are not refused
-  pub rings-sized : {n : Refusal} {p : Bool} → n ≡ ofRings xs ns → p ≡ passed n → p ≡ true → (length ns ≤ ringsMost) × (sizedAll ns ≡ true)
+  pub rings-taken : passed (ofRings xs ns) ≡ true
+      → (1 ≤ length ns) × (length ns ≤ ringsMost) × (sizedAll ns ≡ true) × (length xs ≡ 2 * total ns) × (coordinates xs ≡ true)
   unfolding ofRings
-  rings-sized e h t =
-      let last = first (wrongSum xs ns) (wrongNumber xs) in
-      let g : passed (ofRings xs ns) ≡ true = rw (← e, ← h) t in
-      let r = row-parts (wrongRings ns) (first (wrongCounts ns) last) g in
-      let k = row-parts (wrongCounts ns) last (r .1) in
-      (is-within 1 ringsMost (length ns) (holds (ringsOk ns) 1 0 refl (r .0)) .1, holds (sizedAll ns) 1 0 refl (k .0))
+  rings-taken h =
+      let r = row-parts rings (first each last) h in
+      let k = row-parts each last (r .1) in
+      let s = row-parts (wrongSum xs ns) (wrongNumber xs) (k .1) in
+      let n = are-rings ns (length ns) (r .0) in (
+        n .0,
+        n .1,
+        counts-sized 0 ns (k .0),
+        eqb-true (length xs) (2 * total ns) (holds (sumOk xs ns) refusedLength (length ns) refl (s .0)),
+        holds (coordinates xs) 2 0 refl (s .1),
+      )
 
-  -- where there are 1 to 8 rings
-  module _ (one : 1 ≤ length ns) (few : length ns ≤ ringsMost) where
-    pub counts-speak : sizedAll ns ≡ false → refuse refusedLength 0 ≡ ofRings xs ns
-    unfolding ofRings
-    counts-speak s = rw (le-leb 1 (length ns) one, le-leb (length ns) ringsMost few, s)
+  pub taken-rings : 1 ≤ length ns → length ns ≤ ringsMost → sizedAll ns ≡ true → length xs ≡ 2 * total ns → coordinates xs ≡ true
+      → passed (ofRings xs ns) ≡ true
+  unfolding ofRings
+  taken-rings one few sized whole bounded =
+      let f : Fine (ringsExtent ns) = record { whole = omega arith; enough = omega (arith, one); within = omega (arith, few) } in
+      rw (← fault-none (ringsExtent ns) (length ns) f, sized-counts 0 ns sized, eq-eqb (length xs) (2 * total ns) whole, bounded)
 
-    pub sum-speaks : sizedAll ns ≡ true → (length xs ≡ 2 * total ns → ⊥) → refuse refusedLength 0 ≡ ofRings xs ns
+  -- the first test that refuses speaks
+  module _ {n : Refusal} {p : Bool} (e : n ≡ rings) (h : p ≡ passed n) where
+    pub number-speaks : p ≡ false → n ≡ ofRings xs ns
     unfolding ofRings
-    sum-speaks s n = rw (le-leb 1 (length ns) one, le-leb (length ns) ringsMost few, s, ne-eqb (length xs) (2 * total ns) n)
+    number-speaks f = e ∙ sym (off rings (first each last) e h f)
 
-    pub numbers-speak : {r : Refusal} → sizedAll ns ≡ true → length xs ≡ 2 * total ns → r ≡ wrongNumber xs → r ≡ ofRings xs ns
-    unfolding ofRings
-    numbers-speak s n e = rw (le-leb 1 (length ns) one, le-leb (length ns) ringsMost few, s, eq-eqb (length xs) (2 * total ns) n) e
+    pub few-rings : p ≡ true → length ns ≤ ringsMost
+    few-rings t = are-rings ns (length ns) (rw (← e, ← h) t) .1
+
+    module _ (t : p ≡ true) {m : Refusal} {q : Bool} (d : m ≡ lists) (g : q ≡ passed m) where
+      whole : ofRings xs ns ≡ first lists (wrongNumber xs)
+      unfolding ofRings
+      whole = on rings (first each last) e h t ∙ sym (first-assoc each (wrongSum xs ns) (wrongNumber xs))
+
+      pub lists-speak : q ≡ false → m ≡ ofRings xs ns
+      unfolding ofRings
+      lists-speak f = d ∙ sym (whole ∙ off lists (wrongNumber xs) d g f)
+
+      pub numbers-speak : {r : Refusal} → q ≡ true → r ≡ wrongNumber xs → r ≡ ofRings xs ns
+      unfolding ofRings
+      numbers-speak u s = s ∙ sym (whole ∙ on lists (wrongNumber xs) d g u)

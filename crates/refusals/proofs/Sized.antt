@@ -1,18 +1,18 @@
--- What a ring that is not refused is known to be. Assumes nothing.
-use Prim.Native.Nat.{ℕ, _%_, _≤_}
+-- What lists that are not refused are known to be. Assumes nothing.
+use Prim.Native.Nat.{ℕ, _%_, _/_, _≤_}
 use mathlib.Core.Path.{_≡_, refl, sym}
-use mathlib.Core.Bool.{Bool, true, false, _&&_, true≢false}
-use mathlib.Core.List.{List}
+use mathlib.Core.Bool.{Bool, true, false, true≢false}
+use mathlib.Core.List.{List, [], _∷_}
 use native.Mathlib.Omega.{arith}
 use lib.ListN.{length}
 use lib.Dec.{leb, eqb}
 use lib.Ieee.{Float}
 use borrow.Author.Tests.{eqb-true, leb-true}
-use Rattle.laws.proofs.Both.{both}
-use Rattle.refusals.specs.Refusals.{passed, unless, first}
-use Rattle.refusals.specs.Bounds.{coordinates, ringLength, polygonLength, listLength}
+use Rattle.refusals.specs.Refusals.{refusedLength, refusedFew, refusedMany, passed, unless, first}
+use Rattle.refusals.specs.Bounds.{coordinates}
 use Rattle.plane.specs.declared.Point.{Point}
-use Rattle.refusals.specs.Screens.{wrongLength, wrongPolygon, wrongList, wrongNumber, wrongInfinite, wrongPosition, wrongTolerance, wrongFit}
+use Rattle.refusals.specs.Screens.{wrongNumber, wrongInfinite, wrongPosition, wrongTolerance, wrongFit}
+use Rattle.refusals.specs.Lists.{Extent, listFault, faultOf, ringExtent, polygonExtent, pointsExtent}
 use Rattle.refusals.specs.Rows.{ofRing, ofTwoPolygons, ofList, ofTouching, ofMoving, fitLengths, fitNumbers, ofFit, ofRooms}
 use Rattle.refusals.specs.declared.Refusal.{Refusal}
 
@@ -27,17 +27,6 @@ pub record Polygon (r : List Float) : Type 0 where
   pub least : 6 ≤ length r
   pub most : length r ≤ 512
 
-pub sized : (r : List Float) → ringLength r ≡ true → Sized r
-sized r h =
-    let p : (eqb (length r % 2) 0 ≡ true) × (leb (length r) 512 ≡ true) = both _ _ h in
-    record { even = eqb-true _ _ (p .0); most = leb-true _ _ (p .1) }
-
-pub polygon : (r : List Float) → polygonLength r ≡ true → Polygon r
-polygon r h =
-    let p : (leb 6 (length r) ≡ true) × (ringLength r ≡ true) = both _ _ h in
-    let s = sized r (p .1) in
-    record { even = s .even; least = leb-true _ _ (p .0); most = s .most }
-
 -- where a row passes, its first part does, and so does the rest
 pub row-parts : (a b : Refusal) → passed (first a b) ≡ true → (passed a ≡ true) × (passed b ≡ true)
 row-parts a b h = go (passed a) refl
@@ -51,36 +40,55 @@ pub holds : (ok : Bool) (num at : ℕ) → eqb num 0 ≡ false → passed (unles
 holds true num at z h = refl
 holds false num at z h = cc (simp z at h)
 
+-- a list without a fault
+pub record Fine (e : Extent) : Type 0 where
+  pub whole : e .size % e .width ≡ 0
+  pub enough : e .least ≤ e .size / e .width
+  pub within : e .size / e .width ≤ e .most
+
+pub fine : (e : Extent) (at : ℕ) → passed (listFault e at) ≡ true → Fine e
+fine e at h =
+    let entries = e .size / e .width in
+    let few = unless (leb (e .least) entries) refusedFew at in
+    let many = unless (leb entries (e .most)) refusedMany at in
+    let p = row-parts (unless (eqb (e .size % e .width) 0) refusedLength at) (first few many) h in
+    let q = row-parts few many (p .1) in
+    record {
+      whole = eqb-true _ _ (holds (eqb (e .size % e .width) 0) refusedLength at refl (p .0));
+      enough = leb-true _ _ (holds (leb (e .least) entries) refusedFew at refl (q .0));
+      within = leb-true _ _ (holds (leb entries (e .most)) refusedMany at refl (q .1));
+    }
+
 -- a ring, and a list of points, that are not refused
 pub is-ring : (r : List Float) → passed (ofRing r) ≡ true → Sized r
 unfolding ofRing
-is-ring r h = sized r (holds (ringLength r) 1 0 refl (row-parts (wrongLength r) (wrongNumber r) h .0))
+is-ring r h =
+    let f = fine (ringExtent r) 0 (row-parts (listFault (ringExtent r) 0) (wrongNumber r) h .0) in
+    record { even = f .whole; most = omega (arith, f .whole, f .within) }
 
 pub is-list : (r : List Float) (tol : Float) → passed (ofList r tol) ≡ true → length r % 2 ≡ 0
 unfolding ofList
 is-list r tol h =
-    let l = holds (listLength r) 1 0 refl (row-parts (wrongList r) (first (wrongInfinite r) (wrongTolerance tol)) h .0) in
-    eqb-true _ _ (both (eqb (length r % 2) 0) (leb (length r) 20002) l .0)
+    fine (pointsExtent r) 0 (row-parts (listFault (pointsExtent r) 0) (first (wrongInfinite r) (wrongTolerance tol)) h .0) .whole
 
-is-polygon : (r : List Float) → passed (wrongPolygon r) ≡ true → Polygon r
-is-polygon r h = polygon r (holds (polygonLength r) 1 0 refl h)
+is-polygon : (r : List Float) → Fine (polygonExtent r) → Polygon r
+is-polygon r f = record { even = f .whole; least = omega (arith, f .whole, f .enough); most = omega (arith, f .whole, f .within) }
 
 -- two polygons that are not refused
-pub two-polygons : (a b : List Float) → passed (ofTwoPolygons a b) ≡ true → Polygon a × Polygon b
-unfolding ofTwoPolygons
-two-polygons a b h =
-    let numbers = first (wrongNumber a) (wrongNumber b) in
-    let p = row-parts (wrongPolygon a) (first (wrongPolygon b) numbers) h in
-    let q = row-parts (wrongPolygon b) numbers (p .1) in
-    (is-polygon a (p .0), is-polygon b (q .0))
+module _ (a b : List Float) (h : passed (ofTwoPolygons a b) ≡ true) where
+  parts : (passed (first (listFault (polygonExtent a) 0) (listFault (polygonExtent b) 1)) ≡ true) × (passed (first (wrongNumber a) (wrongNumber b)) ≡ true)
+  unfolding ofTwoPolygons
+  parts = row-parts (first (listFault (polygonExtent a) 0) (listFault (polygonExtent b) 1)) (first (wrongNumber a) (wrongNumber b)) h
 
-pub two-bounded : (a b : List Float) → passed (ofTwoPolygons a b) ≡ true → (coordinates a ≡ true) × (coordinates b ≡ true)
-unfolding ofTwoPolygons
-two-bounded a b h =
-    let numbers = first (wrongNumber a) (wrongNumber b) in
-    let p = row-parts (wrongPolygon a) (first (wrongPolygon b) numbers) h in
-    let q = row-parts (wrongNumber a) (wrongNumber b) (row-parts (wrongPolygon b) numbers (p .1) .1) in
-    (holds (coordinates a) 2 0 refl (q .0), holds (coordinates b) 2 0 refl (q .1))
+  pub two-polygons : Polygon a × Polygon b
+  two-polygons =
+      let p = row-parts (listFault (polygonExtent a) 0) (listFault (polygonExtent b) 1) (parts .0) in
+      (is-polygon a (fine (polygonExtent a) 0 (p .0)), is-polygon b (fine (polygonExtent b) 1 (p .1)))
+
+  pub two-bounded : (coordinates a ≡ true) × (coordinates b ≡ true)
+  two-bounded =
+      let q = row-parts (wrongNumber a) (wrongNumber b) (parts .1) in
+      (holds (coordinates a) 2 0 refl (q .0), holds (coordinates b) 2 0 refl (q .1))
 
 -- where a row passes that begins with two polygons, they are polygons
 module _ (a b : List Float) (tol : Float) {n : Refusal} {p : Bool} where
@@ -97,10 +105,11 @@ pub fit-polygons : (a b : List Float) (from : Point) (visited : List Float) (tol
     → p ≡ passed n → p ≡ true → Polygon a × Polygon b
 unfolding ofFit fitLengths
 fit-polygons a b from visited tol e h t =
-    let lengths = row-parts (fitLengths a b visited) (fitNumbers a b from visited tol) (rw (← e, ← h) t) .0 in
-    let p = row-parts (wrongPolygon a) (first (wrongPolygon b) (wrongList visited)) lengths in
-    let q = row-parts (wrongPolygon b) (wrongList visited) (p .1) in
-    (is-polygon a (p .0), is-polygon b (q .0))
+    let last = listFault (pointsExtent visited) 2 in
+    let lists = row-parts (fitLengths a b visited) (fitNumbers a b from visited tol) (rw (← e, ← h) t) .0 in
+    let p = row-parts (listFault (polygonExtent a) 0) (first (listFault (polygonExtent b) 1) last) lists in
+    let q = row-parts (listFault (polygonExtent b) 1) last (p .1) in
+    (is-polygon a (fine (polygonExtent a) 0 (p .0)), is-polygon b (fine (polygonExtent b) 1 (q .0)))
 
 -- both rooms are long enough
 pub rooms-fit : (x s y t : ℕ) {m : Refusal} {q : Bool} → m ≡ ofRooms x s y t → q ≡ passed m → q ≡ true → (x ≤ s) × (y ≤ t)

@@ -1,8 +1,7 @@
--- docs/SCOPE.md's bounds of what is lent. Definitions only.
+-- docs/SCOPE.md's bounds of lent numbers, settings and rooms. Definitions only.
 use Prim.Native.Nat.{ℕ, _*_, _%_}
 use mathlib.Core.Bool.{Bool, true, false, _&&_}
 use mathlib.Core.List.{List, [], _∷_}
-use lib.ListN.{length}
 use lib.Dec.{leb, eqb}
 use lib.Ieee.{Float, nan, inf, fin, up, down, lt, le}
 use Rattle.scalar.specs.Float.{f0, f1}
@@ -36,22 +35,6 @@ finitePoint p = finite (p .x) && finite (p .y)
 
 abbrev pub pointOk : Point → Bool
 pointOk p = coordinate (p .x) && coordinate (p .y)
-
--- an even number of coordinates, of at most 256 vertices
-abbrev pub ringLength : List Float → Bool
-ringLength r = eqb (length r % 2) 0 && leb (length r) 512
-
--- an even number of coordinates, of 3 to 256 vertices
-abbrev pub polygonLength : List Float → Bool
-polygonLength r = leb 6 (length r) && ringLength r
-
--- an even number of numbers, of at most 10,001 points
-abbrev pub listLength : List Float → Bool
-listLength r = eqb (length r % 2) 0 && leb (length r) 20002
-
--- three numbers for each vector
-abbrev pub vectorsLength : List Float → Bool
-vectorsLength vs = eqb (length vs % 3) 0
 
 -- above 0, at most 1
 abbrev pub toleranceOk : Float → Bool

@@ -2,6 +2,7 @@
 pub mod Refusals
 pub mod Bounds
 pub mod Rings
+pub mod Lists
 pub mod Screens
 pub mod Rows
 pub mod Answers

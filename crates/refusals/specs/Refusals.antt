@@ -1,13 +1,13 @@
 -- A refusal, its numbers, and the first of several. Definitions only.
 use Prim.Native.Nat.{ℕ}
-use mathlib.Core.Bool.{Bool, cond}
+use mathlib.Core.Bool.{Bool, _||_, cond}
 use mathlib.Core.List.{List, [], _∷_}
 use lib.Dec.{eqb}
 use Rattle.refusals.specs.declared.Refusal.{Refusal}
 
 -- ---- docs/SCOPE.md's numbers
 
--- a lent list has a wrong length
+-- a lent list's length fits no whole number of entries, or the lists of rings do not add up
 abbrev pub refusedLength : ℕ
 refusedLength = 1
 
@@ -34,6 +34,18 @@ refusedShortPath = 6
 -- a book is wrong
 abbrev pub refusedBook : ℕ
 refusedBook = 7
+
+-- a lent list, or a ring, has too few entries
+abbrev pub refusedFew : ℕ
+refusedFew = 8
+
+-- it has too many
+abbrev pub refusedMany : ℕ
+refusedMany = 9
+
+-- those that tell a place: which list or ring it was, or the byte of a book's first fault
+unfoldable pub tellsPlace : ℕ → Bool
+tellsPlace num = eqb num refusedLength || (eqb num refusedBook || (eqb num refusedFew || eqb num refusedMany))
 
 -- ---- refusals
 

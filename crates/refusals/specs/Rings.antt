@@ -12,6 +12,9 @@ verticesLeast = 3
 abbrev pub verticesMost : ℕ
 verticesMost = 256
 
+abbrev pub ringsLeast : ℕ
+ringsLeast = 1
+
 abbrev pub ringsMost : ℕ
 ringsMost = 8
 
@@ -23,10 +26,6 @@ within low high n = leb low n && leb n high
 unfoldable pub total : List ℕ → ℕ
 total [] = 0
 total (n ∷ ns) = n + total ns
-
--- 1 to 8 rings
-abbrev pub ringsOk : List ℕ → Bool
-ringsOk ns = within 1 ringsMost (length ns)
 
 -- each ring has 3 to 256 vertices
 unfoldable pub sizedAll : List ℕ → Bool

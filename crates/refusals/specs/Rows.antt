@@ -1,12 +1,13 @@
--- The tests of what calls are lent, in docs/SCOPE.md's order: 1, 2, 3, 4, stationary before orbiting in each. A call that is lent the same takes the same
--- row. Definitions only.
+-- The tests of what calls are lent, in docs/SCOPE.md's order: the faults of the lists, 2, 3, 4, stationary before orbiting in each. A call that is lent the
+-- same takes the same row. Definitions only.
 use Prim.Native.Nat.{ℕ}
-use mathlib.Core.List.{List, [], _∷_}
+use mathlib.Core.List.{List, [], _∷_, map}
+use lib.ListN.{length}
 use lib.Ieee.{Float}
 use Rattle.plane.specs.declared.Point.{Point}
 use Rattle.refusals.specs.Refusals.{firstOf}
-use Rattle.refusals.specs.Screens.{wrongLength, wrongPolygon, wrongList, wrongNumber, wrongInfinite, wrongPosition, wrongPoint, wrongTolerance, wrongSettings, wrongWork, wrongResult, wrongFit}
-use Rattle.refusals.specs.Screens.{wrongRings, wrongCounts, wrongSum}
+use Rattle.refusals.specs.Screens.{wrongSum, wrongNumber, wrongInfinite, wrongPosition, wrongPoint, wrongTolerance, wrongSettings, wrongWork, wrongResult, wrongFit}
+use Rattle.refusals.specs.Lists.{listFault, faultOf, ringExtent, polygonExtent, pointsExtent, vectorsExtent, ringsExtent, countExtent}
 use Rattle.refusals.specs.declared.Refusal.{Refusal}
 use Rattle.refusals.specs.declared.Settings.{Settings}
 
@@ -22,24 +23,30 @@ ofPoints4 a b c d = firstOf (wrongPoint a ∷ wrongPoint b ∷ wrongPoint c ∷ 
 unfoldable pub ofNear : Point → Point → Point → Float → Refusal
 ofNear p a b tol = firstOf (wrongPoint p ∷ wrongPoint a ∷ wrongPoint b ∷ wrongTolerance tol ∷ [])
 
--- ---- lists: the lengths of all come before the numbers of any
+-- ---- lists: the faults of all come before the numbers of any
 
 unfoldable pub ofRing : List Float → Refusal
-ofRing r = firstOf (wrongLength r ∷ wrongNumber r ∷ [])
+ofRing r = firstOf (faultOf (ringExtent r ∷ []) ∷ wrongNumber r ∷ [])
 
 unfoldable pub ofTwoRings : List Float → List Float → Refusal
-ofTwoRings a b = firstOf (wrongLength a ∷ wrongLength b ∷ wrongNumber a ∷ wrongNumber b ∷ [])
+ofTwoRings a b = firstOf (faultOf (ringExtent a ∷ ringExtent b ∷ []) ∷ wrongNumber a ∷ wrongNumber b ∷ [])
 
 unfoldable pub ofTwoPolygons : List Float → List Float → Refusal
-ofTwoPolygons a b = firstOf (wrongPolygon a ∷ wrongPolygon b ∷ wrongNumber a ∷ wrongNumber b ∷ [])
+ofTwoPolygons a b = firstOf (faultOf (polygonExtent a ∷ polygonExtent b ∷ []) ∷ wrongNumber a ∷ wrongNumber b ∷ [])
 
 -- a list to simplify and a tolerance
 unfoldable pub ofList : List Float → Float → Refusal
-ofList r tol = firstOf (wrongList r ∷ wrongInfinite r ∷ wrongTolerance tol ∷ [])
+ofList r tol = firstOf (faultOf (pointsExtent r ∷ []) ∷ wrongInfinite r ∷ wrongTolerance tol ∷ [])
 
--- rings and their vertex counts, as a book's writer is lent them: the number of rings, ring by ring its vertices, the sum, the coordinates
+-- vectors, of which all numbers are taken
+unfoldable pub ofVectors : List Float → Refusal
+ofVectors vs = faultOf (vectorsExtent vs ∷ [])
+
+-- rings and their vertex counts, as a book's writer is lent them: the number of rings, in the place of that number; ring by ring its vertices;
+-- the sum; the coordinates
 unfoldable pub ofRings : List Float → List ℕ → Refusal
-ofRings xs ns = firstOf (wrongRings ns ∷ wrongCounts ns ∷ wrongSum xs ns ∷ wrongNumber xs ∷ [])
+ofRings xs ns =
+    firstOf (listFault (ringsExtent ns) (length ns) ∷ faultOf (map countExtent ns) ∷ wrongSum xs ns ∷ wrongNumber xs ∷ [])
 
 -- ---- two polygons and what is lent with them
 
@@ -51,9 +58,9 @@ ofTouching st orb tol = firstOf (ofTwoPolygons st orb ∷ wrongTolerance tol ∷
 unfoldable pub ofMoving : List Float → List Float → Point → Float → Refusal
 ofMoving st orb p tol = firstOf (ofTwoPolygons st orb ∷ wrongPosition p ∷ wrongTolerance tol ∷ [])
 
--- a reference, visited positions and a tolerance: the lengths, then the rest
+-- a reference, visited positions and a tolerance: the faults of the lists, then the rest
 unfoldable pub fitLengths : List Float → List Float → List Float → Refusal
-fitLengths st orb visited = firstOf (wrongPolygon st ∷ wrongPolygon orb ∷ wrongList visited ∷ [])
+fitLengths st orb visited = faultOf (polygonExtent st ∷ polygonExtent orb ∷ pointsExtent visited ∷ [])
 
 unfoldable pub fitNumbers : List Float → List Float → Point → List Float → Float → Refusal
 fitNumbers st orb from visited tol =

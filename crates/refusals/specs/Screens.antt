@@ -1,4 +1,4 @@
--- The single tests of what a call is lent, each with the refusal that it gives. Definitions only.
+-- The single tests of what a call is lent beside the lengths of its lists, each with the refusal that it gives. Definitions only.
 use Prim.Native.Nat.{ℕ, _*_}
 use mathlib.Core.Bool.{_&&_}
 use mathlib.Core.List.{List}
@@ -7,34 +7,15 @@ use lib.Dec.{leb}
 use lib.Ieee.{Float}
 use Rattle.plane.specs.declared.Point.{Point}
 use Rattle.refusals.specs.Refusals.{refusedLength, refusedNumber, refusedSetting, refusedRoom, refusedFit, unless}
-use Rattle.refusals.specs.Bounds.{coordinates, allFinite, finitePoint, pointOk, ringLength, polygonLength, listLength, vectorsLength, toleranceOk, settingsOk, workOk}
-use Rattle.refusals.specs.Rings.{ringsOk, sizedAll, sumOk}
+use Rattle.refusals.specs.Bounds.{coordinates, allFinite, finitePoint, pointOk, toleranceOk, settingsOk, workOk}
+use Rattle.refusals.specs.Rings.{sumOk}
 use Rattle.refusals.specs.declared.Refusal.{Refusal}
 use Rattle.refusals.specs.declared.Settings.{Settings}
 
--- ---- 1: a list's length
-
-abbrev pub wrongLength : List Float → Refusal
-wrongLength r = unless (ringLength r) refusedLength 0
-
-abbrev pub wrongPolygon : List Float → Refusal
-wrongPolygon r = unless (polygonLength r) refusedLength 0
-
-abbrev pub wrongList : List Float → Refusal
-wrongList r = unless (listLength r) refusedLength 0
-
-abbrev pub wrongVectors : List Float → Refusal
-wrongVectors vs = unless (vectorsLength vs) refusedLength 0
-
--- a number of rings, the vertices of each, and a list that is not the sum of these
-abbrev pub wrongRings : List ℕ → Refusal
-wrongRings ns = unless (ringsOk ns) refusedLength 0
-
-abbrev pub wrongCounts : List ℕ → Refusal
-wrongCounts ns = unless (sizedAll ns) refusedLength 0
+-- ---- 1: a list that is not the sum of the rings' vertices, with the number of rings
 
 abbrev pub wrongSum : List Float → List ℕ → Refusal
-wrongSum xs ns = unless (sumOk xs ns) refusedLength 0
+wrongSum xs ns = unless (sumOk xs ns) refusedLength (length ns)
 
 -- ---- 2: a list's numbers, a point's numbers
 

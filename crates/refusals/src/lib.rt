@@ -1,14 +1,15 @@
 // The refusals of the public calls: the record and its numbers, the tests of what a call is lent, and the rows in which they speak.
 pub mod answer;
+pub mod lists;
 pub mod rings;
 pub mod row;
 pub mod screen;
 pub mod test;
 
 ghost use mathlib.Core.Path.{_≡_};
-ghost use Rattle.refusals.specs.Refusals.{none, refuse, passed};
+ghost use Rattle.refusals.specs.Refusals.{none, refuse, passed, tellsPlace};
 
-// A list's length is wrong.
+// A list's length fits no whole number of entries, or the lists of rings don't add up.
 pub const REFUSED_LENGTH: u32 = 1;
 
 // A lent number is out of its bounds.
@@ -29,12 +30,24 @@ pub const REFUSED_SHORT_PATH: u32 = 6;
 // A book is wrong.
 pub const REFUSED_BOOK: u32 = 7;
 
-// A ring of a book has 3 to 256 vertices, and a book 1 to 8 rings.
+// A list has too few entries.
+pub const REFUSED_FEW: u32 = 8;
+
+// A list has too many entries.
+pub const REFUSED_MANY: u32 = 9;
+
+// A polygon, and a ring of a book, has 3 to 256 vertices.
 pub const VERTICES_LEAST: usize = 3;
 
 pub const VERTICES_MOST: usize = 256;
 
+// A book has 1 to 8 rings.
+pub const RINGS_LEAST: usize = 1;
+
 pub const RINGS_MOST: usize = 8;
+
+// A list of points has 10,001 at most.
+pub const POINTS_MOST: usize = 10001;
 
 // A refusal's number and the place it tells, 0 where it tells none. The number 0 is no refusal.
 pub struct Refusal {
@@ -65,6 +78,20 @@ impl Refusal {
         ensures { λ r. ⌜ r ≡ passed self ⌝ }
     {
         self.number == 0
+    }
+
+    // Whether it tells a place: 1, 7, 8 and 9 do.
+    pub fn tells_place(self) -> bool
+        ensures { λ r. ⌜ r ≡ tellsPlace (self .number) ⌝ }
+    {
+        let number = self.number;
+        match number {
+            1 => true,
+            7 => true,
+            8 => true,
+            9 => true,
+            _ => false,
+        }
     }
 }
 

@@ -1,17 +1,15 @@
-// The rows of tests of what calls are lent, in docs/SCOPE.md's order: the first that refuses. The numbers of lists are read only where the
-// lengths of all are right.
+// The rows of tests of what calls are lent, in docs/SCOPE.md's order: the first that refuses. The numbers of lists are read only where
+// no list has a fault.
 use crate::Refusal;
 use crate::Settings;
+use crate::lists;
 use crate::screen::finite_numbers;
 use crate::screen::first;
 use crate::screen::fit;
-use crate::screen::list_length;
 use crate::screen::numbers;
 use crate::screen::point;
-use crate::screen::polygon_length;
 use crate::screen::position;
 use crate::screen::result_room;
-use crate::screen::ring_length;
 use crate::screen::settings;
 use crate::screen::tolerance;
 use crate::screen::work_room;
@@ -19,7 +17,7 @@ use plane::Point;
 ghost use mathlib.Core.Path.{_≡_};
 ghost use Rattle.refusals.specs.Refusals.{first};
 ghost use Rattle.refusals.specs.Screens.{wrongNumber};
-ghost use Rattle.refusals.specs.Rows.{ofPoints3, ofPoints4, ofNear, ofRing, ofTwoRings, ofTwoPolygons, ofList};
+ghost use Rattle.refusals.specs.Rows.{ofPoints3, ofPoints4, ofNear, ofRing, ofTwoRings, ofTwoPolygons, ofList, ofVectors};
 ghost use Rattle.refusals.specs.Rows.{ofTouching, ofMoving, fitLengths, fitNumbers, ofFit, ofTrace, ofRooms};
 
 // Three single points.
@@ -43,15 +41,15 @@ pub fn near(p: Point, a: Point, b: Point, tol: f64) -> Refusal
     first(points3(p, a, b), tolerance(tol))
 }
 
-// A ring of 0 to 256 vertices. The numbers of one with a wrong length are not read.
+// A ring of 0 to 256 vertices. The numbers of one with a fault are not read.
 pub fn ring(ring: &[f64]) -> Refusal
     ensures { λ r. ⌜ r ≡ ofRing (now (ring .entry)) ⌝ }
 {
-    let no = ring_length(ring);
+    let no = lists::ring(ring, 0);
     if no.passed() { numbers(ring) } else { no }
 }
 
-// The numbers of two lists, which are not read where their lengths are refused.
+// The numbers of two lists, which are not read where a list has a fault.
 fn both(lengths: Refusal, a: &[f64], b: &[f64]) -> Refusal
     ensures { λ r. ⌜ r ≡ first lengths (first (wrongNumber (now (a .entry))) (wrongNumber (now (b .entry)))) ⌝ }
 {
@@ -62,30 +60,37 @@ fn both(lengths: Refusal, a: &[f64], b: &[f64]) -> Refusal
     }
 }
 
-// Two rings: the lengths of both come before the numbers of either.
+// Two rings: the faults of both come before the numbers of either.
 pub fn two_rings(a: &[f64], b: &[f64]) -> Refusal
     ensures { λ r. ⌜ r ≡ ofTwoRings (now (a .entry)) (now (b .entry)) ⌝ }
 {
-    both(first(ring_length(a), ring_length(b)), a, b)
+    both(first(lists::ring(a, 0), lists::ring(b, 1)), a, b)
 }
 
 // Two polygons of 3 to 256 vertices, in the same order.
 pub fn two_polygons(a: &[f64], b: &[f64]) -> Refusal
     ensures { λ r. ⌜ r ≡ ofTwoPolygons (now (a .entry)) (now (b .entry)) ⌝ }
 {
-    both(first(polygon_length(a), polygon_length(b)), a, b)
+    both(first(lists::polygon(a, 0), lists::polygon(b, 1)), a, b)
 }
 
 // A list to simplify and a tolerance.
 pub fn list(list: &[f64], tol: f64) -> Refusal
     ensures { λ r. ⌜ r ≡ ofList (now (list .entry)) tol ⌝ }
 {
-    let no = list_length(list);
+    let no = lists::points(list, 0);
     if no.passed() {
         first(finite_numbers(list), tolerance(tol))
     } else {
         no
     }
+}
+
+// Vectors, of which all numbers are taken.
+pub fn vectors(vectors: &[f64]) -> Refusal
+    ensures { λ r. ⌜ r ≡ ofVectors (now (vectors .entry)) ⌝ }
+{
+    lists::vectors(vectors, 0)
 }
 
 // Two polygons and a tolerance.
@@ -103,12 +108,12 @@ pub fn moving(stationary: &[f64], orbiting: &[f64], p: Point, tol: f64) -> Refus
     first(two_polygons(stationary, orbiting), last)
 }
 
-// The lengths of two polygons and of visited positions.
+// The faults of two polygons and of visited positions.
 fn fit_lengths(stationary: &[f64], orbiting: &[f64], visited: &[f64]) -> Refusal
     ensures { λ r. ⌜ r ≡ fitLengths (now (stationary .entry)) (now (orbiting .entry)) (now (visited .entry)) ⌝ }
 {
-    let rest = first(polygon_length(orbiting), list_length(visited));
-    first(polygon_length(stationary), rest)
+    let rest = first(lists::polygon(orbiting, 1), lists::points(visited, 2));
+    first(lists::polygon(stationary, 0), rest)
 }
 
 // Their numbers, a reference and a tolerance.

@@ -1,6 +1,5 @@
-// The single tests of what calls are lent, as refusals.
+// The single tests of what calls are lent beside the lengths of lists, as refusals.
 use crate::REFUSED_FIT;
-use crate::REFUSED_LENGTH;
 use crate::REFUSED_NUMBER;
 use crate::REFUSED_ROOM;
 use crate::REFUSED_SETTING;
@@ -9,18 +8,13 @@ use crate::Settings;
 use crate::test::are_coordinates;
 use crate::test::are_finite;
 use crate::test::is_finite_point;
-use crate::test::is_list_length;
 use crate::test::is_point;
-use crate::test::is_polygon_length;
-use crate::test::is_ring_length;
 use crate::test::is_settings;
 use crate::test::is_tolerance;
-use crate::test::is_vectors_length;
 use crate::test::is_work_room;
 use plane::Point;
 ghost use mathlib.Core.Path.{_≡_};
 ghost use Rattle.refusals.specs.Refusals.{unless, first};
-ghost use Rattle.refusals.specs.Screens.{wrongLength, wrongPolygon, wrongList, wrongVectors};
 ghost use Rattle.refusals.specs.Screens.{wrongNumber, wrongInfinite, wrongPoint, wrongPosition, wrongTolerance, wrongSettings};
 ghost use Rattle.refusals.specs.Screens.{wrongWork, wrongResult, wrongBook, wrongBookRooms, wrongFit, wrongRoom};
 
@@ -43,34 +37,6 @@ pub fn first(a: Refusal, b: Refusal) -> Refusal
     ensures { λ r. ⌜ r ≡ first a b ⌝ }
 {
     if a.passed() { b } else { a }
-}
-
-// The length of a ring.
-pub fn ring_length(ring: &[f64]) -> Refusal
-    ensures { λ r. ⌜ r ≡ wrongLength (now (ring .entry)) ⌝ }
-{
-    unless(is_ring_length(ring), REFUSED_LENGTH, 0)
-}
-
-// The length of a polygon.
-pub fn polygon_length(polygon: &[f64]) -> Refusal
-    ensures { λ r. ⌜ r ≡ wrongPolygon (now (polygon .entry)) ⌝ }
-{
-    unless(is_polygon_length(polygon), REFUSED_LENGTH, 0)
-}
-
-// The length of a list of points.
-pub fn list_length(list: &[f64]) -> Refusal
-    ensures { λ r. ⌜ r ≡ wrongList (now (list .entry)) ⌝ }
-{
-    unless(is_list_length(list), REFUSED_LENGTH, 0)
-}
-
-// The length of a list of vectors.
-pub fn vectors_length(vectors: &[f64]) -> Refusal
-    ensures { λ r. ⌜ r ≡ wrongVectors (now (vectors .entry)) ⌝ }
-{
-    unless(is_vectors_length(vectors), REFUSED_LENGTH, 0)
 }
 
 // The coordinates of a list.

@@ -1,9 +1,9 @@
-// The tests of lent numbers and lists: bounds of a number, of a list's numbers and of its length.
+// The tests of lent numbers and rooms: bounds of a number, of a list's numbers, of the settings.
 use crate::Settings;
 use plane::Point;
 ghost use mathlib.Core.Path.{_≡_};
 ghost use lib.ListN.{length};
-ghost use Rattle.refusals.specs.Bounds.{coordinate, coordinates, finite, allFinite, pointOk, finitePoint, ringLength, polygonLength, listLength, vectorsLength, toleranceOk, smallestOk, settingsOk, workOk};
+ghost use Rattle.refusals.specs.Bounds.{coordinate, coordinates, finite, allFinite, pointOk, finitePoint, toleranceOk, smallestOk, settingsOk, workOk};
 
 // Whether x is finite and of magnitude at most 1,000,000.
 pub fn is_coordinate(x: f64) -> bool
@@ -73,38 +73,6 @@ pub fn is_point(p: Point) -> bool
     } else {
         false
     }
-}
-
-// Whether a list has the length of a ring of 0 to 256 vertices.
-pub fn is_ring_length(list: &[f64]) -> bool
-    ensures { λ r. ⌜ r ≡ ringLength (now (list .entry)) ⌝ }
-{
-    list.len() % 2 == 0 && list.len() <= 512
-}
-
-// Whether a list has the length of a polygon of 3 to 256 vertices.
-pub fn is_polygon_length(list: &[f64]) -> bool
-    ensures { λ r. ⌜ r ≡ polygonLength (now (list .entry)) ⌝ }
-{
-    if list.len() < 6 {
-        false
-    } else {
-        is_ring_length(list)
-    }
-}
-
-// Whether a list has the length of 0 to 10,001 points.
-pub fn is_list_length(list: &[f64]) -> bool
-    ensures { λ r. ⌜ r ≡ listLength (now (list .entry)) ⌝ }
-{
-    list.len() % 2 == 0 && list.len() <= 20002
-}
-
-// Whether a list has three numbers for each vector.
-pub fn is_vectors_length(list: &[f64]) -> bool
-    ensures { λ r. ⌜ r ≡ vectorsLength (now (list .entry)) ⌝ }
-{
-    list.len() % 3 == 0
 }
 
 // Whether a tolerance is above 0 and at most 1.

@@ -83,7 +83,7 @@ fn floats(n: usize) -> [f64; 600]
 }
 
 // Whether what was told and what the room holds are what the record says.
-fn agrees(told: Told, header: &[u8; 48], room: &[f64; 600], left: &[f64; 600], n: usize) -> bool
+fn agrees(told: Told, header: &[u8; 56], room: &[f64; 600], left: &[f64; 600], n: usize) -> bool
     requires { ⌜ n ≤ 600 ⌝ }
 {
     if told.number != word(header, 32) {
@@ -92,11 +92,14 @@ fn agrees(told: Told, header: &[u8; 48], room: &[f64; 600], left: &[f64; 600], n
     if told.value != word(header, 40) {
         return false;
     }
+    if told.place != word(header, 48) {
+        return false;
+    }
     same_floats(room, left, n)
 }
 
 // One record past its header: the lists are read, the call is made and compared.
-fn record(header: &[u8; 48], an: usize, bn: usize, rn: usize) -> bool
+fn record(header: &[u8; 56], an: usize, bn: usize, rn: usize) -> bool
     requires { ⌜ (an ≤ 600) × (bn ≤ 600) × (rn ≤ 600) ⌝ }
 {
     let call = word(header, 0);
@@ -114,9 +117,9 @@ fn record(header: &[u8; 48], an: usize, bn: usize, rn: usize) -> bool
 
 // One record: read, worked out and compared.
 fn step() -> Verdict {
-    let mut header = [0u8; 48];
+    let mut header = [0u8; 56];
     let got = io::read_full(STDIN_FILENO, &mut header);
-    if got < 48 {
+    if got < 56 {
         return Verdict::End;
     }
     let an = list_length(&header, 8, 600);

@@ -144,7 +144,10 @@ fn told_so(told: Told, header: &[u8; 128]) -> bool {
     if told.d != word(header, 88) {
         return false;
     }
-    told.e == word(header, 96)
+    if told.e != word(header, 96) {
+        return false;
+    }
+    told.place == word(header, 104)
 }
 
 // The same two on the first numbers of each list.

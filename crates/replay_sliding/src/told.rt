@@ -1,4 +1,5 @@
-// What a call of the sliding answers, as words: the refusal's number or 0, and up to five values, 0 where there is none.
+// What a call of the sliding answers, as words: the refusal's number or 0, up to five values, 0 where there is none, and the place that the
+// refusal tells or 0.
 use collision::Collision;
 use collision::answer::Checked;
 use number_bytes::bits_of;
@@ -17,6 +18,7 @@ pub struct Told {
     pub c: u64,
     pub d: u64,
     pub e: u64,
+    pub place: u64,
 }
 
 fn values(a: u64, b: u64, c: u64, d: u64, e: u64) -> Told {
@@ -27,6 +29,7 @@ fn values(a: u64, b: u64, c: u64, d: u64, e: u64) -> Told {
         c,
         d,
         e,
+        place: 0,
     }
 }
 
@@ -38,6 +41,7 @@ fn refused(r: Refusal) -> Told {
         c: 0,
         d: 0,
         e: 0,
+        place: r.place,
     }
 }
 

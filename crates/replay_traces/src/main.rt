@@ -65,7 +65,10 @@ fn told_so(told: Told, header: &[u8; 128]) -> bool {
     if told.passes != word(header, 80) {
         return false;
     }
-    told.stop == word(header, 88)
+    if told.stop != word(header, 88) {
+        return false;
+    }
+    told.place == word(header, 96)
 }
 
 // Whether the trace of the first numbers of each list, in as much of each room, is told so.

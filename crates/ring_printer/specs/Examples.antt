@@ -4,9 +4,10 @@ use mathlib.Core.Path.{_≡_, refl}
 use mathlib.Core.List.{List, [], _∷_}
 use lib.Ieee.{toBits, ofBits}
 use Rattle.print.specs.Digits.{digits, upTo}
-use Rattle.lines.specs.Lines.{faultLine, refusalLine, pointLines}
+use Rattle.lines.specs.Lines.{refusalLine, pointLines}
 use Rattle.ring.specs.Ring.{pointAt}
 use Rattle.number_bytes.specs.Bytes.{numberOf}
+use Rattle.refusals.specs.Refusals.{tellsPlace}
 use Rattle.refusals.specs.Bounds.{coordinate}
 use Rattle.reading.specs.Reading.{ord, less, best, bestOf}
 use Rattle.refusals.specs.Rings.{total}
@@ -40,5 +41,5 @@ triangle-printed = refl
 
 -- "refused 7 0": a file of no bytes
 pub nothing-printed : bookText [] ≡ 114 ∷ 101 ∷ 102 ∷ 117 ∷ 115 ∷ 101 ∷ 100 ∷ 32 ∷ 55 ∷ 32 ∷ 48 ∷ 10 ∷ []
-unfolding bookText bookCheck refusalLine faultLine digits upTo
+unfolding bookText bookCheck refusalLine tellsPlace digits upTo
 nothing-printed = refl

@@ -12,7 +12,7 @@ use lib.Ieee.{Float}
 use borrow.Author.Tests.{eqb-true}
 use Rattle.plane.specs.declared.Point.{Point}
 use Rattle.refusals.specs.Refusals.{passed}
-use Rattle.refusals.specs.Screens.{wrongVectors}
+use Rattle.refusals.specs.Rows.{ofVectors}
 use Rattle.refusals.specs.Answers.{Outcome, answers, refuses}
 use Rattle.selection.specs.Score.{preferredOf}
 use Rattle.selection.specs.Select.{vectorCount, scoreAt, selectOf}
@@ -28,9 +28,9 @@ module _ (vs : List Float) (previous : Previous) (centroid position : Point) whe
 
   pub answer-chosen : (i : ℕ) → selected (Index i) ≡ selectCall vs previous centroid position → Chosen (scoreAt vs previous ccw) (vectorCount vs) i
   unfolding chosenIndex
-  answer-chosen i h = go (passed (wrongVectors vs)) (eqb (length vs) 0) h
+  answer-chosen i h = go (passed (ofVectors vs)) (eqb (length vs) 0) h
     where
-      go : (a b : Bool) → answers (some i) ≡ cond a (answers (cond b none (some (selectOf vs previous ccw)))) (refuses (wrongVectors vs))
+      go : (a b : Bool) → answers (some i) ≡ cond a (answers (cond b none (some (selectOf vs previous ccw)))) (refuses (ofVectors vs))
           → Chosen (scoreAt vs previous ccw) (vectorCount vs) i
       go true true e = absurd (let z : _≡_ {A = ℕ} 0 1 = cc in omega arith)
       go true false e = let q : i ≡ selectOf vs previous ccw = cc in rw q (select-chosen vs previous ccw)
@@ -38,10 +38,10 @@ module _ (vs : List Float) (previous : Previous) (centroid position : Point) whe
 
   pub answer-nothing : selected Nothing ≡ selectCall vs previous centroid position → length vs ≡ 0
   unfolding chosenIndex
-  answer-nothing h = go (passed (wrongVectors vs)) (eqb (length vs) 0) refl h
+  answer-nothing h = go (passed (ofVectors vs)) (eqb (length vs) 0) refl h
     where
       go : (a b : Bool) → eqb (length vs) 0 ≡ b
-          → _≡_ {A = Outcome (Option ℕ)} (answers none) (cond a (answers (cond b none (some (selectOf vs previous ccw)))) (refuses (wrongVectors vs)))
+          → _≡_ {A = Outcome (Option ℕ)} (answers none) (cond a (answers (cond b none (some (selectOf vs previous ccw)))) (refuses (ofVectors vs)))
           → length vs ≡ 0
       go true true q e = eqb-true (length vs) 0 q
       go true false q e = absurd (let z : _≡_ {A = ℕ} 0 1 = cc in omega arith)

@@ -7,7 +7,7 @@ use lib.ListN.{length}
 use lib.Dec.{eqb}
 use lib.Ieee.{Float}
 use Rattle.plane.specs.declared.Point.{Point}
-use Rattle.refusals.specs.Screens.{wrongVectors}
+use Rattle.refusals.specs.Rows.{ofVectors}
 use Rattle.refusals.specs.Answers.{Outcome, answers, refuses, outcome}
 use Rattle.selection.specs.Score.{preferredOf}
 use Rattle.selection.specs.Select.{selectOf}
@@ -26,4 +26,4 @@ unfoldable pub chosenIndex : List Float → Previous → Point → Point → Opt
 chosenIndex vs previous centroid position = cond (eqb (length vs) 0) none (some (selectOf vs previous (preferredOf centroid position)))
 
 abbrev pub selectCall : List Float → Previous → Point → Point → Outcome (Option ℕ)
-selectCall vs previous centroid position = outcome (wrongVectors vs) (chosenIndex vs previous centroid position)
+selectCall vs previous centroid position = outcome (ofVectors vs) (chosenIndex vs previous centroid position)

@@ -2,7 +2,7 @@
 use crate::Previous;
 use crate::answer::Selected;
 use plane::Point;
-use refusals::screen;
+use refusals::row;
 ghost use mathlib.Core.Path.{_≡_};
 ghost use Rattle.selection.specs.Calls.{selected, selectCall};
 
@@ -15,7 +15,7 @@ pub fn select_translation_vector(
 ) -> Selected
     ensures { λ r. ⌜ selected r ≡ selectCall (now (vectors .entry)) previous centroid position ⌝ }
 {
-    let no = screen::vectors_length(vectors);
+    let no = row::vectors(vectors);
     if no.passed() {
         if vectors.len() == 0 {
             Selected::Nothing

@@ -2,3 +2,4 @@
 mod Traces
 mod Books
 mod Inputs
+mod OneRing

@@ -47,6 +47,6 @@ unfolding extremeVertex over better upperOf pointAt lt ofBits
 last-of-equals = refl
 
 -- two vertices are no polygon
-too-short : startCall S (f0 ∷ f0 ∷ f1 ∷ f1 ∷ []) ≡ refuses (refuse 1 0)
+too-short : startCall S (f0 ∷ f0 ∷ f1 ∷ f1 ∷ []) ≡ refuses (refuse 8 1)
 unfolding ofTwoPolygons every coordinate
 too-short = refl

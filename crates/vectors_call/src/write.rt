@@ -124,7 +124,8 @@ pub fn answer(
         × (now (vectors .exit) ≡ left
         (fitRooms (now (stationary .entry)) (now (orbiting .entry)) from (now (visited .entry)) tol
         (length (now (vectors .entry))) (length (now (sources .entry))))
-        (laid (vectorNumbers (fitOf (now (stationary .entry)) (now (orbiting .entry)) from (now (visited .entry)) tol)) (now (vectors .entry)))
+        (laid (vectorNumbers (fitOf (now (stationary .entry)) (now (orbiting .entry)) from (now (visited .entry)) tol))
+        (now (vectors .entry)))
         (now (vectors .entry)))
         × (now (sources .exit) ≡ left
         (fitRooms (now (stationary .entry)) (now (orbiting .entry)) from (now (visited .entry)) tol

@@ -48,7 +48,8 @@ fn vertex(polygon: &[f64], reverse: bool, i: usize) -> Point
 fn ordered(polygon: &[f64], reverse: bool, room: &mut [f64])
     requires { ⌜ length (now polygon) ≤ length (now room) ⌝ }
     ensures { λ _.
-        ⌜ now (room .exit) ≡ laid (points (orderedVertex (now (polygon .entry)) reverse) (count (now (polygon .entry)))) (now (room .entry)) ⌝ }
+        ⌜ now (room .exit) ≡ laid (points (orderedVertex (now (polygon .entry)) reverse) (count (now (polygon .entry))))
+        (now (room .entry)) ⌝ }
 {
     let n = polygon.len() / 2;
     let mut i = 0;

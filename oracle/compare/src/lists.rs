@@ -7,6 +7,7 @@ mod sliding;
 mod traces;
 
 use crate::tally::Compared;
+use oracle::refusals::Refusal;
 
 /// A list: its name, how large a share of a run it gets, and the check of a
 /// record.
@@ -35,6 +36,12 @@ impl<'a> Words<'a> {
         self.0 = rest;
         list
     }
+}
+
+/// The place that a record's refusal tells, nothing where it tells none.
+fn told_place(number: u64, place: u64) -> Option<u64> {
+    let number = u32::try_from(number).expect("a refusal's number is small");
+    Refusal::at(number, place).tells_place().then_some(place)
 }
 
 /// The answer where the number is 0, in the first so many of these values; else

@@ -1,6 +1,6 @@
 //! The list `book`. A record is twelve words of header: the call (0 write,
-//! 1 read), an, bn, rn, cn, the refusal number, the value answered, the place of
-//! the fault (0 unless the number is 7) and four zeros.
+//! 1 read), an, bn, rn, cn, the refusal number, the value answered, the place that
+//! the refusal tells (0 where it tells none) and four zeros.
 //!
 //! For writing, an coordinates and bn vertex counts are lent with a room of rn
 //! bytes, cn is 0, and the value is the book's length. After the header come the
@@ -11,15 +11,17 @@
 //! to a word, the last word filled up with zeros; a count takes a word. The value
 //! is 0 where refused.
 
+mod counts;
 mod files;
 mod lent;
 mod sample;
 
 pub use lent::longest;
 
-use super::{bits, float_room, once, List};
-use crate::book::{book_of, file_of, read_book, write_book, Unread};
+use super::{bits, float_room, once, refused, List};
+use crate::book::{book_of, file_of, read_book, write_book};
 use crate::seeded::Seeded;
+use std::slice;
 
 pub const WRITE: u64 = 0;
 pub const READ: u64 = 1;
@@ -103,12 +105,10 @@ fn widened(counts: &[u32]) -> Vec<u64> {
 fn written(coordinates: &[f64], counts: &[u32], room: usize) -> Vec<u64> {
     let before = byte_room(room);
     let mut after = before.clone();
-    let (number, value) = match write_book(coordinates, counts, &mut after) {
-        Ok(length) => (0, length as u64),
-        Err(number) => (u64::from(number), 0),
-    };
+    let answer = write_book(coordinates, counts, &mut after);
+    let ([number, place], value) = (refused(answer.err()), answer.unwrap_or(0) as u64);
     let [an, bn, rn] = [coordinates.len(), counts.len(), room].map(|n| n as u64);
-    let header = vec![WRITE, an, bn, rn, 0, number, value, 0, 0, 0, 0, 0];
+    let header = vec![WRITE, an, bn, rn, 0, number, value, place, 0, 0, 0, 0];
     [header, bits(coordinates), widened(counts), packed(&before), packed(&after)].concat()
 }
 
@@ -116,11 +116,8 @@ fn written(coordinates: &[f64], counts: &[u32], room: usize) -> Vec<u64> {
 fn read(file: &[u8], coordinates: usize, counts: usize) -> Vec<u64> {
     let before = (float_room(coordinates), count_room(counts));
     let mut after = before.clone();
-    let (number, value, place) = match read_book(file, &mut after.0, &mut after.1) {
-        Ok(rings) => (0, rings as u64, 0),
-        Err(Unread::Wrong(place)) => (7, 0, place as u64),
-        Err(Unread::NoRoom) => (4, 0, 0),
-    };
+    let answer = read_book(file, &mut after.0, &mut after.1);
+    let ([number, place], value) = (refused(answer.err()), answer.unwrap_or(0) as u64);
     let [an, rn, cn] = [file.len(), coordinates, counts].map(|n| n as u64);
     let mut words = vec![READ, an, 0, rn, cn, number, value, place, 0, 0, 0, 0];
     words.extend(packed(file));
@@ -141,19 +138,22 @@ fn record(case: &Case) -> Vec<u64> {
 
 /// The list, record by record, none twice.
 pub fn records() -> Vec<Vec<u64>> {
-    let cases = lent::cases().into_iter().chain(files::cases());
+    let cases = lent::cases().into_iter().chain(counts::cases()).chain(files::cases());
     once(cases.map(|case| record(&case)).collect())
 }
 
-/// A record of a long run: by turns a ring of the grid written and read as it
-/// is, and two seeded cases; seeded ones alone after the grid's last ring.
+/// A record of a long run: by turns a ring of the grid written and read as it is,
+/// wrong counts, and a seeded case, which also follows the last of the others.
 fn long(seeded: &mut Seeded, place: u64) -> Vec<u64> {
-    let ring = if place % 4 < 2 { lent::grid_ring(place / 4) } else { None };
-    record(&match ring {
-        Some(ring) if place.is_multiple_of(4) => Case::writing(&[ring]),
-        Some(ring) => Case::reading(&file_of(std::slice::from_ref(&ring)), ring.len(), 1),
-        None => sample::case(seeded),
-    })
+    let round = place / 4;
+    let read = |ring: Vec<f64>| Case::reading(&file_of(slice::from_ref(&ring)), ring.len(), 1);
+    let case = match place % 4 {
+        0 => lent::grid_ring(round).map(|ring| Case::writing(&[ring])),
+        1 => lent::grid_ring(round).map(read),
+        2 => counts::swept(round),
+        _ => None,
+    };
+    record(&case.unwrap_or_else(|| sample::case(seeded)))
 }
 
 /// The call, with its refusal number.

@@ -2,13 +2,14 @@
 //! little-endian 64-bit words without a header.
 
 pub mod book;
+mod lengths;
 mod polygons;
 pub mod rings;
 pub mod scalars;
 pub mod sliding;
 pub mod traces;
 
-use crate::refusals::LARGEST;
+use crate::refusals::{Refusal, LARGEST};
 use crate::seeded::Seeded;
 use std::collections::HashSet;
 
@@ -81,6 +82,11 @@ pub fn answer_bits(x: f64) -> u64 {
 /// The words as bytes, each word's lowest byte first.
 pub fn bytes(words: &[u64]) -> Vec<u8> {
     words.iter().flat_map(|word| word.to_le_bytes()).collect()
+}
+
+/// A refusal's number and place, both 0 where there is none.
+fn refused(refusal: Option<Refusal>) -> [u64; 2] {
+    refusal.map_or([0; 2], |no| [u64::from(no.number), no.place])
 }
 
 /// The list with this number in this place.

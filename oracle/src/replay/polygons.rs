@@ -1,8 +1,9 @@
 //! Seeded polygons, tolerances and rooms for the long runs.
 
+use super::lengths::RINGS;
 use super::{with, EDGES};
 use crate::calls;
-use crate::refusals::{LARGEST, MOST_VERTICES};
+use crate::refusals::LARGEST;
 use crate::seeded::Seeded;
 use crate::shapes::{comb, disc, placed, reversed, seeded_ring, square, star, whole_shapes};
 
@@ -103,16 +104,16 @@ pub fn pair(seeded: &mut Seeded, large_in: usize) -> [Vec<f64>; 2] {
     pair
 }
 
-/// Something wrong with a polygon, or just odd: cut off, too long, a number on
-/// its bound or past it.
+/// Something wrong with a polygon, or just odd: cut off, of a length about its
+/// bounds, too long, a number on its bound or past it.
 pub fn damaged(seeded: &mut Seeded, ring: &[f64]) -> Vec<f64> {
     let cut = seeded.below(ring.len().min(9));
     match seeded.below(6) {
         0 => ring[..cut].to_vec(),
         1 => ring[..ring.len() - 1].to_vec(),
         2 => [ring, &[1.0]].concat(),
-        3 if seeded.below(8) == 0 => {
-            let n = seeded.pick(&[2 * MOST_VERTICES - 1, 2 * MOST_VERTICES, 514, MOST_POLYGON]);
+        3 if seeded.below(2) == 0 => {
+            let n = if seeded.below(9) == 0 { MOST_POLYGON } else { seeded.pick(&RINGS) };
             ring.iter().cycle().take(n).copied().collect()
         }
         _ => with(ring, seeded.below(ring.len()), seeded.pick(&EDGES)),

@@ -1,6 +1,7 @@
-//! The list `rings`. A record is six words of header: the call, the lengths of
-//! list a, list b and the room, the refusal number and the value answered; then
-//! list a, list b, the room at entry and the room at exit.
+//! The list `rings`. A record is seven words of header: the call, the lengths of
+//! list a, list b and the room, the refusal number, the value answered and the
+//! place that the refusal tells; then list a, list b, the room at entry and the
+//! room at exit.
 //!
 //! The calls are 0 orientation (a, b, c), 1 on_segment (a, b, p),
 //! 2 segments_intersect, 3 point_segment_distance (p, a, b), 4 mirror_polygon,
@@ -8,13 +9,14 @@
 //! 9 signed_area_robust, 10 project_point_to_segment (p, a, b),
 //! 11 point_to_segment_distance (p, a, b), 12 point_on_segment (p, a, b and the
 //! tolerance). A value is a float's bits, 0 or 1, a turn as 64-bit two's
-//! complement, or a number of vertices; 0 where refused.
+//! complement, or a number of vertices; 0 where refused. The place is 0 where none
+//! is told.
 
 mod corners;
 mod lists;
 mod sample;
 
-use super::{answer_bits, once, List};
+use super::{answer_bits, once, refused, List};
 use crate::calls;
 use crate::refusals::Answer;
 use crate::seeded::Seeded;
@@ -51,7 +53,7 @@ const NAMES: [&str; 13] = [
 ];
 
 /// Words of the header.
-pub const HEADER: usize = 6;
+pub const HEADER: usize = 7;
 
 /// The list with both its forms.
 pub const LIST: List = List { stored: records, long, counted };
@@ -99,12 +101,11 @@ fn answer(call: u64, a: &[f64], b: &[f64], room: &mut [f64]) -> Answer<u64> {
 /// The record of a case.
 fn record(case: &Case) -> Vec<u64> {
     let mut room = case.room.clone();
-    let (number, value) = match answer(case.call, &case.a, &case.b, &mut room) {
-        Ok(value) => (0, value),
-        Err(number) => (u64::from(number), 0),
-    };
-    let lengths = [&case.a, &case.b, &case.room].map(|list| list.len() as u64);
-    let mut words = vec![case.call, lengths[0], lengths[1], lengths[2], number, value];
+    let answer = answer(case.call, &case.a, &case.b, &mut room);
+    let [number, place] = refused(answer.err());
+    let mut words = vec![case.call];
+    words.extend([&case.a, &case.b, &case.room].map(|list| list.len() as u64));
+    words.extend([number, answer.unwrap_or(0), place]);
     for list in [&case.a, &case.b, &case.room, &room] {
         words.extend(list.iter().map(|x| x.to_bits()));
     }
@@ -119,9 +120,11 @@ pub fn records() -> Vec<Vec<u64>> {
     once(cases.iter().map(record).collect())
 }
 
-/// A record of a long run: the calls by turns.
+/// A record of a long run: by turns lists about their bounds, as far as there are
+/// any, and a seeded case, of these the calls by turns.
 fn long(seeded: &mut Seeded, place: u64) -> Vec<u64> {
-    record(&sample::case(seeded, place % NAMES.len() as u64))
+    let bounds = if place.is_multiple_of(2) { lists::swept(place / 2) } else { None };
+    record(&bounds.unwrap_or_else(|| sample::case(seeded, place % NAMES.len() as u64)))
 }
 
 /// The call, with its refusal number.

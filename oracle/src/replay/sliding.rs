@@ -1,9 +1,10 @@
 //! The list `sliding`. A record is sixteen words of header: the call, the lengths
 //! of the stationary polygon, the orbiting polygon, the list, the extra numbers,
-//! room 1 and room 2, the refusal number, five values and three zeros; then the
-//! two polygons, the list, the extra numbers, both rooms at entry and both rooms
-//! at exit. Words are the bits of floats unless said otherwise; values are 0
-//! where refused or not found.
+//! room 1 and room 2, the refusal number, five values, the place that the refusal
+//! tells and two zeros; then the two polygons, the list, the extra numbers, both
+//! rooms at entry and both rooms at exit. Words are the bits of floats unless said
+//! otherwise; values are 0 where refused or not found, the place 0 where none is
+//! told.
 //!
 //! | call | orbiting | list | extra | room 1, room 2 | values |
 //! |---|---|---|---|---|---|
@@ -20,13 +21,14 @@
 //! | 10 simplify_polygon | | list | tolerance | room | points |
 
 mod faults;
+mod lengths;
 mod lists;
 mod moves;
 mod rooms;
 mod sample;
 mod scenes;
 
-use super::{answer_bits, bits, float_room, once, List};
+use super::{answer_bits, bits, float_room, once, refused, List};
 use crate::answers::Point;
 use crate::calls::{self, points_of};
 use crate::fixed::nfp_sliding as text;
@@ -132,7 +134,7 @@ impl Case {
     /// The refusals of a call that come before its rooms are looked at.
     fn tested(&self) -> Answer<()> {
         match self.clone().lent([0, 0]).answer().0 {
-            Err(number) if number != 5 => Err(number),
+            Err(refusal) if refusal.number != 5 => Err(refusal),
             _ => Ok(()),
         }
     }
@@ -251,17 +253,14 @@ fn hit(found: Option<calls::Hit>) -> [u64; 5] {
 /// The record of a case.
 fn record(case: &Case) -> Vec<u64> {
     let (answer, after) = case.answer();
-    let (number, values) = match answer {
-        Ok(values) => (0, values),
-        Err(number) => (u64::from(number), [0; 5]),
-    };
+    let [number, place] = refused(answer.err());
     let floats = [&case.stationary, &case.orbiting, &case.list];
     let mut words = vec![case.call];
     words.extend(floats.map(|list| list.len() as u64));
     words.extend([&case.extra, &case.rooms[0], &case.rooms[1]].map(|list| list.len() as u64));
     words.push(number);
-    words.extend(values);
-    words.extend([0, 0, 0]);
+    words.extend(answer.unwrap_or([0; 5]));
+    words.extend([place, 0, 0]);
     floats.iter().for_each(|list| words.extend(bits(list)));
     words.extend(&case.extra);
     case.rooms.iter().chain(&after).for_each(|room| words.extend(room));
@@ -275,12 +274,15 @@ pub fn records() -> Vec<Vec<u64>> {
     cases.extend(moves::cases());
     cases.extend(lists::cases());
     cases.extend(faults::cases());
+    cases.extend(lengths::cases());
     once(cases.iter().map(record).collect())
 }
 
-/// A record of a long run: the calls by turns.
+/// A record of a long run: by turns lists about their bounds, as far as there are
+/// any, and a seeded case, of these the calls by turns.
 fn long(seeded: &mut Seeded, place: u64) -> Vec<u64> {
-    record(&sample::case(seeded, place % NAMES.len() as u64))
+    let bounds = if place.is_multiple_of(2) { lengths::swept(place / 2) } else { None };
+    record(&bounds.unwrap_or_else(|| sample::case(seeded, place % NAMES.len() as u64)))
 }
 
 /// The call, with its refusal number, or whether something was found.

@@ -2,13 +2,14 @@
 //! stationary polygon, the orbiting polygon, the work room and the result room,
 //! the bits of the tolerance and of the smallest move, the pass limit, the
 //! refusal number, the points of the result, the points stored, the passes, the
-//! stop reason (0 where docs/SCOPE.md does not return them) and four zeros; then
-//! both polygons, both rooms at entry and both rooms at exit.
+//! stop reason (0 where docs/SCOPE.md does not return them), the place that the
+//! refusal tells (0 where it tells none) and three zeros; then both polygons, both
+//! rooms at entry and both rooms at exit.
 
 mod runs;
 mod sample;
 
-use super::{answer_bits, bits, float_room, once, List};
+use super::{answer_bits, bits, float_room, once, refused, List};
 use crate::answers::{Error, Point, Trace};
 use crate::calls::{self, points_of, Traced};
 use crate::fixed::nfp_sliding::{self as text, SlidingNfpConfig};
@@ -88,9 +89,10 @@ fn record(case: &Case) -> Vec<u64> {
     let lengths = [stationary.len(), orbiting.len(), rooms[0], rooms[1]];
     let mut words: Vec<u64> = lengths.map(|length| length as u64).to_vec();
     words.extend(bits(&[settings.contact_tolerance, settings.min_translation]));
-    words.extend([settings.max_iterations, u64::from(traced.number())]);
+    let [number, place] = refused(traced.refusal());
+    words.extend([settings.max_iterations, number]);
     words.extend(values(traced));
-    words.extend([0; 4]);
+    words.extend([place, 0, 0, 0]);
     [stationary, orbiting, &before[0], &before[1]].iter().for_each(|list| words.extend(bits(list)));
     words.extend(work.into_iter().chain(result).map(answer_bits));
     words
@@ -101,9 +103,11 @@ pub fn records() -> Vec<Vec<u64>> {
     once(runs::cases().iter().map(record).collect())
 }
 
-/// A record of a long run.
-fn long(seeded: &mut Seeded, _place: u64) -> Vec<u64> {
-    record(&sample::case(seeded))
+/// A record of a long run: by turns polygons about the bounds of their length, as
+/// far as there are any, and a seeded trace.
+fn long(seeded: &mut Seeded, place: u64) -> Vec<u64> {
+    let bounds = if place.is_multiple_of(2) { runs::swept(place / 2) } else { None };
+    record(&bounds.unwrap_or_else(|| sample::case(seeded)))
 }
 
 /// The refusal number, the stop reason where one is returned, and the limit.

@@ -1,8 +1,8 @@
 //! Where two polygons touch, and the ways in which one may slide from there.
 
 use crate::lent::{flat, points};
-use crate::refusal::plain;
-use crate::{ffi, Point, Result};
+use crate::refusal::{among, plain};
+use crate::{ffi, Entries, List, Point, Result};
 
 /// The library's refusal of an answer that has more entries than its room.
 const DOES_NOT_FIT: u32 = 5;
@@ -49,26 +49,28 @@ pub struct TranslationVector {
     pub direction: Point,
     /// Maximum distance the polygon can translate in this direction.
     pub max_distance: f64,
-    /// The place of the contact that gave it, among those of [`find_contacts`].
+    /// The index of the contact that gave it, among those of [`find_contacts`].
     pub source_contact: usize,
 }
 
-/// Room for a number of entries that few answers exceed, and, if the answer
-/// exceeds it, for as many as there can be: `of_each` for each pair of edges of
-/// each of the three kinds.
+/// What a call lent these lists, the two polygons first, answers in a room for a
+/// number of entries that few answers exceed, and, if its answer exceeds it, in one
+/// for as many as there can be: `of_each` for each pair of edges of each of the
+/// three kinds. The call takes the number of entries and the cell of a place.
 fn in_room<T>(
-    stationary: &[f64],
-    orbiting: &[f64],
+    lists: &[Entries],
     of_each: usize,
-    mut call: impl FnMut(usize) -> (u32, T),
+    mut call: impl FnMut(usize, &mut u64) -> (u32, T),
 ) -> Result<T> {
-    let few = of_each * (stationary.len() + orbiting.len());
-    let all = of_each * 3 * (stationary.len() / 2) * (orbiting.len() / 2);
-    let (mut number, mut answer) = call(few.min(all));
+    let (stationary, orbiting) = (lists[0].has, lists[1].has);
+    let few = of_each * 2 * (stationary + orbiting);
+    let all = of_each * 3 * stationary * orbiting;
+    let mut place = 0;
+    let (mut number, mut answer) = call(few.min(all), &mut place);
     if number == DOES_NOT_FIT {
-        (number, answer) = call(all);
+        (number, answer) = call(all, &mut place);
     }
-    plain(number)?;
+    among(lists, number, place)?;
     Ok(answer)
 }
 
@@ -92,11 +94,12 @@ pub fn find_contacts(
     orbiting: &[impl Into<Point> + Copy],
     tolerance: f64,
 ) -> Result<Vec<Contact>> {
+    let lists = Entries::sliding(stationary.len(), orbiting.len());
     let (stationary, orbiting) = (flat(stationary), flat(orbiting));
-    in_room(&stationary, &orbiting, 1, |entries| {
+    in_room(&lists, 1, |entries, place| {
         let (mut which, mut places) = (vec![0; 3 * entries], vec![0.0; 2 * entries]);
         let mut count = 0;
-        // SAFETY: all lists are as long as is said, and the answer has a place.
+        // SAFETY: all lists are as long as is said, and both cells are there.
         let number = unsafe {
             ffi::byr_find_contacts(
                 stationary.as_ptr(),
@@ -109,6 +112,7 @@ pub fn find_contacts(
                 places.as_mut_ptr(),
                 places.len(),
                 &mut count,
+                place,
             )
         };
         (number, contacts_of(&which, &points(&places, count)))
@@ -158,10 +162,11 @@ pub fn compute_translation_vectors(
     orbiting: &[impl Into<Point> + Copy],
     tolerance: f64,
 ) -> Result<Vec<TranslationVector>> {
+    let lists = Entries::sliding(stationary.len(), orbiting.len());
     let (stationary, orbiting) = (flat(stationary), flat(orbiting));
-    in_room(&stationary, &orbiting, 2, |entries| {
+    in_room(&lists, 2, |entries, place| {
         let mut room = Vectors::room(entries);
-        // SAFETY: all lists are as long as is said, and the answer has a place.
+        // SAFETY: all lists are as long as is said, and both cells are there.
         let number = unsafe {
             ffi::byr_compute_translation_vectors(
                 stationary.as_ptr(),
@@ -174,6 +179,7 @@ pub fn compute_translation_vectors(
                 room.sources.as_mut_ptr(),
                 room.sources.len(),
                 &mut room.count,
+                place,
             )
         };
         (number, room.written())
@@ -189,11 +195,13 @@ pub fn handle_perfect_fit(
     visited_positions: &[impl Into<Point> + Copy],
     tolerance: f64,
 ) -> Result<Vec<TranslationVector>> {
+    let [one, other] = Entries::sliding(stationary.len(), orbiting.len());
+    let lists = [one, other, Entries::points(List::Visited, visited_positions.len())];
     let (stationary, orbiting) = (flat(stationary), flat(orbiting));
     let visited = flat(visited_positions);
-    in_room(&stationary, &orbiting, 2, |entries| {
+    in_room(&lists, 2, |entries, place| {
         let mut room = Vectors::room(entries);
-        // SAFETY: all lists are as long as is said, and the answer has a place.
+        // SAFETY: all lists are as long as is said, and both cells are there.
         let number = unsafe {
             ffi::byr_handle_perfect_fit(
                 stationary.as_ptr(),
@@ -210,6 +218,7 @@ pub fn handle_perfect_fit(
                 room.sources.as_mut_ptr(),
                 room.sources.len(),
                 &mut room.count,
+                place,
             )
         };
         (number, room.written())
@@ -227,8 +236,8 @@ pub fn select_translation_vector(
     let list: Vec<f64> =
         vectors.iter().flat_map(|v| [v.direction.0, v.direction.1, v.max_distance]).collect();
     let previous = previous_direction.unwrap_or((0.0, 0.0));
-    let (mut found, mut index) = (0, 0);
-    // SAFETY: the list is as long as is said, and both answers have a place.
+    let (mut found, mut index, mut place) = (0, 0, 0);
+    // SAFETY: the list is as long as is said, and every cell is there.
     let number = unsafe {
         ffi::byr_select_translation_vector(
             list.as_ptr(),
@@ -242,6 +251,7 @@ pub fn select_translation_vector(
             orbiting_position.1,
             &mut found,
             &mut index,
+            &mut place,
         )
     };
     plain(number).expect("three numbers a vector are never refused");

@@ -2,8 +2,8 @@
 
 use super::contacts::ContactType;
 use crate::lent::flat;
-use crate::refusal::plain;
-use crate::{ffi, Point, Result};
+use crate::refusal::among;
+use crate::{ffi, Entries, List, Point, Result};
 
 /// Represents a potential collision during translation.
 #[derive(Debug, Clone, Copy, PartialEq)]
@@ -37,11 +37,12 @@ pub fn check_translation_collision(
     translation: Point,
     tolerance: f64,
 ) -> Result<Option<CollisionEvent>> {
+    let lists = Entries::sliding(stationary.len(), orbiting.len());
     let (stationary, orbiting) = (flat(stationary), flat(orbiting));
     let (mut found, mut distance, mut kind) = (0, 0.0, 0);
-    let (mut stationary_i, mut orbiting_i) = (0, 0);
-    // SAFETY: both lists are as long as is said, and every answer has a place.
-    plain(unsafe {
+    let (mut stationary_i, mut orbiting_i, mut place) = (0, 0, 0);
+    // SAFETY: both lists are as long as is said, and every cell is there.
+    let number = unsafe {
         ffi::byr_check_translation_collision(
             stationary.as_ptr(),
             stationary.len(),
@@ -55,8 +56,10 @@ pub fn check_translation_collision(
             &mut kind,
             &mut stationary_i,
             &mut orbiting_i,
+            &mut place,
         )
-    })?;
+    };
+    among(&lists, number, place)?;
     Ok((found != 0).then(|| CollisionEvent {
         distance,
         contact_type: ContactType::numbered(u64::from(kind)),
@@ -77,6 +80,7 @@ type Finding = unsafe fn(
     *mut u32,
     *mut f64,
     *mut f64,
+    *mut u64,
 ) -> u32;
 
 /// What a function that may find a position finds.
@@ -87,10 +91,11 @@ fn found_by(
     current_pos: Point,
     tolerance: f64,
 ) -> Result<Option<Point>> {
+    let lists = Entries::sliding(stationary.len(), orbiting.len());
     let (stationary, orbiting) = (flat(stationary), flat(orbiting));
-    let (mut found, mut to) = (0, (0.0, 0.0));
-    // SAFETY: both lists are as long as is said, and every answer has a place.
-    plain(unsafe {
+    let (mut found, mut to, mut place) = (0, (0.0, 0.0), 0);
+    // SAFETY: both lists are as long as is said, and every cell is there.
+    let number = unsafe {
         finding(
             stationary.as_ptr(),
             stationary.len(),
@@ -102,8 +107,10 @@ fn found_by(
             &mut found,
             &mut to.0,
             &mut to.1,
+            &mut place,
         )
-    })?;
+    };
+    among(&lists, number, place)?;
     Ok((found != 0).then_some(to))
 }
 
@@ -130,16 +137,29 @@ pub fn recover_contact(
     found_by(ffi::byr_recover_contact, stationary, orbiting, current_pos, tolerance)
 }
 
+/// The two polygons of an overlap, of so many vertices each.
+fn two(a: usize, b: usize) -> [Entries; 2] {
+    [Entries::polygon(List::First, a), Entries::polygon(List::Second, b)]
+}
+
 /// Whether no axis parts the polygons by more than 1e-6; touching ones overlap.
 pub fn polygons_overlap(
     poly_a: &[impl Into<Point> + Copy],
     poly_b: &[impl Into<Point> + Copy],
 ) -> Result<bool> {
-    let (a, b, mut overlap) = (flat(poly_a), flat(poly_b), 0);
-    // SAFETY: both lists are as long as is said, and the answer has a place.
-    plain(unsafe {
-        ffi::byr_polygons_overlap(a.as_ptr(), a.len(), b.as_ptr(), b.len(), &mut overlap)
-    })?;
+    let (a, b, mut overlap, mut place) = (flat(poly_a), flat(poly_b), 0, 0);
+    // SAFETY: both lists are as long as is said, and both cells are there.
+    let number = unsafe {
+        ffi::byr_polygons_overlap(
+            a.as_ptr(),
+            a.len(),
+            b.as_ptr(),
+            b.len(),
+            &mut overlap,
+            &mut place,
+        )
+    };
+    among(&two(poly_a.len(), poly_b.len()), number, place)?;
     Ok(overlap != 0)
 }
 
@@ -149,9 +169,9 @@ pub fn polygons_overlap_with_tolerance(
     poly_b: &[impl Into<Point> + Copy],
     tolerance: f64,
 ) -> Result<bool> {
-    let (a, b, mut overlap) = (flat(poly_a), flat(poly_b), 0);
-    // SAFETY: both lists are as long as is said, and the answer has a place.
-    plain(unsafe {
+    let (a, b, mut overlap, mut place) = (flat(poly_a), flat(poly_b), 0, 0);
+    // SAFETY: both lists are as long as is said, and both cells are there.
+    let number = unsafe {
         ffi::byr_polygons_overlap_with_tolerance(
             a.as_ptr(),
             a.len(),
@@ -159,7 +179,9 @@ pub fn polygons_overlap_with_tolerance(
             b.len(),
             tolerance,
             &mut overlap,
+            &mut place,
         )
-    })?;
+    };
+    among(&two(poly_a.len(), poly_b.len()), number, place)?;
     Ok(overlap != 0)
 }

@@ -25,7 +25,7 @@ pub fn point_to_segment_distance(point: Point, p1: Point, p2: Point) -> Result<f
 /// Whether that distance is below the tolerance.
 pub fn point_on_segment(point: Point, p1: Point, p2: Point, tol: f64) -> Result<bool> {
     let mut on = 0;
-    // SAFETY: the answer has a place.
+    // SAFETY: the cell of the answer is there.
     plain(unsafe {
         ffi::byr_point_on_segment(point.0, point.1, p1.0, p1.1, p2.0, p2.1, tol, &mut on)
     })?;

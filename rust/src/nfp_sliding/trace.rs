@@ -1,8 +1,8 @@
 //! The trace of one polygon round another.
 
 use crate::lent::{flat, points};
-use crate::refusal::plain;
-use crate::{ffi, Point, Refusal, Result};
+use crate::refusal::among;
+use crate::{ffi, Entries, List, Point, Refusal, Result};
 use std::fmt;
 
 /// Most passes that a trace may be allowed; each stores a point at most.
@@ -121,11 +121,12 @@ pub fn compute_nfp_sliding(
     orbiting: &[impl Into<Point> + Copy],
     config: &SlidingNfpConfig,
 ) -> Result<Nfp> {
+    let lists = Entries::sliding(stationary.len(), orbiting.len());
     let (stationary, orbiting) = (flat(stationary), flat(orbiting));
     let room = 2 * (config.max_iterations.min(MOST_PASSES) + 1);
     let (mut work, mut result) = (vec![0.0; room], vec![0.0; room]);
-    let (mut count, mut stored, mut passes, mut stop) = (0, 0, 0, 0);
-    // SAFETY: all lists are as long as is said, and every answer has a place.
+    let (mut count, mut stored, mut passes, mut stop, mut place) = (0, 0, 0, 0, 0);
+    // SAFETY: all lists are as long as is said, and every cell is there.
     let number = unsafe {
         ffi::byr_compute_nfp_sliding(
             stationary.as_ptr(),
@@ -143,13 +144,14 @@ pub fn compute_nfp_sliding(
             &mut stored,
             &mut passes,
             &mut stop,
+            &mut place,
         )
     };
     let stop = StopReason::numbered(stop);
     if number == 6 {
         return Err(Refusal::ShortPath { passes, stop });
     }
-    plain(number)?;
+    among(&lists, number, place)?;
     let polygons = vec![points(&result, count)];
     Ok(Nfp { polygons, path: points(&work, stored), passes, stop })
 }
@@ -169,10 +171,11 @@ pub fn find_start_position(
     stationary: &[impl Into<Point> + Copy],
     orbiting: &[impl Into<Point> + Copy],
 ) -> Result<Point> {
+    let lists = Entries::sliding(stationary.len(), orbiting.len());
     let (stationary, orbiting) = (flat(stationary), flat(orbiting));
-    let mut start = (0.0, 0.0);
-    // SAFETY: both lists are as long as is said, and both answers have a place.
-    plain(unsafe {
+    let (mut start, mut place) = ((0.0, 0.0), 0);
+    // SAFETY: both lists are as long as is said, and every cell is there.
+    let number = unsafe {
         ffi::byr_find_start_position(
             stationary.as_ptr(),
             stationary.len(),
@@ -180,8 +183,10 @@ pub fn find_start_position(
             orbiting.len(),
             &mut start.0,
             &mut start.1,
+            &mut place,
         )
-    })?;
+    };
+    among(&lists, number, place)?;
     Ok(start)
 }
 
@@ -203,9 +208,9 @@ pub fn find_start_position(
 /// ```
 pub fn simplify_polygon(polygon: &[impl Into<Point> + Copy], tolerance: f64) -> Result<Vec<Point>> {
     let list = flat(polygon);
-    let (mut room, mut count) = (vec![0.0; list.len()], 0);
-    // SAFETY: both lists are as long as is said, and the answer has a place.
-    plain(unsafe {
+    let (mut room, mut count, mut place) = (vec![0.0; list.len()], 0, 0);
+    // SAFETY: both lists are as long as is said, and both cells are there.
+    let number = unsafe {
         ffi::byr_simplify_polygon(
             list.as_ptr(),
             list.len(),
@@ -213,7 +218,9 @@ pub fn simplify_polygon(polygon: &[impl Into<Point> + Copy], tolerance: f64) -> 
             room.as_mut_ptr(),
             room.len(),
             &mut count,
+            &mut place,
         )
-    })?;
+    };
+    among(&[Entries::points(List::Points, polygon.len())], number, place)?;
     Ok(points(&room, count))
 }

@@ -1,6 +1,6 @@
 //! The outline book, through the library.
 
-use super::Words;
+use super::{told_place, Words};
 use crate::ffi;
 use crate::lent::{words, Cell, Room};
 use crate::tally::Compared;
@@ -25,14 +25,14 @@ fn counts(rest: &mut Words, length: u64) -> Vec<u32> {
 
 /// A call to write, through the library.
 fn writing(record: &[u64]) -> Compared {
-    let (number, value) = (record[5], record[6]);
+    let (number, value, at) = (record[5], record[6], record[7]);
     let mut rest = Words(&record[HEADER..]);
     let (coordinates, vertices) = (rest.take(record[1]), counts(&mut rest, record[2]));
     let [before, after] = [0, 1].map(|_| bytes(&mut rest, record[3]));
     let (list, lent) = (words(coordinates), Room::new(&vertices, COUNT));
     let mut room = Room::new(&before, BYTE);
-    let (room_n, mut length) = (room.len(), u64::HELD);
-    // SAFETY: all lists are as long as is said, and the answer has a place.
+    let (room_n, mut length, mut place) = (room.len(), u64::HELD, u64::HELD);
+    // SAFETY: all lists are as long as is said, and every pointer has its cell.
     let returned = unsafe {
         ffi::byr_write_book(
             list.list(),
@@ -42,18 +42,20 @@ fn writing(record: &[u64]) -> Compared {
             room.room(),
             room_n,
             &mut length,
+            &mut place,
         )
     };
-    let told = (number == 0).then_some(value);
+    let told = [(number == 0).then_some(value), told_place(number, at)];
     let oracle = (number, told, Some(&after[..]), Some(coordinates), Some(&vertices[..]));
     let read = (list.contents(), lent.contents());
-    let library = (u64::from(returned), length.told(), room.contents(), read.0, read.1);
+    let cells = [length.told(), place.told()];
+    let library = (u64::from(returned), cells, room.contents(), read.0, read.1);
     Compared::of("write_book", number, oracle, library)
 }
 
 /// A call to read, through the library.
 fn reading(record: &[u64]) -> Compared {
-    let (number, value, fault) = (record[5], record[6], record[7]);
+    let (number, value, at) = (record[5], record[6], record[7]);
     let mut rest = Words(&record[HEADER..]);
     let file = bytes(&mut rest, record[1]);
     let [before, after] = [0, 1].map(|_| (rest.take(record[3]), counts(&mut rest, record[4])));
@@ -61,7 +63,7 @@ fn reading(record: &[u64]) -> Compared {
     let (mut numbers, mut vertices) = (words(before.0), Room::new(&before.1, COUNT));
     let (numbers_n, vertices_n) = (numbers.len(), vertices.len());
     let (mut rings, mut place) = (u64::HELD, u64::HELD);
-    // SAFETY: all lists are as long as is said, and both answers have a place.
+    // SAFETY: all lists are as long as is said, and every pointer has its cell.
     let returned = unsafe {
         ffi::byr_read_book(
             book.list(),
@@ -74,7 +76,7 @@ fn reading(record: &[u64]) -> Compared {
             &mut place,
         )
     };
-    let told = [(number == 0).then_some(value), (number == 7).then_some(fault)];
+    let told = [(number == 0).then_some(value), told_place(number, at)];
     let oracle = (number, told, Some(after.0), Some(&after.1[..]), Some(&file[..]));
     let library = (
         u64::from(returned),

@@ -1,19 +1,25 @@
 //! Segments and rings, through the library.
 
-use super::Words;
+use super::{told_place, Words};
 use crate::ffi;
 use crate::lent::{floats, words, Cell, Room};
 use crate::tally::Compared;
 use oracle::replay::rings::{self, HEADER};
 
-/// What a function returned and what it told through its pointer.
-type Told = (u32, Option<u64>);
+/// What a function returned, what it answered and the place that it told, through
+/// its pointers.
+type Told = (u32, Option<u64>, Option<u64>);
 
-/// What this answers with a place for its answer.
+/// What this tells with cells for its answer and for the place.
+fn with_cells<T: Cell>(call: impl FnOnce(&mut T, &mut u64) -> u32) -> Told {
+    let (mut cell, mut place) = (T::HELD, u64::HELD);
+    let number = call(&mut cell, &mut place);
+    (number, cell.told(), place.told())
+}
+
+/// What this tells with a cell for its answer; it tells no place.
 fn with_cell<T: Cell>(call: impl FnOnce(&mut T) -> u32) -> Told {
-    let mut cell = T::HELD;
-    let number = call(&mut cell);
-    (number, cell.told())
+    with_cells(|cell, _| call(cell))
 }
 
 /// The name of the call and what the library answers; writes the room.
@@ -30,7 +36,7 @@ fn on_points(call: u64, list: &Room<u64>) -> (&'static str, Told) {
     let contents = list.contents().expect("no call was made yet");
     let n = |place: usize| f64::from_bits(contents[place]);
     let [a, b, c, d, e, f] = [0, 1, 2, 3, 4, 5].map(n);
-    // SAFETY: the answer has a place.
+    // SAFETY: the answer has its cell.
     unsafe {
         match call {
             rings::ORIENTATION => {
@@ -66,41 +72,47 @@ fn on_points(call: u64, list: &Room<u64>) -> (&'static str, Told) {
 /// A call that takes rings.
 fn on_rings(call: u64, a: &Room<u64>, b: &Room<u64>, room: &mut Room<u64>) -> (&'static str, Told) {
     let (ring, n, room_n) = (a.list(), a.len(), room.len());
-    // SAFETY: all lists are as long as is said, and the answer has a place.
+    // SAFETY: all lists are as long as is said, and every pointer has its cell.
     unsafe {
         match call {
             rings::MIRROR_POLYGON => (
                 "mirror_polygon",
-                with_cell(|to| ffi::byr_mirror_polygon(ring, n, room.room(), room_n, to)),
+                with_cells(|to, at| ffi::byr_mirror_polygon(ring, n, room.room(), room_n, to, at)),
             ),
-            rings::OPEN_RING => {
-                ("open_ring", with_cell(|to| ffi::byr_open_ring(ring, n, room.room(), room_n, to)))
-            }
-            rings::IS_SIMPLE_POLYGON => {
-                ("is_simple_polygon", with_cell(|to| ffi::byr_is_simple_polygon(ring, n, to)))
-            }
+            rings::OPEN_RING => (
+                "open_ring",
+                with_cells(|to, at| ffi::byr_open_ring(ring, n, room.room(), room_n, to, at)),
+            ),
+            rings::IS_SIMPLE_POLYGON => (
+                "is_simple_polygon",
+                with_cells(|to, at| ffi::byr_is_simple_polygon(ring, n, to, at)),
+            ),
             rings::RING_DISTANCE => (
                 "ring_distance",
-                with_cell(|to| ffi::byr_ring_distance(ring, n, b.list(), b.len(), to)),
+                with_cells(|to, at| ffi::byr_ring_distance(ring, n, b.list(), b.len(), to, at)),
             ),
             rings::SIGNED_AREA2 => {
-                ("signed_area2", with_cell(|to| ffi::byr_signed_area2(ring, n, to)))
+                ("signed_area2", with_cells(|to, at| ffi::byr_signed_area2(ring, n, to, at)))
             }
-            _ => ("signed_area_robust", with_cell(|to| ffi::byr_signed_area_robust(ring, n, to))),
+            _ => (
+                "signed_area_robust",
+                with_cells(|to, at| ffi::byr_signed_area_robust(ring, n, to, at)),
+            ),
         }
     }
 }
 
 /// The record's call through the library.
 pub fn check(record: &[u64]) -> Compared {
-    let (number, value) = (record[4], record[5]);
+    let (number, value, place) = (record[4], record[5], record[6]);
     let mut rest = Words(&record[HEADER..]);
     let lists = [1, 2].map(|place| rest.take(record[place]));
     let [before, after] = [0, 1].map(|_| rest.take(record[3]));
     let [a, b] = lists.map(words);
     let mut room = words(before);
-    let (call, (returned, told)) = answer(record[0], &a, &b, &mut room);
-    let oracle = (number, (number == 0).then_some(value), Some(after.to_vec()), lists.map(Some));
-    let library = (u64::from(returned), told, floats(&room), [a.contents(), b.contents()]);
+    let (call, (returned, told, at)) = answer(record[0], &a, &b, &mut room);
+    let cells = [(number == 0).then_some(value), told_place(number, place)];
+    let oracle = (number, cells, Some(after.to_vec()), lists.map(Some));
+    let library = (u64::from(returned), [told, at], floats(&room), [a.contents(), b.contents()]);
     Compared::of(call, number, oracle, library)
 }

@@ -1,12 +1,12 @@
 //! The sliding's leaf calls, through the library.
 
-use super::{on_success, Words};
+use super::{on_success, told_place, Words};
 use crate::ffi;
 use crate::lent::{floats, words, Cell, Room};
 use crate::tally::Compared;
 use oracle::replay::sliding::{self, HEADER};
 
-/// What a call is lent.
+/// What a call is lent, the cell for the place included.
 struct Lent {
     a: Room<u64>,
     b: Room<u64>,
@@ -14,6 +14,7 @@ struct Lent {
     extra: Vec<u64>,
     one: Room<u64>,
     two: Room<u64>,
+    place: u64,
 }
 
 impl Lent {
@@ -23,7 +24,8 @@ impl Lent {
     }
 }
 
-/// What a function returned and what it told through up to five pointers.
+/// What a function returned and what it told through up to five pointers before
+/// that of the place.
 type Told = (u32, [Option<u64>; 5]);
 
 /// What was told through these pointers, and nothing through others.
@@ -37,34 +39,32 @@ fn told<const N: usize>(number: u32, cells: [Option<u64>; N]) -> Told {
 fn entries(call: u64, lent: &mut Lent) -> (&'static str, Told) {
     let (a, an, b, bn) = (lent.a.list(), lent.a.len(), lent.b.list(), lent.b.len());
     let (one_n, two_n) = (lent.one.len(), lent.two.len());
-    let n = |place: usize| lent.number(place);
-    let mut count = u64::HELD;
-    // SAFETY: all lists are as long as is said, and the answer has a place.
+    let numbers: Vec<f64> = (0..lent.extra.len()).map(|place| lent.number(place)).collect();
+    let (mut count, at) = (u64::HELD, &mut lent.place);
+    // SAFETY: all lists are as long as is said, and every pointer has its cell.
     let (name, number) = unsafe {
         match call {
             sliding::FIND_CONTACTS => {
-                let tolerance = n(0);
                 let (which, points) = (lent.one.room(), lent.two.room());
                 let number = ffi::byr_find_contacts(
-                    a, an, b, bn, tolerance, which, one_n, points, two_n, &mut count,
+                    a, an, b, bn, numbers[0], which, one_n, points, two_n, &mut count, at,
                 );
                 ("find_contacts", number)
             }
             sliding::TRANSLATION_VECTORS => {
-                let tolerance = n(0);
                 let (vectors, sources) = (lent.one.room(), lent.two.room());
                 let number = ffi::byr_compute_translation_vectors(
-                    a, an, b, bn, tolerance, vectors, one_n, sources, two_n, &mut count,
+                    a, an, b, bn, numbers[0], vectors, one_n, sources, two_n, &mut count, at,
                 );
                 ("compute_translation_vectors", number)
             }
             _ => {
-                let [x, y, tolerance] = [0, 1, 2].map(n);
+                let [x, y, tolerance] = [0, 1, 2].map(|place| numbers[place]);
                 let (visited, visited_n) = (lent.list.list(), lent.list.len());
                 let (vectors, sources) = (lent.one.room(), lent.two.room());
                 let number = ffi::byr_handle_perfect_fit(
                     a, an, b, bn, x, y, visited, visited_n, tolerance, vectors, one_n, sources,
-                    two_n, &mut count,
+                    two_n, &mut count, at,
                 );
                 ("handle_perfect_fit", number)
             }
@@ -74,13 +74,13 @@ fn entries(call: u64, lent: &mut Lent) -> (&'static str, Told) {
 }
 
 /// `select_translation_vector`.
-fn selection(lent: &Lent) -> (&'static str, Told) {
+fn selection(lent: &mut Lent) -> (&'static str, Told) {
     // Anything but 0 says that there is a previous direction.
     let has_previous = if lent.extra[0] == 0 { 0 } else { 1 << (lent.extra[1] % 32) };
     let [px, py, cx, cy, x, y] = [1, 2, 3, 4, 5, 6].map(|place| lent.number(place));
     let (vectors, n) = (lent.list.list(), lent.list.len());
     let (mut found, mut index) = (u32::HELD, u64::HELD);
-    // SAFETY: the list is as long as is said, and both answers have a place.
+    // SAFETY: the list is as long as is said, and every pointer has its cell.
     let number = unsafe {
         ffi::byr_select_translation_vector(
             vectors,
@@ -94,18 +94,19 @@ fn selection(lent: &Lent) -> (&'static str, Told) {
             y,
             &mut found,
             &mut index,
+            &mut lent.place,
         )
     };
     ("select_translation_vector", told(number, [found.told(), index.told()]))
 }
 
 /// `check_translation_collision`.
-fn collision(lent: &Lent) -> (&'static str, Told) {
+fn collision(lent: &mut Lent) -> (&'static str, Told) {
     let (a, an, b, bn) = (lent.a.list(), lent.a.len(), lent.b.list(), lent.b.len());
     let [dx, dy, tolerance] = [0, 1, 2].map(|place| lent.number(place));
     let (mut found, mut distance, mut kind) = (u32::HELD, f64::HELD, u32::HELD);
     let (mut stationary, mut orbiting) = (u64::HELD, u64::HELD);
-    // SAFETY: both lists are as long as is said, and every answer has a place.
+    // SAFETY: both lists are as long as is said, and every pointer has its cell.
     let number = unsafe {
         ffi::byr_check_translation_collision(
             a,
@@ -120,6 +121,7 @@ fn collision(lent: &Lent) -> (&'static str, Told) {
             &mut kind,
             &mut stationary,
             &mut orbiting,
+            &mut lent.place,
         )
     };
     let cells = [found.told(), distance.told(), kind.told(), stationary.told(), orbiting.told()];
@@ -127,20 +129,21 @@ fn collision(lent: &Lent) -> (&'static str, Told) {
 }
 
 /// A call that may find a position.
-fn position(call: u64, lent: &Lent) -> (&'static str, Told) {
+fn position(call: u64, lent: &mut Lent) -> (&'static str, Told) {
     let (a, an, b, bn) = (lent.a.list(), lent.a.len(), lent.b.list(), lent.b.len());
     let [x, y, tolerance] = [0, 1, 2].map(|place| lent.number(place));
     let (mut found, mut to_x, mut to_y) = (u32::HELD, f64::HELD, f64::HELD);
-    // SAFETY: both lists are as long as is said, and every answer has a place.
+    let at = &mut lent.place;
+    // SAFETY: both lists are as long as is said, and every pointer has its cell.
     let (name, number) = unsafe {
         if call == sliding::INTERLOCKING {
             let number = ffi::byr_detect_interlocking_opportunity(
-                a, an, b, bn, x, y, tolerance, &mut found, &mut to_x, &mut to_y,
+                a, an, b, bn, x, y, tolerance, &mut found, &mut to_x, &mut to_y, at,
             );
             ("detect_interlocking_opportunity", number)
         } else {
             let number = ffi::byr_recover_contact(
-                a, an, b, bn, x, y, tolerance, &mut found, &mut to_x, &mut to_y,
+                a, an, b, bn, x, y, tolerance, &mut found, &mut to_x, &mut to_y, at,
             );
             ("recover_contact", number)
         }
@@ -149,17 +152,18 @@ fn position(call: u64, lent: &Lent) -> (&'static str, Told) {
 }
 
 /// A call that takes two polygons and answers whether they overlap.
-fn overlap(call: u64, lent: &Lent) -> (&'static str, Told) {
+fn overlap(call: u64, lent: &mut Lent) -> (&'static str, Told) {
     let (a, an, b, bn) = (lent.a.list(), lent.a.len(), lent.b.list(), lent.b.len());
     let mut overlap = u32::HELD;
-    // SAFETY: both lists are as long as is said, and the answer has a place.
+    // SAFETY: both lists are as long as is said, and every pointer has its cell.
     let (name, number) = unsafe {
         if call == sliding::OVERLAP {
-            ("polygons_overlap", ffi::byr_polygons_overlap(a, an, b, bn, &mut overlap))
+            let at = &mut lent.place;
+            ("polygons_overlap", ffi::byr_polygons_overlap(a, an, b, bn, &mut overlap, at))
         } else {
-            let tolerance = lent.number(0);
+            let (tolerance, at) = (lent.number(0), &mut lent.place);
             let number =
-                ffi::byr_polygons_overlap_with_tolerance(a, an, b, bn, tolerance, &mut overlap);
+                ffi::byr_polygons_overlap_with_tolerance(a, an, b, bn, tolerance, &mut overlap, at);
             ("polygons_overlap_with_tolerance", number)
         }
     };
@@ -167,23 +171,23 @@ fn overlap(call: u64, lent: &Lent) -> (&'static str, Told) {
 }
 
 /// `find_start_position`.
-fn start(lent: &Lent) -> (&'static str, Told) {
+fn start(lent: &mut Lent) -> (&'static str, Told) {
     let (a, an, b, bn) = (lent.a.list(), lent.a.len(), lent.b.list(), lent.b.len());
     let (mut x, mut y) = (f64::HELD, f64::HELD);
-    // SAFETY: both lists are as long as is said, and both answers have a place.
-    let number = unsafe { ffi::byr_find_start_position(a, an, b, bn, &mut x, &mut y) };
+    // SAFETY: both lists are as long as is said, and every pointer has its cell.
+    let number =
+        unsafe { ffi::byr_find_start_position(a, an, b, bn, &mut x, &mut y, &mut lent.place) };
     ("find_start_position", told(number, [x.told(), y.told()]))
 }
 
 /// `simplify_polygon`.
 fn simplification(lent: &mut Lent) -> (&'static str, Told) {
     let (list, n, room_n) = (lent.list.list(), lent.list.len(), lent.one.len());
-    let tolerance = lent.number(0);
-    let mut points = u64::HELD;
-    // SAFETY: both lists are as long as is said, and the answer has a place.
-    let number = unsafe {
-        ffi::byr_simplify_polygon(list, n, tolerance, lent.one.room(), room_n, &mut points)
-    };
+    let (tolerance, room) = (lent.number(0), lent.one.room());
+    let (mut points, at) = (u64::HELD, &mut lent.place);
+    // SAFETY: both lists are as long as is said, and every pointer has its cell.
+    let number =
+        unsafe { ffi::byr_simplify_polygon(list, n, tolerance, room, room_n, &mut points, at) };
     ("simplify_polygon", told(number, [points.told()]))
 }
 
@@ -202,7 +206,8 @@ fn answer(call: u64, lent: &mut Lent) -> (&'static str, Told) {
     }
 }
 
-/// What the record says is told through the call's pointers.
+/// What the record says is told through the call's pointers before that of the
+/// place.
 fn expected(call: u64, number: u64, values: [u64; 5]) -> [Option<u64>; 5] {
     let all = on_success(number, values);
     let places = match call {
@@ -241,10 +246,11 @@ pub fn check(record: &[u64]) -> Compared {
     let before = [5, 6].map(|place| rest.take(record[place]));
     let after = [5, 6].map(|place| Some(rest.take(record[place]).to_vec()));
     let ([a, b, list], [one, two]) = (lists.map(words), before.map(words));
-    let mut lent = Lent { a, b, list, extra, one, two };
+    let mut lent = Lent { a, b, list, extra, one, two, place: u64::HELD };
     let (name, (returned, cells)) = answer(call, &mut lent);
     let read = [lent.a.contents(), lent.b.contents(), lent.list.contents()];
-    let oracle = (number, expected(call, number, values), after, lists.map(Some));
-    let library = (u64::from(returned), cells, rooms(call, &lent), read);
+    let told = (expected(call, number, values), told_place(number, record[13]));
+    let oracle = (number, told, after, lists.map(Some));
+    let library = (u64::from(returned), (cells, lent.place.told()), rooms(call, &lent), read);
     Compared::of(name, number, oracle, library)
 }

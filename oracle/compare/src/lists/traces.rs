@@ -1,13 +1,14 @@
 //! The trace, through the library.
 
-use super::Words;
+use super::{told_place, Words};
 use crate::ffi;
 use crate::lent::{floats, words, Cell, Room};
 use crate::tally::Compared;
 use oracle::replay::traces::HEADER;
 
-/// What a trace returned and told: points, points stored, passes, stop reason.
-type Told = (u64, [Option<u64>; 4]);
+/// What a trace returned and told: points, points stored, passes, stop reason and
+/// place.
+type Told = (u64, [Option<u64>; 5]);
 
 /// The trace through the library, with the settings of the record.
 fn traced(
@@ -19,8 +20,8 @@ fn traced(
     let [tolerance, smallest] = [4, 5].map(|place| f64::from_bits(record[place]));
     let (work_n, result_n) = (work.len(), result.len());
     let (mut points, mut stored, mut passes) = (u64::HELD, u64::HELD, u64::HELD);
-    let mut stop = u32::HELD;
-    // SAFETY: all lists are as long as is said, and every answer has a place.
+    let (mut stop, mut place) = (u32::HELD, u64::HELD);
+    // SAFETY: all lists are as long as is said, and every pointer has its cell.
     let returned = unsafe {
         ffi::byr_compute_nfp_sliding(
             lent[0].list(),
@@ -38,27 +39,29 @@ fn traced(
             &mut stored,
             &mut passes,
             &mut stop,
+            &mut place,
         )
     };
-    (u64::from(returned), [points.told(), stored.told(), passes.told(), stop.told()])
+    let cells = [points.told(), stored.told(), passes.told(), stop.told(), place.told()];
+    (u64::from(returned), cells)
 }
 
-/// What the record says is told: all on success, the passes also with 5, and with
-/// 6 the stop reason too.
-fn expected(number: u64, values: [u64; 4]) -> [Option<u64>; 4] {
-    let [points, stored, passes, stop] = values.map(Some);
+/// What the record says is told: all but the place on success, the passes also with
+/// 5, with 6 the stop reason too, and with others the place where they tell one.
+fn expected(number: u64, values: [u64; 5]) -> [Option<u64>; 5] {
+    let [points, stored, passes, stop, _] = values.map(Some);
     match number {
-        0 => [points, stored, passes, stop],
-        5 => [None, None, passes, None],
-        6 => [None, None, passes, stop],
-        _ => [None; 4],
+        0 => [points, stored, passes, stop, None],
+        5 => [None, None, passes, None, None],
+        6 => [None, None, passes, stop, None],
+        _ => [None, None, None, None, told_place(number, values[4])],
     }
 }
 
 /// The record's call through the library.
 pub fn check(record: &[u64]) -> Compared {
     let number = record[7];
-    let told = expected(number, [8, 9, 10, 11].map(|place| record[place]));
+    let told = expected(number, [8, 9, 10, 11, 12].map(|place| record[place]));
     let mut rest = Words(&record[HEADER..]);
     let [polygons, before, after] =
         [[0, 1], [2, 3], [2, 3]].map(|places| places.map(|place: usize| rest.take(record[place])));

@@ -96,7 +96,7 @@ pub fn longest() -> Vec<Vec<f64>> {
 }
 
 /// A case that writes these coordinates with these counts to this room.
-fn lend(coordinates: Vec<f64>, counts: Vec<u32>, room: usize) -> Case {
+pub fn lend(coordinates: Vec<f64>, counts: Vec<u32>, room: usize) -> Case {
     Case::Write { coordinates, counts, room }
 }
 

@@ -1,10 +1,12 @@
 //! Cases for the calls that take rings.
 
 use super::Case;
+use crate::replay::lengths::{self, Lengths, RINGS};
 use crate::replay::{float_room, with, EDGES};
 use crate::seeded::Seeded;
 use crate::shapes::whole_shapes;
 use crate::shapes::{closed, comb, knot, parabola, placed, reversed, seeded_ring, square};
+use std::sync::LazyLock;
 
 /// The calls that take one ring and no room.
 const PLAIN_CALLS: [u64; 3] =
@@ -14,7 +16,7 @@ const ROOM_CALLS: [u64; 2] = [super::MIRROR_POLYGON, super::OPEN_RING];
 
 /// Which long ring gets a room of which length: short, exact and longer ones
 /// for those that pass, and others for those that are refused before.
-const LONG_ROOMS: [(usize, usize); 14] = [
+const LONG_ROOMS: [(usize, usize); 16] = [
     (0, 510),
     (1, 3),
     (1, 511),
@@ -29,6 +31,8 @@ const LONG_ROOMS: [(usize, usize); 14] = [
     (7, 512),
     (10, 3),
     (11, 3),
+    (12, 3),
+    (13, 0),
 ];
 
 /// Small rings with closing repeats, signed zeros, repeated points, and the
@@ -112,6 +116,8 @@ fn long_rings() -> Vec<Vec<f64>> {
         with(&most, 257, f64::NEG_INFINITY),
         with(&most, 511, f64::NAN),
         with(&parabola(257), 513, f64::NAN),
+        parabola(258)[..515].to_vec(),
+        with(&parabola(257)[..513], 0, f64::NAN),
     ]
 }
 
@@ -205,10 +211,6 @@ fn long_pairs(long: &[Vec<f64>]) -> Vec<[Vec<f64>; 2]> {
     let mut found = vec![
         [long[1].clone(), placed(&long[3], 1.0, 0.25, -20.5)],
         [few.clone(), long[0].clone()],
-        [long[2].clone(), few.clone()],
-        [few.clone(), long[2].clone()],
-        [few.clone(), long[5].clone()],
-        [with(&few, 0, f64::NAN), long[2].clone()],
         [few.clone(), long[10].clone()],
         [long[8].clone(), few[..3].to_vec()],
     ];
@@ -226,6 +228,31 @@ fn seeded_pairs(seeded: &mut Seeded) -> Vec<[Vec<f64>; 2]> {
     (0..180).map(one).collect()
 }
 
+/// Two squares apart, or lists of these lengths in their places.
+fn of_lengths(lengths: &Lengths<2>) -> [Vec<f64>; 2] {
+    lengths.lists([&square(4.0), &placed(&square(4.0), 1.0, 9.0, 0.0)])
+}
+
+/// The case with this place among lists about the bounds of their length, alone
+/// and in pairs, for a long run; nothing past the last.
+pub fn swept(place: u64) -> Option<Case> {
+    static ALL: LazyLock<Vec<(u64, Lengths<2>)>> = LazyLock::new(|| {
+        let mut all = Vec::new();
+        for call in PLAIN_CALLS.into_iter().chain(ROOM_CALLS) {
+            let alone = |n| [None, Some(0)].map(|wrong| (call, Lengths { of: [n, 0], wrong }));
+            all.extend(RINGS.into_iter().flat_map(alone));
+        }
+        let pairs = [lengths::ways(), lengths::lengths()].concat();
+        all.extend(pairs.into_iter().map(|pair| (super::RING_DISTANCE, pair)));
+        all
+    });
+    ALL.get(place as usize).map(|(call, lengths)| {
+        let [a, b] = of_lengths(lengths);
+        let room = if ROOM_CALLS.contains(call) { a.len() } else { 0 };
+        Case { b, room: float_room(room), ..Case::of(*call, &a) }
+    })
+}
+
 /// All cases of these calls.
 pub fn cases(seeded: &mut Seeded) -> Vec<Case> {
     let special = [special_rings(), odd_lists()].concat();
@@ -235,7 +262,9 @@ pub fn cases(seeded: &mut Seeded) -> Vec<Case> {
     for ring in special.iter().chain(&others).chain(&long) {
         all.extend(PLAIN_CALLS.map(|call| Case::of(call, ring)));
     }
-    let pairs = [plain_pairs(), faulty_pairs(), long_pairs(&long), seeded_pairs(seeded)].concat();
+    let about = [lengths::ways(), lengths::bounds()].concat().iter().map(of_lengths).collect();
+    let pairs = [plain_pairs(), faulty_pairs(), long_pairs(&long), about, seeded_pairs(seeded)];
+    let pairs = pairs.concat();
     all.extend(pairs.into_iter().map(|[a, b]| Case { b, ..Case::of(super::RING_DISTANCE, &a) }));
     all
 }

@@ -71,7 +71,6 @@ fn selections() -> Vec<Case> {
         all.push(selecting(&three, Some((0.0, 1.0)), at, (0.5, 0.0)));
     }
     for n in [1, 2, 4, 5, 7, 8] {
-        all.push(selecting(&three[..n], None, (0.0, 0.0), (0.0, -2.0)));
         all.push(selecting(&[NAN; 8][..n], Some((NAN, NAN)), (NAN, NAN), (NAN, NAN)));
     }
     let many: Vec<f64> = (0..300).map(|i| f64::from(i * 37 % 101) - 50.0).collect();

@@ -2,10 +2,12 @@
 
 use super::{path_of, Case};
 use crate::refusals::Settings;
+use crate::replay::lengths::{self, Lengths};
 use crate::replay::polygons::lost;
 use crate::replay::{with, EDGES};
 use crate::seeded::Seeded;
 use crate::shapes::{comb, disc, parabola, placed, reversed, square, star, whole_shapes};
+use std::sync::LazyLock;
 
 /// Few passes, and the other settings as the Rust has them by default.
 const FEW: Settings =
@@ -287,19 +289,36 @@ fn rooms() -> Vec<Case> {
     all
 }
 
-/// Wrong polygons, settings and rooms, alone and together.
+/// A trace of polygons of these lengths, the second of two with wrong settings and
+/// rooms besides.
+fn of_lengths((place, lengths): (usize, &Lengths<2>)) -> Case {
+    let [stationary, orbiting] = lengths.lists([&square(4.0), &square(2.0)]);
+    let (settings, rooms) = if place.is_multiple_of(2) {
+        (limited(2), [8, 8])
+    } else {
+        (Settings { contact_tolerance: 0.0, ..FEW }, [7, 3])
+    };
+    Case { stationary, orbiting, settings, rooms }
+}
+
+/// Polygons about the bounds of their length, in every two ways and one by one.
+fn about_bounds() -> Vec<Case> {
+    let pairs = [lengths::ways(), lengths::bounds()].concat();
+    pairs.iter().enumerate().map(of_lengths).collect()
+}
+
+/// The case with this place among polygons of all lengths, for a long run; nothing
+/// past the last.
+pub fn swept(place: u64) -> Option<Case> {
+    static ALL: LazyLock<Vec<Lengths<2>>> =
+        LazyLock::new(|| [lengths::ways(), lengths::lengths()].concat());
+    let place = place as usize;
+    ALL.get(place).map(|lengths| of_lengths((place, lengths)))
+}
+
+/// Wrong settings, and the numbers of polygons on their bounds and past them.
 fn faults() -> Vec<Case> {
     let (s, q) = (square(4.0), square(2.0));
-    let rings = |ring: &[f64]| {
-        vec![
-            vec![],
-            ring[..4].to_vec(),
-            ring[..7].to_vec(),
-            with(ring, 0, f64::NAN),
-            with(ring, 7, 1e6_f64.next_up()),
-            with(&ring[..7], 3, f64::INFINITY),
-        ]
-    };
     let wrong = [
         Settings { contact_tolerance: 0.0, ..FEW },
         Settings { contact_tolerance: -0.0, ..FEW },
@@ -320,26 +339,15 @@ fn faults() -> Vec<Case> {
     let mut lend = |a: &[f64], b: &[f64], settings: Settings, rooms: [usize; 2]| {
         all.push(Case { stationary: a.to_vec(), orbiting: b.to_vec(), settings, rooms });
     };
-    for (i, ring) in rings(&s).iter().enumerate() {
-        lend(ring, &q, FEW, [8, 8]);
-        lend(ring, &rings(&q)[(i * 5 + 2) % 6], FEW, [8, 8]);
-        lend(ring, &q, wrong[i], [7, 3]);
-    }
-    for (i, ring) in rings(&q).iter().enumerate() {
-        lend(&s, ring, FEW, [8, 8]);
-        lend(&s, ring, wrong[i + 6], [0, 0]);
-    }
     for settings in wrong {
         lend(&s, &q, settings, [8, 8]);
         lend(&s, &q, settings, [1, 0]);
+        lend(&with(&s, 7, 1e6_f64.next_up()), &q, settings, [8, 8]);
     }
     for (i, number) in EDGES.into_iter().enumerate() {
         lend(&with(&s, i % 8, number), &q, limited(12), [26, 26]);
         lend(&s, &with(&q, (i + 3) % 8, number), limited(12), [26, 26]);
     }
-    lend(&parabola(257), &q, FEW, [8, 8]);
-    lend(&s, &parabola(257), FEW, [8, 8]);
-    lend(&parabola(256)[..511], &q, FEW, [8, 8]);
     all
 }
 
@@ -405,6 +413,7 @@ pub fn cases() -> Vec<Case> {
     all.extend(settings());
     all.extend(rooms());
     all.extend(faults());
+    all.extend(about_bounds());
     all.extend(losing());
     all.extend(small());
     all.extend(endless());

@@ -5,7 +5,7 @@ use borrow.Author.Needs.{needs}
 use borrow.Author.Tests.{not-true, not-false}
 use Rattle.refusals.specs.Screens.{wrongBook}
 use Rattle.refusals.proofs.First.{on, off}
-use Rattle.refusals.proofs.RingRow.{rings-sized}
+use Rattle.refusals.proofs.RingRow.{rings-taken}
 use Rattle.book_layout.specs.Writer.{writeRefusal}
 use Rattle.book_writer.proofs.lent.refusal.Statement.{statement}
 use Rattle.book_writer.proofs.lent.refusal.Tie as tie
@@ -26,7 +26,8 @@ size-of-requires : tie.Need-size-of-requires
 size-of-requires c κs =
     let p = c .before in
     let a = p .before .before .before .before .args in
-    rings-sized (a .xs .now) (a .counts .now) (p .before .lent .ensures) (p .passed .ensures) (not-false (p .passed .result) (c .if1 .left))
+    let t = rings-taken (a .xs .now) (a .counts .now) (rw (← p .before .lent .ensures, ← p .passed .ensures) (not-false (p .passed .result) (c .if1 .left))) in
+    (t .1, t .2)
 
 book-requires : tie.Need-book-requires
 book-requires c κs = search needs

@@ -5,7 +5,7 @@ use native.Mathlib.Omega.{arith}
 use borrow.Author.Needs.{needs}
 use lib.ListN.{length}
 use Rattle.refusals.specs.Rings.{verticesMost, total}
-use Rattle.refusals.proofs.Counts.{total-bounds, sum-is}
+use Rattle.refusals.proofs.Counts.{total-bounds}
 use Rattle.book_writer.proofs.lent.size_of.Statement.{statement}
 use Rattle.book_writer.proofs.lent.size_of.Tie as tie
 
@@ -13,7 +13,7 @@ use Rattle.book_writer.proofs.lent.size_of.Tie as tie
 small : (c : tie.After-sum-of) → (c .sum-of .result ≡ total (c .before .before .args .counts .now)) × (total (c .before .before .args .counts .now) ≤ verticesMost * length (c .before .before .args .counts .now))
 small c =
     let s = c .before .before in
-    (sum-is (s .args .counts .now) (c .sum-of .result) (c .sum-of .ensures) (s .pre .1), total-bounds (s .args .counts .now) (s .pre .1) .1)
+    (c .sum-of .ensures .0, total-bounds (s .args .counts .now) (s .pre .1) .1)
 
 sum-of-requires : tie.Need-sum-of-requires
 sum-of-requires c κs = search needs

@@ -10,14 +10,14 @@ use lib.Seq.{sets, length-sets}
 use Rattle.number_bytes.specs.Bytes.{bytesOf}
 use Rattle.refusals.specs.Rings.{verticesMost, total}
 use Rattle.book_layout.specs.Layout.{fieldBytes, vertexBytes, entryBytes, entries}
-use Rattle.refusals.proofs.Counts.{total-bounds, sum-is}
+use Rattle.refusals.proofs.Counts.{total-bounds}
 use Rattle.book_writer.proofs.Storing.{stored}
 use Rattle.book_writer.proofs.Stored.{four-runs}
 use Rattle.book_writer.proofs.store.put_book.Statement.{statement}
 use Rattle.book_writer.proofs.store.put_book.Tie as tie
 
 sum-of-requires : tie.Need-sum-of-requires
-sum-of-requires c κs = search needs
+sum-of-requires c κs = let s = c .before .before .before in s .pre .0 .few
 
 -- what is lent, the sum, and that it is small
 module _ (c : tie.After-sum-of) where
@@ -34,7 +34,7 @@ module _ (c : tie.After-sum-of) where
   room = s .args .room .now
 
   sum : c .sum-of .result ≡ total ns
-  sum = sum-is ns (c .sum-of .result) (c .sum-of .ensures) (s .pre .0 .sized)
+  sum = c .sum-of .ensures .0
 
   small : total ns ≤ verticesMost * length ns
   small = total-bounds ns (s .pre .0 .sized) .1

@@ -1,5 +1,6 @@
 -- `byrlygent::book::byr_write_book` meets its contract: the call's answer, handed over. Assumes nothing.
 use borrow.Author.Needs.{needs}
+use Rattle.handed.proofs.Told.{number-told, place-told}
 use Rattle.byrlygent.proofs.book.byr_write_book.Statement.{statement}
 use Rattle.byrlygent.proofs.book.byr_write_book.Tie as tie
 
@@ -9,15 +10,20 @@ write-book-requires c κs = search needs
 hand-count-requires : tie.Need-hand-count-requires
 hand-count-requires c κs = search needs
 
+hand-refusal-requires : tie.Need-hand-refusal-requires
+hand-refusal-requires c κs = search needs
+
 same-length : tie.Need-same-length
 same-length c = search needs
 
 returns : tie.Need-returns
 returns c =
-    let e = c .before .before .before .before .write-book .ensures in
-    let h = c .hand-count .ensures in
-    (rw (← e .0) (h .0), (rw (← e .0) (h .1), e .1))
+    let k = c .before .before in
+    let e = k .before .before .before .before .write-book .ensures in
+    let h = k .hand-count .ensures in
+    let n = c .hand-refusal .ensures in
+    (number-told (e .0) (h .0) (n .0), (rw (← e .0) (h .1), (place-told (e .0) (h .0) _ (n .1), e .1)))
 
 pub byr-write-book-spec : {M : Type 1} → statement M
 byr-write-book-spec =
-    tie.close (tie.spec write-book-requires hand-count-requires same-length returns)
+    tie.close (tie.spec write-book-requires hand-count-requires hand-refusal-requires same-length returns)

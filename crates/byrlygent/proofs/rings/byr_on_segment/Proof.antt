@@ -1,5 +1,7 @@
 -- `byrlygent::rings::byr_on_segment` meets its contract: the call's answer, handed over. Assumes nothing.
+use mathlib.Core.Path.{refl}
 use borrow.Author.Needs.{needs}
+use Rattle.handed.proofs.Told.{number-told}
 use Rattle.byrlygent.proofs.rings.byr_on_segment.Statement.{statement}
 use Rattle.byrlygent.proofs.rings.byr_on_segment.Tie as tie
 
@@ -13,7 +15,7 @@ returns : tie.Need-returns
 returns c =
     let e = c .before .before .on-segment .ensures in
     let h = c .hand-truth .ensures in
-    (rw (← e) (h .0), rw (← e) (h .1))
+    (number-told e (h .0) refl, rw (← e) (h .1))
 
 pub byr-on-segment-spec : {M : Type 1} → statement M
 byr-on-segment-spec = tie.close (tie.spec on-segment-requires hand-truth-requires returns)

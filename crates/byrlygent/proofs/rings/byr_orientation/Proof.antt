@@ -1,5 +1,7 @@
 -- `byrlygent::rings::byr_orientation` meets its contract: the call's answer, handed over. Assumes nothing.
+use mathlib.Core.Path.{refl}
 use borrow.Author.Needs.{needs}
+use Rattle.handed.proofs.Told.{number-told}
 use Rattle.byrlygent.proofs.rings.byr_orientation.Statement.{statement}
 use Rattle.byrlygent.proofs.rings.byr_orientation.Tie as tie
 
@@ -13,7 +15,7 @@ returns : tie.Need-returns
 returns c =
     let e = c .before .before .orientation .ensures in
     let h = c .hand-turn .ensures in
-    (rw (← e) (h .0), rw (← e) (h .1))
+    (number-told e (h .0) refl, rw (← e) (h .1))
 
 pub byr-orientation-spec : {M : Type 1} → statement M
 byr-orientation-spec = tie.close (tie.spec orientation-requires hand-turn-requires returns)

@@ -1,5 +1,7 @@
 -- `byrlygent::rings::byr_point_segment_distance` meets its contract: the call's answer, handed over. Assumes nothing.
+use mathlib.Core.Path.{refl}
 use borrow.Author.Needs.{needs}
+use Rattle.handed.proofs.Told.{number-told}
 use Rattle.byrlygent.proofs.rings.byr_point_segment_distance.Statement.{statement}
 use Rattle.byrlygent.proofs.rings.byr_point_segment_distance.Tie as tie
 
@@ -13,7 +15,7 @@ returns : tie.Need-returns
 returns c =
     let e = c .before .before .point-segment-distance .ensures in
     let h = c .hand-number .ensures in
-    (rw (← e) (h .0), rw (← e) (h .1))
+    (number-told e (h .0) refl, rw (← e) (h .1))
 
 pub byr-point-segment-distance-spec : {M : Type 1} → statement M
 byr-point-segment-distance-spec =

@@ -1,5 +1,7 @@
 -- `byrlygent::rings::byr_segments_intersect` meets its contract: the call's answer, handed over. Assumes nothing.
+use mathlib.Core.Path.{refl}
 use borrow.Author.Needs.{needs}
+use Rattle.handed.proofs.Told.{number-told}
 use Rattle.byrlygent.proofs.rings.byr_segments_intersect.Statement.{statement}
 use Rattle.byrlygent.proofs.rings.byr_segments_intersect.Tie as tie
 
@@ -13,7 +15,7 @@ returns : tie.Need-returns
 returns c =
     let e = c .before .before .segments-intersect .ensures in
     let h = c .hand-truth .ensures in
-    (rw (← e) (h .0), rw (← e) (h .1))
+    (number-told e (h .0) refl, rw (← e) (h .1))
 
 pub byr-segments-intersect-spec : {M : Type 1} → statement M
 byr-segments-intersect-spec =

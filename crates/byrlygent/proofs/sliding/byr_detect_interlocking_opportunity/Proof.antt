@@ -1,5 +1,6 @@
 -- `byrlygent::sliding::byr_detect_interlocking_opportunity` meets its contract: the call's answer, handed over. Assumes nothing.
 use borrow.Author.Needs.{needs}
+use Rattle.handed.proofs.Told.{number-told, place-told}
 use Rattle.byrlygent.proofs.sliding.byr_detect_interlocking_opportunity.Statement.{
   statement,
 }
@@ -11,12 +12,17 @@ detect-interlocking-opportunity-requires c κs = search needs
 hand-position-requires : tie.Need-hand-position-requires
 hand-position-requires c κs = search needs
 
+hand-refusal-requires : tie.Need-hand-refusal-requires
+hand-refusal-requires c κs = search needs
+
 returns : tie.Need-returns
 returns c =
-    let e = c .before .before .before .before .detect-interlocking-opportunity .ensures in
-    let h = c .hand-position .ensures in
-    (rw (← e) (h .0), (rw (← e) (h .1), (rw (← e) (h .2), rw (← e) (h .3))))
+    let k = c .before .before in
+    let e = k .before .before .before .before .detect-interlocking-opportunity .ensures in
+    let h = k .hand-position .ensures in
+    let n = c .hand-refusal .ensures in
+    (number-told e (h .0) (n .0), (rw (← e) (h .1), (rw (← e) (h .2), (rw (← e) (h .3), place-told e (h .0) _ (n .1)))))
 
 pub byr-detect-interlocking-opportunity-spec : {M : Type 1} → statement M
 byr-detect-interlocking-opportunity-spec =
-    tie.close (tie.spec detect-interlocking-opportunity-requires hand-position-requires returns)
+    tie.close (tie.spec detect-interlocking-opportunity-requires hand-position-requires hand-refusal-requires returns)

@@ -1,5 +1,6 @@
 -- `byrlygent::sliding::byr_handle_perfect_fit` meets its contract: the call's answer, handed over. Assumes nothing.
 use borrow.Author.Needs.{needs}
+use Rattle.handed.proofs.Told.{number-told, place-told}
 use Rattle.byrlygent.proofs.sliding.byr_handle_perfect_fit.Statement.{statement}
 use Rattle.byrlygent.proofs.sliding.byr_handle_perfect_fit.Tie as tie
 
@@ -9,6 +10,9 @@ handle-perfect-fit-requires c κs = search needs
 hand-count-requires : tie.Need-hand-count-requires
 hand-count-requires c κs = search needs
 
+hand-refusal-requires : tie.Need-hand-refusal-requires
+hand-refusal-requires c κs = search needs
+
 same-length : tie.Need-same-length
 same-length c = search needs
 
@@ -17,11 +21,13 @@ same-length-2 c = search needs
 
 returns : tie.Need-returns
 returns c =
-    let e = c .before .before .before .before .before .before .handle-perfect-fit .ensures in
-    let h = c .hand-count .ensures in
-    (rw (← e .0) (h .0), (rw (← e .0) (h .1), (e .1, e .2)))
+    let k = c .before .before in
+    let e = k .before .before .before .before .before .before .handle-perfect-fit .ensures in
+    let h = k .hand-count .ensures in
+    let n = c .hand-refusal .ensures in
+    (number-told (e .0) (h .0) (n .0), (rw (← e .0) (h .1), (place-told (e .0) (h .0) _ (n .1), (e .1, e .2))))
 
 pub byr-handle-perfect-fit-spec : {M : Type 1} → statement M
 byr-handle-perfect-fit-spec =
     tie.close
-    (tie.spec handle-perfect-fit-requires hand-count-requires same-length same-length-2 returns)
+    (tie.spec handle-perfect-fit-requires hand-count-requires hand-refusal-requires same-length same-length-2 returns)

@@ -1,5 +1,6 @@
 -- `byrlygent::sliding::byr_polygons_overlap` meets its contract: the call's answer, handed over. Assumes nothing.
 use borrow.Author.Needs.{needs}
+use Rattle.handed.proofs.Told.{number-told, place-told}
 use Rattle.byrlygent.proofs.sliding.byr_polygons_overlap.Statement.{statement}
 use Rattle.byrlygent.proofs.sliding.byr_polygons_overlap.Tie as tie
 
@@ -9,12 +10,17 @@ polygons-overlap-requires c κs = search needs
 hand-truth-requires : tie.Need-hand-truth-requires
 hand-truth-requires c κs = search needs
 
+hand-refusal-requires : tie.Need-hand-refusal-requires
+hand-refusal-requires c κs = search needs
+
 returns : tie.Need-returns
 returns c =
-    let e = c .before .before .polygons-overlap .ensures in
-    let h = c .hand-truth .ensures in
-    (rw (← e) (h .0), rw (← e) (h .1))
+    let k = c .before .before in
+    let e = k .before .before .polygons-overlap .ensures in
+    let h = k .hand-truth .ensures in
+    let n = c .hand-refusal .ensures in
+    (number-told e (h .0) (n .0), (rw (← e) (h .1), place-told e (h .0) _ (n .1)))
 
 pub byr-polygons-overlap-spec : {M : Type 1} → statement M
 byr-polygons-overlap-spec =
-    tie.close (tie.spec polygons-overlap-requires hand-truth-requires returns)
+    tie.close (tie.spec polygons-overlap-requires hand-truth-requires hand-refusal-requires returns)

@@ -1,7 +1,7 @@
 -- `handed::value::hand_truth` meets its contract: the two cases. Assumes nothing.
 use borrow.Author.Needs.{needs}
 use mathlib.Core.Path.{refl}
-use Rattle.handed.specs.Handed.{returned, told}
+use Rattle.handed.specs.Handed.{refusalIn, told}
 use Rattle.handed.proofs.Flag.{flag-is}
 use Rattle.handed.proofs.value.hand_truth.Statement.{statement}
 use Rattle.handed.proofs.value.hand_truth.Tie as tie
@@ -12,17 +12,20 @@ enum-known-answer c = search needs
 cast-out : tie.Need-cast-out
 cast-out c = search needs
 
+none-requires : tie.Need-none-requires
+none-requires c κs = search needs
+
 enum-known-answer-2 : tie.Need-enum-known-answer-2
 enum-known-answer-2 c = search needs
 
 returns : tie.Need-returns
-unfolding returned told
-returns c = rw (c .before .answer .given .1) (refl, flag-is (c .before .answer .given .0 .0))
+unfolding refusalIn told
+returns c = rw (c .before .before .answer .given .1) (c .none .ensures, flag-is (c .before .before .answer .given .0 .0))
 
 returns-2 : tie.Need-returns-2
-unfolding returned told
+unfolding refusalIn told
 returns-2 c = rw (c .before .answer2 .given .1) (refl, refl)
 
 pub hand-truth-spec : {M : Type 1} → statement M
 hand-truth-spec =
-    tie.close (tie.spec enum-known-answer cast-out enum-known-answer-2 returns returns-2)
+    tie.close (tie.spec enum-known-answer cast-out none-requires enum-known-answer-2 returns returns-2)

@@ -6,8 +6,8 @@ use Rattle.refusals.proofs.First.{on, off}
 use Rattle.refusals.proofs.row.list.Statement.{statement}
 use Rattle.refusals.proofs.row.list.Tie as tie
 
-list-length-requires : tie.Need-list-length-requires
-list-length-requires c κs = search needs
+points-requires : tie.Need-points-requires
+points-requires c κs = search needs
 
 passed-requires : tie.Need-passed-requires
 passed-requires c κs = search needs
@@ -27,19 +27,19 @@ returns c =
     let t = c .before .before .before in
     let d = t .before in
     let e = rw (c .before .tolerance .ensures, c .before .before .finite-numbers .ensures) at (c .first .ensures) in
-    e ∙ sym (on _ _ (d .before .list-length .ensures) (d .passed .ensures) (t .if1 .taken))
+    e ∙ sym (on _ _ (d .before .points .ensures) (d .passed .ensures) (t .if1 .taken))
 
 returns-2 : tie.Need-returns-2
 unfolding ofList
 returns-2 c =
     let d = c .before in
-    d .before .list-length .ensures ∙ sym (off _ _ (d .before .list-length .ensures) (d .passed .ensures) (c .if1 .left))
+    d .before .points .ensures ∙ sym (off _ _ (d .before .points .ensures) (d .passed .ensures) (c .if1 .left))
 
 pub list-spec : {M : Type 1} → statement M
 list-spec =
     tie.close
     (tie.spec
-    list-length-requires
+    points-requires
     passed-requires
     finite-numbers-requires
     tolerance-requires

@@ -6,8 +6,8 @@ use Rattle.refusals.proofs.First.{on, off}
 use Rattle.refusals.proofs.row.ring.Statement.{statement}
 use Rattle.refusals.proofs.row.ring.Tie as tie
 
-ring-length-requires : tie.Need-ring-length-requires
-ring-length-requires c κs = search needs
+ring-requires : tie.Need-ring-requires
+ring-requires c κs = search needs
 
 passed-requires : tie.Need-passed-requires
 passed-requires c κs = search needs
@@ -19,14 +19,14 @@ returns : tie.Need-returns
 unfolding ofRing
 returns c =
     let d = c .before .before in
-    c .numbers .ensures ∙ sym (on _ _ (d .before .ring-length .ensures) (d .passed .ensures) (c .before .if1 .taken))
+    c .numbers .ensures ∙ sym (on _ _ (d .before .ring .ensures) (d .passed .ensures) (c .before .if1 .taken))
 
 returns-2 : tie.Need-returns-2
 unfolding ofRing
 returns-2 c =
     let d = c .before in
-    d .before .ring-length .ensures ∙ sym (off _ _ (d .before .ring-length .ensures) (d .passed .ensures) (c .if1 .left))
+    d .before .ring .ensures ∙ sym (off _ _ (d .before .ring .ensures) (d .passed .ensures) (c .if1 .left))
 
 pub ring-spec : {M : Type 1} → statement M
 ring-spec =
-    tie.close (tie.spec ring-length-requires passed-requires numbers-requires returns returns-2)
+    tie.close (tie.spec ring-requires passed-requires numbers-requires returns returns-2)

@@ -1,15 +1,14 @@
--- `refusals::row::two_polygons` meets its contract: both lengths, then both lists of numbers. Assumes nothing.
+-- `refusals::row::two_polygons` meets its contract: the faults of both, then the numbers of both. Assumes nothing.
 use borrow.Author.Needs.{needs}
 use Rattle.refusals.specs.Rows.{ofTwoPolygons}
-use Rattle.refusals.proofs.First.{two-then}
 use Rattle.refusals.proofs.row.two_polygons.Statement.{statement}
 use Rattle.refusals.proofs.row.two_polygons.Tie as tie
 
-polygon-length-requires : tie.Need-polygon-length-requires
-polygon-length-requires c κs = search needs
+polygon-requires : tie.Need-polygon-requires
+polygon-requires c κs = search needs
 
-polygon-length-requires-2 : tie.Need-polygon-length-requires-2
-polygon-length-requires-2 c κs = search needs
+polygon-requires-2 : tie.Need-polygon-requires-2
+polygon-requires-2 c κs = search needs
 
 first-requires : tie.Need-first-requires
 first-requires c κs = search needs
@@ -21,14 +20,14 @@ returns : tie.Need-returns
 unfolding ofTwoPolygons
 returns c =
     let l = c .before .before in
-    two-then _ (l .before .polygon-length .ensures) (l .polygon-length2 .ensures) (c .before .first .ensures) (c .both .ensures)
+    rw (c .both .ensures, c .before .first .ensures, l .polygon2 .ensures, l .before .polygon .ensures)
 
 pub two-polygons-spec : {M : Type 1} → statement M
 two-polygons-spec =
     tie.close
     (tie.spec
-    polygon-length-requires
-    polygon-length-requires-2
+    polygon-requires
+    polygon-requires-2
     first-requires
     both-requires
     returns)

@@ -53,8 +53,8 @@ fn contacts(n: usize) -> Sides {
     let (mut which, mut points) = (vec![0_u64; 3 * 64], vec![0.0; 2 * 64]);
     let (an, bn) = (a.points.clone(), b.points.clone());
     let mut ours = move || {
-        let mut count = 0;
-        // SAFETY: all lists are as long as is said, and the answer has a place.
+        let (mut count, mut place) = (0, 0);
+        // SAFETY: all lists are as long as is said, and every pointer has its cell.
         let number = unsafe {
             ffi::byr_find_contacts(
                 a.list.as_ptr(),
@@ -67,6 +67,7 @@ fn contacts(n: usize) -> Sides {
                 points.as_mut_ptr(),
                 points.len(),
                 &mut count,
+                &mut place,
             )
         };
         (number, count)
@@ -83,8 +84,8 @@ fn collision(n: usize) -> Sides {
     let by = (3.0, 9.0);
     let ours = move || {
         let (mut found, mut distance, mut kind) = (0, 0.0, 0);
-        let (mut stationary, mut orbiting) = (0, 0);
-        // SAFETY: both lists are as long as is said, and every answer has a place.
+        let (mut stationary, mut orbiting, mut place) = (0, 0, 0);
+        // SAFETY: both lists are as long as is said, and every pointer has its cell.
         let number = unsafe {
             ffi::byr_check_translation_collision(
                 a.list.as_ptr(),
@@ -99,6 +100,7 @@ fn collision(n: usize) -> Sides {
                 &mut kind,
                 &mut stationary,
                 &mut orbiting,
+                &mut place,
             )
         };
         (number, found, distance)
@@ -113,11 +115,10 @@ fn simple(n: usize) -> Sides {
     let ring = Lent::new(disc(n, 10.0));
     let points = ring.points.clone();
     let ours = move || {
-        let mut simple = 0;
-        // SAFETY: the list is as long as is said, and the answer has a place.
-        let number = unsafe {
-            ffi::byr_is_simple_polygon(black_box(ring.list.as_ptr()), ring.list.len(), &mut simple)
-        };
+        let (mut simple, mut place) = (0, 0);
+        let (list, n) = (black_box(ring.list.as_ptr()), ring.list.len());
+        // SAFETY: the list is as long as is said, and every pointer has its cell.
+        let number = unsafe { ffi::byr_is_simple_polygon(list, n, &mut simple, &mut place) };
         (number, simple)
     };
     let rust = move || polygon_ops::is_simple_polygon(black_box(&points));
@@ -130,12 +131,12 @@ fn distance(n: usize) -> Sides {
     let [a, b] = [Lent::new(disc(n, 10.0)), Lent::new(placed(&disc(n, 4.0), 1.0, 20.0, 3.0))];
     let (an, bn) = (a.points.clone(), b.points.clone());
     let ours = move || {
-        let mut distance = 0.0;
-        let (list, other) = (black_box(a.list.as_ptr()), b.list.as_ptr());
-        // SAFETY: both lists are as long as is said, and the answer has a place.
-        let number = unsafe {
-            ffi::byr_ring_distance(list, a.list.len(), other, b.list.len(), &mut distance)
-        };
+        let (mut distance, mut place) = (0.0, 0);
+        let (list, n) = (black_box(a.list.as_ptr()), a.list.len());
+        let (other, m) = (b.list.as_ptr(), b.list.len());
+        // SAFETY: both lists are as long as is said, and every pointer has its cell.
+        let number =
+            unsafe { ffi::byr_ring_distance(list, n, other, m, &mut distance, &mut place) };
         (number, distance)
     };
     let rust = move || polygon_ops::ring_distance(black_box(&an), &bn);
@@ -168,8 +169,8 @@ fn writing(equal: bool) -> Sides {
     let (mut room, mut plain) = (vec![0; 32_840], vec![0; 32_840]);
     let same = list.clone();
     let write = move |room: &mut [u8]| {
-        let mut length = 0;
-        // SAFETY: all lists are as long as is said, and the answer has a place.
+        let (mut length, mut place) = (0, 0);
+        // SAFETY: all lists are as long as is said, and every pointer has its cell.
         let number = unsafe {
             ffi::byr_write_book(
                 list.as_ptr(),
@@ -179,6 +180,7 @@ fn writing(equal: bool) -> Sides {
                 room.as_mut_ptr(),
                 room.len(),
                 &mut length,
+                &mut place,
             )
         };
         (number, length)
@@ -196,7 +198,7 @@ fn reading(equal: bool) -> Sides {
     let same = book.clone();
     let read = move |coordinates: &mut [f64], counts: &mut [u32]| {
         let (mut rings, mut place) = (0, 0);
-        // SAFETY: all lists are as long as is said, and both answers have a place.
+        // SAFETY: all lists are as long as is said, and every pointer has its cell.
         let number = unsafe {
             ffi::byr_read_book(
                 book.as_ptr(),

@@ -43,8 +43,8 @@ type Told = (u32, u64, u64, u64, u32);
 /// The library's trace into these rooms.
 pub fn by_library(pair: &[Lent; 2], passes: usize, work: &mut [f64], result: &mut [f64]) -> Told {
     let (config, [a, b]) = (settings(passes), pair);
-    let (mut points, mut stored, mut begun, mut stop) = (0, 0, 0, 0);
-    // SAFETY: all lists are as long as is said, and every answer has a place.
+    let (mut points, mut stored, mut begun, mut stop, mut place) = (0, 0, 0, 0, 0);
+    // SAFETY: all lists are as long as is said, and every pointer has its cell.
     let number = unsafe {
         ffi::byr_compute_nfp_sliding(
             a.list.as_ptr(),
@@ -62,6 +62,7 @@ pub fn by_library(pair: &[Lent; 2], passes: usize, work: &mut [f64], result: &mu
             &mut stored,
             &mut begun,
             &mut stop,
+            &mut place,
         )
     };
     (number, points, stored, begun, stop)
