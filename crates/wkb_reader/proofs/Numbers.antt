@@ -1,16 +1,17 @@
 -- The reader's loops over coordinates: what is left of the check, and of what is loaded. Assumes nothing.
-use Prim.Native.Nat.{ℕ, suc, _+_, _-_, _*_, _≤_, _<_}
+use Prim.Native.Nat.{ℕ, zero, suc, _+_, _-_, _*_, _≤_, _<_}
 use native.Mathlib.Omega.{arith}
-use mathlib.Core.Path.{_≡_, ap, ap₂, _∙_}
+use mathlib.Core.Path.{_≡_, refl, ap, ap₂, _∙_}
 use mathlib.Core.Bool.{true, false}
 use mathlib.Core.List.{List, map}
-use lib.ListN.{drop, set}
+use lib.ListN.{length, drop, set}
 use lib.Seq.{sets, drop-drop}
 use lib.Ieee.{Float, binary64, ofBits}
 use Rattle.refusals.specs.Refusals.{refusedWkb, none, refuse, first}
 use Rattle.refusals.specs.Bounds.{coordinate}
 use Rattle.refusals.specs.declared.Refusal.{Refusal}
 use Rattle.wkb_layout.specs.Layout.{headBytes, numberBytes, orderIn, bitsIn, numbersIn}
+use Rattle.wkb_layout.specs.declared.Order.{Order}
 use Rattle.wkb_layout.specs.Faults.{wkbFault, numberIn, numbersCheck}
 
 -- the byte of coordinate j
@@ -23,6 +24,11 @@ checkFrom f k j = numbersCheck (orderIn f) k (numberAt j) (drop (numberAt j) f)
 
 abbrev pub numbersFrom : List ℕ → ℕ → ℕ → List Float
 numbersFrom f k j = map (ofBits binary64) (numbersIn (orderIn f) k (drop (numberAt j) f))
+
+pub length-numbers : (o : Order) (k : ℕ) (f : List ℕ) → length (numbersIn o k f) ≡ k
+unfolding numbersIn
+length-numbers o zero f = refl
+length-numbers o (suc k) f = ap suc (length-numbers o k (drop numberBytes f))
 
 next : (j : ℕ) → numberAt j + numberBytes ≡ numberAt (j + 1)
 next j = omega arith
@@ -54,7 +60,17 @@ module _ (f : List ℕ) (m j : ℕ) (h : j < m) where
       ap (λ (n : ℕ). sets room j (numbersFrom f n j)) more
       ∙ ap₂ (λ (i : ℕ) (g : List ℕ). sets r i (map (ofBits binary64) (numbersIn (orderIn f) (m - (j + 1)) g))) e (drop-drop numberBytes (numberAt j) f ∙ ap (λ (q : ℕ). drop q f) (next j))
 
--- at the end of the loops
+-- at the start of the loops, and at their end
+module _ (f : List ℕ) (m : ℕ) where
+  all : m ≡ m - 0
+  all = omega arith
+
+  pub check-start : checkFrom f m 0 ≡ checkFrom f (m - 0) 0
+  check-start = ap (λ (n : ℕ). checkFrom f n 0) all
+
+  pub load-start : numbersFrom f m 0 ≡ numbersFrom f (m - 0) 0
+  load-start = ap (λ (n : ℕ). numbersFrom f n 0) all
+
 module _ (f : List ℕ) (m j : ℕ) (h : m ≤ j) where
   done : m - j ≡ 0
   done = omega arith

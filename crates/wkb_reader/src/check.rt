@@ -9,10 +9,10 @@ use refusals::test::is_coordinate;
 use wkb_layout::HEAD_BYTES;
 use wkb_layout::NUMBER_BYTES;
 use wkb_layout::Order;
+use wkb_layout::POINT_BYTES;
 use wkb_layout::POINTS_AT;
 use wkb_layout::POINTS_LEAST;
 use wkb_layout::POINTS_MOST;
-use wkb_layout::POINT_BYTES;
 use wkb_layout::POLYGON_TYPE;
 use wkb_layout::RINGS_AT;
 use wkb_layout::TYPE_AT;
@@ -121,12 +121,11 @@ fn closing(f: &[u8], n: usize) -> Refusal
     ensures { λ r. ⌜ r ≡ wkbFault (closes (now (f .entry))) (closingAt (now (f .entry))) ⌝ }
 {
     let last = HEAD_BYTES + POINT_BYTES * n;
-    if number(f, HEAD_BYTES) != number(f, last) {
-        return Refusal::new(REFUSED_WKB, last as u64);
-    }
-    let y = number(f, HEAD_BYTES + NUMBER_BYTES);
-    let closed = y == number(f, last + NUMBER_BYTES);
-    unless(closed, REFUSED_WKB, last as u64)
+    let x = number(f, HEAD_BYTES) == number(f, last);
+    let y = number(f, HEAD_BYTES + NUMBER_BYTES) == number(f, last + NUMBER_BYTES);
+    let by_x = unless(x, REFUSED_WKB, last as u64);
+    let by_y = unless(y, REFUSED_WKB, last as u64);
+    first(by_x, by_y)
 }
 
 // All checks of a file.

@@ -53,6 +53,6 @@ pub fn put_drawing(xs: &[f64], room: &mut [u8]) -> usize
     let last = HEAD_BYTES + NUMBER_BYTES * n;
     put_head((n / 2 + 1) as u64, room);
     put_numbers(xs, room, HEAD_BYTES);
-    put_numbers(&xs[..2], room, last);
+    put_numbers(&xs[0..2], room, last);
     last + 2 * NUMBER_BYTES
 }

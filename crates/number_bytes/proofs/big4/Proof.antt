@@ -60,7 +60,7 @@ returns : tie.Need-returns
 returns c =
     let s = c .before .before .before .before .before .before .before .before .before in
     let f = s .args .f .now in
-    ((omega (arith, four f (s .args .at) (s .pre), c .before .before .before .before .before .before .wide .ensures .0, c .before .before .before .before .wide2 .ensures .0, c .before .before .wide3 .ensures .0, c .wide4 .ensures .0)), (omega arith))
+    ((omega (arith, big-four f (s .args .at) (s .pre), c .before .before .before .before .before .before .wide .ensures .0, c .before .before .before .before .wide2 .ensures .0, c .before .before .wide3 .ensures .0, c .wide4 .ensures .0)), (omega arith))
 
 pub big4-spec : {M : Type 1} → statement M
 big4-spec =
