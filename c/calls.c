@@ -971,6 +971,275 @@ static void reading(void) {
     CHECK(counts[0] == 3 && counts[1] == HELD_WORD && place == HELD_COUNT);
 }
 
+/* ---- Drawings in well-known binary ---- */
+
+/* The triangle (0,0), (4,0), (0,3), little-endian. */
+static const uint8_t WKB[77] = {
+    1, 3, 0, 0, 0, 1, 0, 0,    0,    4, 0, 0, 0,             /* byte order, type, rings, points */
+    0, 0, 0, 0, 0, 0, 0,    0,    0, 0, 0, 0, 0, 0, 0, 0,    /* (0,0), from byte 13 on */
+    0, 0, 0, 0, 0, 0, 0x10, 0x40, 0, 0, 0, 0, 0, 0, 0, 0,    /* (4,0), from byte 29 on */
+    0, 0, 0, 0, 0, 0, 0,    0,    0, 0, 0, 0, 0, 0, 8, 0x40, /* (0,3), from byte 45 on */
+    0, 0, 0, 0, 0, 0, 0,    0,    0, 0, 0, 0, 0, 0, 0, 0};   /* (0,0), from byte 61 on */
+
+/* Bytes of the longest drawing, of 257 points, and of one with a point more. */
+enum { LONGEST = 13 + 16 * 257, LONGER = 13 + 16 * 258 };
+
+/* That drawing with two bytes changed and zeros after it, lent at some length; and
+ * the place of its fault. */
+struct drawing {
+    size_t n;
+    struct {
+        size_t at;
+        uint8_t byte;
+    } changed[2];
+    uint64_t place;
+};
+
+static const struct drawing DRAWINGS[] = {
+    /* Each field by itself. A change to what stands there already changes nothing. */
+    {0, {{1, 3}, {1, 3}}, 0},
+    {12, {{1, 3}, {1, 3}}, 0},
+    {77, {{0, 2}, {1, 3}}, 0},
+    {77, {{0, 0xfe}, {1, 3}}, 0},
+    {77, {{1, 1}, {1, 1}}, 1},
+    {77, {{2, 1}, {1, 3}}, 1},
+    {77, {{1, 0xeb}, {2, 3}}, 1},
+    {77, {{4, 0x20}, {1, 3}}, 1},
+    {77, {{4, 0x80}, {1, 3}}, 1},
+    {77, {{5, 0}, {1, 3}}, 5},
+    {77, {{5, 2}, {1, 3}}, 5},
+    {77, {{8, 1}, {1, 3}}, 5},
+    {61, {{9, 3}, {1, 3}}, 9},
+    {13, {{9, 0}, {1, 3}}, 9},
+    {LONGER, {{9, 2}, {10, 1}}, 9},
+    {77, {{12, 1}, {1, 3}}, 9},
+    {76, {{1, 3}, {1, 3}}, 0},
+    {78, {{1, 3}, {1, 3}}, 0},
+    {93, {{1, 3}, {1, 3}}, 0},
+    {13, {{1, 3}, {1, 3}}, 0},
+    {77, {{9, 5}, {1, 3}}, 0},
+    {77, {{19, 0xf0}, {20, 0x7f}}, 13}, /* infinite */
+    {77, {{27, 0xf8}, {28, 0xff}}, 21}, /* NaN */
+    {77, {{36, 0x7f}, {1, 3}}, 29},     /* finite, too large */
+    {77, {{60, 0xc8}, {1, 3}}, 53},
+    {77, {{68, 0x7f}, {67, 0xf0}}, 61},
+    {77, {{76, 0x7f}, {1, 3}}, 69},
+    {93, {{9, 5}, {76, 0x7f}}, 69},
+    {77, {{61, 1}, {1, 3}}, 61}, /* the closing point's x, and then its y */
+    {77, {{69, 1}, {1, 3}}, 61},
+    {77, {{76, 0xbf}, {1, 3}}, 61},
+    /* Two at once: the first in the order of the header speaks. */
+    {12, {{1, 4}, {5, 2}}, 0},
+    {77, {{0, 2}, {1, 4}}, 0},
+    {77, {{1, 4}, {5, 2}}, 1},
+    {78, {{1, 4}, {1, 4}}, 1},
+    {77, {{5, 2}, {9, 3}}, 5},
+    {78, {{5, 2}, {5, 2}}, 5},
+    {77, {{9, 3}, {20, 0x7f}}, 9},
+    {78, {{9, 3}, {9, 3}}, 9},
+    {78, {{20, 0x7f}, {61, 1}}, 0},
+    {77, {{52, 0x7f}, {28, 0x7f}}, 21},
+    {77, {{36, 0x7f}, {61, 1}}, 29},
+    {77, {{61, 1}, {76, 0x7f}}, 69},
+};
+
+/* Writes a little-endian drawing big-endian: the 4 or 8 bytes of each field are
+ * turned round. */
+static void turned(uint8_t *to, const uint8_t *from, size_t n) {
+    size_t at;
+    size_t i;
+
+    to[0] = from[0] ^ 1;
+    for (at = 1; at < n; at += at < 13 ? 4 : 8) {
+        size_t width = at < 13 ? 4 : 8;
+        for (i = 0; i < width; i++) {
+            to[at + i] = from[at + width - 1 - i];
+        }
+    }
+}
+
+/* Whether a drawing is refused with 10 at this place, in rooms of 7 doubles and of
+ * none, and all else left as it was. */
+static int refused_at(const uint8_t *wkb, size_t n, uint64_t expected) {
+    double room[7];
+    uint64_t vertices = HELD_COUNT;
+    uint64_t place = HELD_COUNT;
+    uint64_t again = HELD_COUNT;
+
+    hold(room, 7);
+    return byr_read_wkb(wkb, n, room, 7, &vertices, &place) == BYR_REFUSED_WKB && place == expected &&
+           byr_read_wkb(wkb, n, NULL, 0, &vertices, &again) == BYR_REFUSED_WKB && again == expected &&
+           held(room, 0, 7) && vertices == HELD_COUNT;
+}
+
+static void refused_drawings(void) {
+    uint8_t little[LONGER];
+    uint8_t big[LONGER];
+    size_t i;
+    int k;
+
+    for (i = 0; i < sizeof DRAWINGS / sizeof *DRAWINGS; i++) {
+        const struct drawing *d = &DRAWINGS[i];
+        row = i + 1;
+        memset(little, 0, sizeof little);
+        memcpy(little, WKB, sizeof WKB);
+        for (k = 0; k < 2; k++) {
+            little[d->changed[k].at] = d->changed[k].byte;
+        }
+        turned(big, little, sizeof big);
+        CHECK(refused_at(little, d->n, d->place));
+        CHECK(refused_at(big, d->n, d->place));
+    }
+    row = 0;
+    CHECK(refused_at(NULL, 0, 0));
+}
+
+/* Reads a drawing of four points in either order: the room one double short, then
+ * just long enough, then odd. */
+static void read_triangle(const uint8_t *wkb, const double *expected) {
+    double room[7];
+    uint64_t vertices = HELD_COUNT;
+    uint64_t place = HELD_COUNT;
+
+    hold(room, 7);
+    CHECK(byr_read_wkb(wkb, 77, room, 5, &vertices, &place) == BYR_REFUSED_ROOM);
+    CHECK(byr_read_wkb(wkb, 77, NULL, 0, &vertices, &place) == BYR_REFUSED_ROOM);
+    CHECK(held(room, 0, 7) && vertices == HELD_COUNT);
+    CHECK(byr_read_wkb(wkb, 77, room, 6, &vertices, &place) == 0 && vertices == 3);
+    CHECK(same_list(room, expected, 6) && held(room, 6, 7));
+    hold(room, 7);
+    vertices = HELD_COUNT;
+    CHECK(byr_read_wkb(wkb, 77, room, 7, &vertices, &place) == 0 && vertices == 3);
+    CHECK(same_list(room, expected, 6) && held(room, 6, 7));
+    CHECK(place == HELD_COUNT);
+}
+
+/* Closing points that are equal to the first, and not the same. */
+static void read_zeros(void) {
+    static const double minus[6] = {0, -0.0, 4, 0, 0, 3};
+    uint8_t little[77];
+    uint8_t big[77];
+
+    memcpy(little, WKB, sizeof little);
+    little[68] = 0x80;
+    turned(big, little, sizeof big);
+    read_triangle(little, TRIANGLE);
+    read_triangle(big, TRIANGLE);
+    little[28] = 0x80;
+    turned(big, little, sizeof big);
+    read_triangle(little, minus);
+    read_triangle(big, minus);
+}
+
+/* Rings that are longer, and one that itself ends in its first vertex. */
+static void read_longer(void) {
+    static double ring[512];
+    static double room[513];
+    uint8_t little[LONGEST];
+    uint8_t big[LONGEST];
+    uint64_t n = HELD_COUNT;
+    uint64_t vertices = HELD_COUNT;
+    uint64_t place = HELD_COUNT;
+    size_t i;
+
+    for (i = 0; i < 512; i++) {
+        ring[i] = (double)i / 3 - 1e6;
+    }
+    CHECK(byr_write_wkb(ring, 512, little, LONGEST, &n, &place) == 0 && n == LONGEST);
+    turned(big, little, sizeof big);
+    hold(room, 513);
+    CHECK(byr_read_wkb(big, LONGEST, room, 511, &vertices, &place) == BYR_REFUSED_ROOM && held(room, 0, 513));
+    CHECK(byr_read_wkb(big, LONGEST, room, 513, &vertices, &place) == 0 && vertices == 256);
+    CHECK(same_list(room, ring, 512) && held(room, 512, 513));
+    hold(room, 513);
+    CHECK(byr_read_wkb(little, LONGEST, room, 512, &vertices, &place) == 0 && vertices == 256);
+    CHECK(same_list(room, ring, 512));
+    little[13] = 1; /* past -1000000 */
+    CHECK(refused_at(little, LONGEST, 13));
+    CHECK(byr_write_wkb(CLOSED, 8, little, LONGEST, &n, &place) == 0 && n == 93);
+    CHECK(byr_read_wkb(little, 93, room, 8, &vertices, &place) == 0 && vertices == 4);
+    CHECK(same_list(room, CLOSED, 8) && place == HELD_COUNT);
+}
+
+static void reading_wkb(void) {
+    uint8_t odd[78];
+    uint8_t big[77];
+
+    begin("byr_read_wkb");
+    refused_drawings();
+    memcpy(odd + 1, WKB, sizeof WKB);
+    turned(big, WKB, sizeof big);
+    read_triangle(odd + 1, TRIANGLE);
+    read_triangle(big, TRIANGLE);
+    read_zeros();
+    read_longer();
+}
+
+/* A ring to write, and the number with which it is refused in a room of 76 bytes;
+ * the place is 0 with 1, 8 and 9. */
+struct ring {
+    const double *ring;
+    size_t n;
+    uint32_t number;
+    uint64_t place;
+};
+
+static const struct ring WRITTEN[] = {
+    {WRONG, 1, BYR_REFUSED_LENGTH, 0},
+    {WRONG, 5, BYR_REFUSED_LENGTH, 0},
+    {WRONG, 7, BYR_REFUSED_LENGTH, 0},
+    {WRONG, 513, BYR_REFUSED_LENGTH, 0},
+    {NULL, 0, BYR_REFUSED_FEW, 0},
+    {WRONG, 2, BYR_REFUSED_FEW, 0},
+    {WRONG, 4, BYR_REFUSED_FEW, 0},
+    {WRONG, 514, BYR_REFUSED_MANY, 0},
+    {WRONG, 6, BYR_REFUSED_NUMBER, HELD_COUNT},
+    {WRONG, 512, BYR_REFUSED_NUMBER, HELD_COUNT},
+    {GOOD, 6, BYR_REFUSED_ROOM, HELD_COUNT},
+    {GOOD, 512, BYR_REFUSED_ROOM, HELD_COUNT},
+};
+
+static void refused_rings(void) {
+    uint8_t room[76];
+    size_t i;
+
+    memset(room, 0xa5, sizeof room);
+    for (i = 0; i < sizeof WRITTEN / sizeof *WRITTEN; i++) {
+        const struct ring *r = &WRITTEN[i];
+        uint64_t length = HELD_COUNT;
+        uint64_t place = HELD_COUNT;
+        row = i + 1;
+        CHECK(byr_write_wkb(r->ring, r->n, room, 76, &length, &place) == r->number);
+        CHECK(place == r->place && length == HELD_COUNT);
+        CHECK(room[0] == 0xa5 && memcmp(room, room + 1, 75) == 0);
+    }
+    row = 0;
+}
+
+static void writing_wkb(void) {
+    static const double minus[6] = {-0.0, 0, 4, 0, 0, 3};
+    double wrong[6];
+    uint8_t room[80];
+    uint64_t length = HELD_COUNT;
+    uint64_t place = HELD_COUNT;
+
+    begin("byr_write_wkb");
+    refused_rings();
+    memset(room, 0xa5, sizeof room);
+    memcpy(wrong, TRIANGLE, sizeof wrong);
+    wrong[5] = past_million();
+    CHECK(byr_write_wkb(wrong, 6, room, 80, &length, &place) == BYR_REFUSED_NUMBER);
+    CHECK(byr_write_wkb(TRIANGLE, 6, NULL, 0, &length, &place) == BYR_REFUSED_ROOM);
+    CHECK(length == HELD_COUNT && room[0] == 0xa5 && memcmp(room, room + 1, 79) == 0);
+    CHECK(byr_write_wkb(TRIANGLE, 6, room + 1, 77, &length, &place) == 0 && length == 77);
+    CHECK(memcmp(room + 1, WKB, 77) == 0 && room[0] == 0xa5 && room[78] == 0xa5 && room[79] == 0xa5);
+    memset(room, 0xa5, sizeof room);
+    CHECK(byr_write_wkb(minus, 6, room, 80, &length, &place) == 0 && length == 77);
+    CHECK(room[20] == 0x80 && room[68] == 0x80 && room[77] == 0xa5 && room[79] == 0xa5);
+    room[20] = room[68] = 0;
+    CHECK(memcmp(room, WKB, 77) == 0 && place == HELD_COUNT);
+}
+
 int main(void) {
     interface();
     scalars();
@@ -992,6 +1261,8 @@ int main(void) {
     writing();
     closed_drawings();
     reading();
+    reading_wkb();
+    writing_wkb();
     told();
     printf("%d functions called from C, each as it should be\n", functions);
     return 0;

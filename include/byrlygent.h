@@ -1,5 +1,6 @@
 /*
- * Byrlygent: the sliding no-fit polygon, ring predicates and the outline book.
+ * Byrlygent: the sliding no-fit polygon, ring predicates, the outline book, and
+ * drawings in well-known binary.
  * Link libbyrlygent.a; of other libraries it needs only C's memcpy and memset.
  *
  * Every function is total: whatever is lent, it answers or refuses, and writes
@@ -10,13 +11,15 @@
  * is counted in elements of the pointed type, so a polygon of 4 vertices has
  * length 8. A list of length 0 may be NULL; a longer one may not, and nor may the
  * cell of an answer or of a place. Lent memory must be as long as is said and
- * aligned for its type; a book's bytes may stand at any address. What is written, a
- * room or a cell, must not overlap anything else that is lent. Lists that are only
- * read may overlap, or be one: to trace a part round itself, lend it twice.
+ * aligned for its type; the bytes of a book or of a drawing may stand at any
+ * address. What is written, a room or a cell, must not overlap anything else that is
+ * lent. Lists that are only read may overlap, or be one: to trace a part round
+ * itself, lend it twice.
  *
  * Rings are lent open: the last vertex is joined to the first. A closed drawing,
  * whose last vertex repeats the first, goes through byr_open_ring before any other
- * call. Lent as it is, the repeat counts as a vertex with an edge of no length.
+ * call. Lent as it is, the repeat counts as a vertex with an edge of no length. A
+ * drawing in well-known binary is read open, and closed as it is written.
  *
  * Answers. All functions but byr_abi_version and the scalars return 0, or the
  * number of a refusal, BYR_REFUSED_. Answers are written to cells, and to rooms, on
@@ -33,7 +36,8 @@
  * of one list 1, then 8, then 9 are tested before the next is looked at. Then 2 is
  * tested of all that is lent, and then 3, 4, 5 and 6 follow in the order of their
  * numbers. A function has those that its comment names. byr_write_book goes through
- * its rings in an order of its own, and byr_read_book tests 7, then 4.
+ * its rings in an order of its own, byr_read_book tests 7, then 4, and byr_read_wkb
+ * 10, then 4.
  *
  * Place. Every function that takes a list has place as its last pointer. It is
  * written with refusals 1, 8 and 9, and is then the number of the list at fault:
@@ -43,8 +47,8 @@
  *     2    the visited positions
  *
  * For byr_write_book it is a ring or the number of rings; byr_read_book writes it
- * with 7, and it is a byte of the book. With any other refusal, and on success,
- * place is as it was.
+ * with 7 and byr_read_wkb with 10, and it is a byte of what is read. With any other
+ * refusal, and on success, place is as it was.
  */
 #ifndef BYRLYGENT_H
 #define BYRLYGENT_H
@@ -73,12 +77,13 @@ enum {
     BYR_REFUSED_LENGTH = 1,     /* a list fits no whole number of entries, or the rings of a book do not add up */
     BYR_REFUSED_NUMBER = 2,     /* a lent number is out of its bounds */
     BYR_REFUSED_SETTING = 3,    /* a tolerance or another setting is out of its bounds */
-    BYR_REFUSED_ROOM = 4,       /* the rooms of a trace or of a book are too short, or not of the form asked */
+    BYR_REFUSED_ROOM = 4,       /* a room of a trace, book or drawing is too short, or not of the form asked */
     BYR_REFUSED_FIT = 5,        /* the answer has more entries than its room */
     BYR_REFUSED_SHORT_PATH = 6, /* the path of a trace has under three points */
     BYR_REFUSED_BOOK = 7,       /* a book is wrong */
     BYR_REFUSED_FEW = 8,        /* a list has too few entries: vertices, points or rings */
-    BYR_REFUSED_MANY = 9        /* a list has too many */
+    BYR_REFUSED_MANY = 9,       /* a list has too many */
+    BYR_REFUSED_WKB = 10        /* a drawing in well-known binary is wrong, or of another kind */
 };
 
 /* Why a trace stopped. */
@@ -315,6 +320,43 @@ uint32_t byr_write_book(const double *coordinates, size_t n, const uint32_t *cou
  * suffice. Refusals: 7, with place the byte of the first fault; then 4. */
 uint32_t byr_read_book(const uint8_t *book, size_t n, double *coordinates, size_t coordinates_n, uint32_t *counts,
                        size_t counts_n, uint64_t *rings, uint64_t *place);
+
+/* ---- Drawings in well-known binary ----
+ * The well-known binary of OGC Simple Features, of a polygon with one ring:
+ *
+ *     byte 0     the byte order of all that follows: 0 big-endian, 1 little-endian
+ *     byte 1     the type, uint32_t: 3
+ *     byte 5     the rings, uint32_t: 1
+ *     byte 9     the points, uint32_t: 4 to 257
+ *     byte 13    the points, x and y as double; the last equals the first
+ *
+ * and nothing else, so that there are 13 bytes and 16 a point. */
+
+/* Hands out the ring open: all points but the last, bit for bit. The last must equal
+ * the first as numbers, so -0.0 closes what began at 0.0; it alone is left off, and a
+ * ring that itself ends in a repeat of its first vertex keeps that. vertices: how
+ * many are written, one fewer than the points. 512 coordinates always suffice.
+ *
+ * Refusal 10, with place the byte of the first fault, in this order:
+ *
+ *     fewer than 13 bytes                             0
+ *     a byte order other than 0 and 1                 0
+ *     another type: Z, M or SRID also, or no polygon  1
+ *     no ring, or holes                               5
+ *     fewer than 4 points, or more than 257           9
+ *     a length other than 13 + 16 * points            0
+ *     a coordinate out of bounds, in file order       its first byte
+ *     a last point that does not equal the first      13 + 16 * (points - 1)
+ *
+ * Then 4. */
+uint32_t byr_read_wkb(const uint8_t *wkb, size_t n, double *room, size_t room_n, uint64_t *vertices,
+                      uint64_t *place);
+
+/* Writes a polygon of 3 to 256 vertices, little-endian, and after them the first
+ * once more, bit for bit. Reading it gives the same ring, bit for bit. length: the
+ * bytes, 16 a vertex and 29; 4125 at most. Refusals: 1, 8 and 9 at place 0, 2, 4. */
+uint32_t byr_write_wkb(const double *ring, size_t n, uint8_t *room, size_t room_n, uint64_t *length,
+                       uint64_t *place);
 
 #ifdef __cplusplus
 }

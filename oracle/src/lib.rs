@@ -5,7 +5,8 @@
 //! helpers that docs/SCOPE.md fixes, `repository` those of the repository's own
 //! text and of Rust's library, `swapped` the fixed ones with the two zeros in the
 //! other order. `calls` gives docs/SCOPE.md's answers over `fixed`; `book` is no
-//! text of theirs, but the outline book written down from docs/SCOPE.md.
+//! text of theirs, but the outline book written down from docs/SCOPE.md, and
+//! `wkb` the well-known binary.
 
 #![allow(clippy::duplicate_mod)] // The text is compiled three times on purpose.
 
@@ -22,3 +23,4 @@ pub mod shapes;
 pub mod slide;
 pub mod stored;
 pub mod swapped;
+pub mod wkb;

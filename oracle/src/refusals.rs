@@ -21,9 +21,9 @@ impl Refusal {
         Self { number, place }
     }
 
-    /// Whether it tells a place: of a list or ring, or of a book's first fault.
+    /// Whether it tells a place: of a list or ring, or of a file's first fault.
     pub fn tells_place(&self) -> bool {
-        matches!(self.number, 1 | 7 | 8 | 9)
+        matches!(self.number, 1 | 7 | 8 | 9 | 10)
     }
 }
 

@@ -1,7 +1,7 @@
 //! The replay lists in the repository are the ones that the oracle writes, keep
 //! their bounds, and hold every outcome there is.
 
-use oracle::replay::{book, bytes, list, rings, scalars, sliding, traces};
+use oracle::replay::{book, bytes, list, rings, scalars, sliding, traces, wkb};
 use oracle::seeded::Seeded;
 use std::collections::BTreeSet;
 
@@ -58,6 +58,11 @@ fn book_is_as_written() {
 }
 
 #[test]
+fn wkb_is_as_written() {
+    as_written("replay_wkb", wkb::records());
+}
+
+#[test]
 fn sliding_is_as_written() {
     as_written("replay_sliding", sliding::records());
 }
@@ -80,6 +85,21 @@ fn book_records_keep_their_bounds() {
         };
         assert_eq!(record.len(), book::HEADER + rest);
         assert_eq!(record[8..book::HEADER], [0; 4]);
+    }
+}
+
+#[test]
+fn wkb_records_keep_their_bounds() {
+    for record in wkb::records().into_iter().chain(long("wkb", 20_000)) {
+        let [lent, room] = lengths(&record, [1, 2]);
+        let rest = if record[0] == wkb::WRITE {
+            assert!(lent <= 600 && room <= 4_200);
+            lent + 2 * room.div_ceil(8)
+        } else {
+            assert!(lent <= 4_200 && room <= 600);
+            lent.div_ceil(8) + 2 * room
+        };
+        assert_eq!(record.len(), wkb::HEADER + rest);
     }
 }
 
@@ -242,7 +262,7 @@ fn traces_end_in_every_way() {
 
 #[test]
 fn long_runs_are_decided_by_the_seed() {
-    for name in ["scalars", "rings", "book", "sliding", "traces"] {
+    for name in ["scalars", "rings", "book", "wkb", "sliding", "traces"] {
         assert!(long(name, 50) == long(name, 50));
     }
     assert!(list("ring").is_none());

@@ -159,6 +159,6 @@ fn a_place_is_printed_where_one_is_told() {
     for (number, line) in [(1, "refused 1 7"), (2, "refused 2"), (6, "refused 6")] {
         assert_eq!(Refusal::at(number, 7).to_string(), line);
     }
-    let told: Vec<u32> = (0..=10).filter(|&number| Refusal::of(number).tells_place()).collect();
-    assert_eq!(told, [1, 7, 8, 9]);
+    let told: Vec<u32> = (0..=11).filter(|&number| Refusal::of(number).tells_place()).collect();
+    assert_eq!(told, [1, 7, 8, 9, 10]);
 }

@@ -312,6 +312,22 @@ functions! {
         rings: *mut u64,
         place: *mut u64,
     ) -> u32;
+    fn byr_read_wkb(
+        wkb: *const u8,
+        n: usize,
+        room: *mut f64,
+        room_n: usize,
+        vertices: *mut u64,
+        place: *mut u64,
+    ) -> u32;
+    fn byr_write_wkb(
+        ring: *const f64,
+        n: usize,
+        room: *mut u8,
+        room_n: usize,
+        length: *mut u64,
+        place: *mut u64,
+    ) -> u32;
 }
 
 #[cfg(test)]

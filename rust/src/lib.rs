@@ -1,7 +1,8 @@
 //! Byrlygent for Rust: the sliding no-fit polygon and the ring predicates of
-//! u-nesting, and the outline book, over the static library that is proved in
-//! Rattle. What each call answers and refuses is proved there, for all inputs;
-//! here points are copied to plain lists of numbers and back, and nothing else.
+//! u-nesting, the outline book, and drawings in well-known binary, over the static
+//! library that is proved in Rattle. What each call answers and refuses is proved
+//! there, for all inputs; here points are copied to plain lists of numbers and back,
+//! and refusals are put into words, and nothing else.
 //!
 //! Modules and names are u-nesting's. A program that traced with
 //! `u_nesting_d2::nfp_sliding` changes that import, and gets a [`Refusal`] where
@@ -20,7 +21,8 @@
 //! Rings are lent open: the last vertex is joined to the first. A closed drawing,
 //! whose last vertex repeats the first, goes through [`polygon_ops::open_ring`]
 //! before any other call. Lent as it is, the repeat counts as a vertex with an
-//! edge of no length.
+//! edge of no length. A drawing in well-known binary is read open, and closed as it
+//! is written: [`wkb`].
 //!
 //! A list with too few entries or too many is refused by name:
 //!
@@ -48,6 +50,7 @@ pub mod polygon_ops;
 mod refusal;
 pub mod robust;
 pub mod scalar;
+pub mod wkb;
 
 pub use lists::{Entries, List};
 pub use refusal::{Refusal, Result};

@@ -2,6 +2,7 @@
 
 use crate::lists::Entries;
 use crate::nfp_sliding::StopReason;
+use crate::wkb::Fault;
 use std::fmt;
 
 /// An answer, or why there is none.
@@ -35,6 +36,13 @@ pub enum Refusal {
     Few(Entries),
     /// Refusal 9: a list has too many entries.
     Many(Entries),
+    /// Refusal 10: a drawing in well-known binary is wrong, or of another kind.
+    Wkb {
+        /// The byte of the first fault.
+        place: usize,
+        /// What is wrong there.
+        fault: Fault,
+    },
 }
 
 impl Refusal {
@@ -47,6 +55,7 @@ impl Refusal {
             Self::Book { .. } => 7,
             Self::Few(_) => 8,
             Self::Many(_) => 9,
+            Self::Wkb { .. } => 10,
         }
     }
 }
@@ -72,6 +81,9 @@ impl fmt::Display for Refusal {
                 "the book is wrong at byte {place}: write it anew from the drawing's rings"
             ),
             Self::Few(entries) | Self::Many(entries) => write!(f, "{entries}"),
+            Self::Wkb { place, fault } => {
+                write!(f, "the drawing is wrong at byte {place}: {fault}")
+            }
         }
     }
 }

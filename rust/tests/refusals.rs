@@ -1,8 +1,9 @@
 //! Each refusal, and the words that it has for a person; tests/lists.rs has those
-//! of lists with too few entries or too many.
+//! of lists with too few entries or too many, and tests/wkb.rs those of drawings.
 
 use byrlygent::nfp_sliding::{self, compute_nfp_sliding, SlidingNfpConfig, StopReason};
 use byrlygent::outline_book::{read_book, write_book};
+use byrlygent::wkb::Fault;
 use byrlygent::{polygon_ops, robust, Entries, List, Point, Refusal};
 
 const SQUARE: [Point; 4] = [(0.0, 0.0), (4.0, 0.0), (4.0, 4.0), (0.0, 4.0)];
@@ -43,6 +44,7 @@ fn each_refusal_says_what_to_mend() {
         told(Refusal::ShortPath { passes: 17, stop }, &["fewer than three", "17 passes", words]);
     }
     told(Refusal::Book { place: 56 }, &["byte 56", "write it anew"]);
+    told(Refusal::Wkb { place: 1, fault: Fault::Type(6) }, &["byte 1", "type is 6"]);
 }
 
 #[test]
@@ -51,7 +53,9 @@ fn refusals_have_the_numbers_of_the_library() {
     let plain = [Refusal::Number, Refusal::Setting, short, Refusal::Book { place: 0 }];
     assert_eq!(plain.map(Refusal::number), [2, 3, 6, 7]);
     let entries = Entries { list: List::Ring, has: 257, least: 0, most: 256 };
-    assert_eq!([Refusal::Few(entries), Refusal::Many(entries)].map(Refusal::number), [8, 9]);
+    let wkb = Refusal::Wkb { place: 0, fault: Fault::Short(0) };
+    let rest = [Refusal::Few(entries), Refusal::Many(entries), wkb];
+    assert_eq!(rest.map(Refusal::number), [8, 9, 10]);
 }
 
 #[test]

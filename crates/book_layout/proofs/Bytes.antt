@@ -4,19 +4,13 @@ use native.Mathlib.Omega.{arith}
 use mathlib.Core.Path.{_≡_, refl, sym, ap, _∙_}
 use mathlib.Core.List.{List, [], _∷_, _++_, map, append-assoc}
 use lib.ListN.{length, take, drop, length-append}
-use Rattle.ring.specs.Room.{laid}
-use lib.Seq.{sets, sets-eq, drop-at, drop-drop}
+use lib.Seq.{drop-at, drop-drop}
 use Rattle.reading.specs.Reading.{Vertex, flat, vertices}
 use Rattle.number_bytes.specs.Bytes.{bytesOf, numberOf, Each}
 use Rattle.number_bytes.proofs.Bytes.{length-bytesOf, take-number, drop-number}
 use Rattle.refusals.specs.Rings.{verticesMost}
 use Rattle.book_layout.specs.Layout.{fieldBytes, coordinateBytes, vertexBytes, entryBytes, coordBytes, body, entries, Corner, Outline, coordsIn, countsIn, ringsIn}
 use Rattle.reading.proofs.Leasts.{vertices-flat, length-flat}
-
--- ---- a list stored at the front of a room that it fits
-
-pub laid-is : {A : Type 0} (l room : List A) → length l ≤ length room → sets room 0 l ≡ laid l room
-laid-is l room h = let e : 0 + length l ≡ length l = omega arith in sets-eq l room 0 (omega arith) ∙ ap (λ (j : ℕ). l ++ drop j room) e
 
 -- ---- the coordinates
 

@@ -8,22 +8,22 @@ use lib.ListN.{length, take, drop, length-drop, length-map}
 use lib.Seq.{drop-drop, length-take-le, take-at, drop-at}
 use lib.Dec.{T, leb, eqb}
 use lib.Ieee.{Float, nan, inf, fin, binary64, fits, isNan, ofBits}
-use lib.Ieee.Bits.{ofBits-fits}
 use borrow.Author.Tests.{le-leb, leb-true, eq-eqb, eqb-true}
-use Rattle.refusals.specs.Screens.{wrongBook}
+use Rattle.refusals.specs.Screens.{shortRoom}
 use Rattle.refusals.specs.Rows.{ofRings}
 use Rattle.refusals.specs.Bounds.{coordinate, every, coordinates}
+use Rattle.refusals.proofs.Coordinate.{coordinate-number}
 use Rattle.reading.specs.Reading.{Vertex, vertices}
 use Rattle.reading.specs.Lent.{kept, ringOf}
 use Rattle.reading.proofs.KeptBits.{kept-lt, of-kept, kept-of}
 use Rattle.reading.proofs.Order.{no-bool}
 use Rattle.reading.proofs.Places.{length-ringOf}
-use Rattle.number_bytes.specs.Bytes.{numberOf, Each, Byte}
+use Rattle.number_bytes.specs.Bytes.{numberOf, Each, Byte, Formed}
 use Rattle.number_bytes.proofs.Each.{each-take, each-drop}
 use Rattle.refusals.specs.Rings.{verticesLeast, verticesMost, ringsMost, within, total, sizedAll}
 use Rattle.book_layout.specs.Layout.{coordinateBytes, vertexBytes, coordinateBits, Coordinate, Outline, Accepted, coordsIn, ringsIn, ringCount, entryOffset, coordsOf, countsOf, ringsOf}
 use Rattle.book_layout.specs.Faults.{_passes, bookCheck}
-use Rattle.book_layout.specs.Writer.{ringsFrom, bookSize, writeRefusal, Held, Formed}
+use Rattle.book_layout.specs.Writer.{ringsFrom, bookSize, writeRefusal, Held}
 use Rattle.book_layout.specs.Reader.{numbersOf}
 use Rattle.laws.proofs.Both.{both}
 use Rattle.refusals.proofs.Counts.{within-true, is-within}
@@ -38,7 +38,7 @@ module _ (xs : List Float) (ns : List ℕ) (size : ℕ) where
   pub takes : writeRefusal xs ns size passes → Held xs ns × (bookSize ns ≤ size)
   unfolding writeRefusal
   takes h =
-      let p = row-parts (ofRings xs ns) (wrongBook (bookSize ns) size) h in
+      let p = row-parts (ofRings xs ns) (shortRoom (bookSize ns) size) h in
       let t = rings-taken xs ns (p .0) in (
         record { one = t .0; few = t .1; sized = t .2; whole = t .3; bounded = t .4 },
         leb-true (bookSize ns) size (holds (leb (bookSize ns) size) 4 0 refl (p .1)),
@@ -49,12 +49,6 @@ module _ (xs : List Float) (ns : List ℕ) (size : ℕ) where
   taken h l = rw (taken-rings xs ns (h .one) (h .few) (h .sized) (h .whole) (h .bounded), le-leb (bookSize ns) size l)
 
 -- ---- coordinates
-
-pub coordinate-number : (x : Float) → coordinate x ≡ true → T (not (isNan x))
-unfolding coordinate isNan
-coordinate-number nan h = no-bool h
-coordinate-number (inf s) h = tt
-coordinate-number (fin s m e) h = tt
 
 -- the bits of a coordinate are such bits
 coordinate-kept : (x : Float) → T (fits binary64 x) → coordinate x ≡ true → Coordinate (kept x)
@@ -167,10 +161,6 @@ sized-all : (ns : List ℕ) → Each (λ (n : ℕ). (verticesLeast ≤ n) × (n 
 unfolding sizedAll
 sized-all [] h = refl
 sized-all (n ∷ ns) h = rw (within-true verticesLeast verticesMost n (h .0 .0) (h .0 .1)) (sized-all ns (h .1))
-
-pub formed : (l : List ℕ) → Formed (map (ofBits binary64) l)
-formed [] = tt
-formed (b ∷ l) = (ofBits-fits binary64 b, formed l)
 
 coordinates-read : (l : List ℕ) → Each Coordinate l → coordinates (map (ofBits binary64) l) ≡ true
 unfolding every coordinateBits

@@ -10,18 +10,19 @@ use lib.Ieee.{Float}
 use borrow.Author.Tests.{le-leb}
 use Rattle.refusals.specs.Refusals.{passed, unless}
 use Rattle.reading.specs.Reading.{BitForBit, leastReading}
-use Rattle.number_bytes.specs.Bytes.{Each, Byte}
+use Rattle.number_bytes.specs.Bytes.{Each, Byte, Formed}
 use Rattle.refusals.specs.Rings.{ringsMost}
 use Rattle.book_layout.specs.Layout.{numbersMost, bookOf, SameOutlines, coordsOf, countsOf, ringsOf}
 use Rattle.book_layout.specs.Faults.{_passes, bookCheck}
-use Rattle.book_layout.specs.Writer.{ringsFrom, writeRefusal, Formed, Writes}
+use Rattle.book_layout.specs.Writer.{ringsFrom, writeRefusal, Writes}
 use Rattle.book_layout.specs.Reader.{numbersOf, holdsAll, readRefusal}
 use Rattle.refusals.proofs.Sized.{row-parts}
 use Rattle.book_layout.proofs.Books.{same-book, least-accepted}
 use Rattle.book_layout.proofs.Laid.{rings-of}
 use Rattle.book_layout.proofs.Exact.{written-again, book-passes}
 use Rattle.refusals.proofs.Counts.{total-bounds}
-use Rattle.book_layout.proofs.Lent.{formed, takes, taken, held-accepted, handed, read-held, read-size}
+use Rattle.number_bytes.proofs.Formed.{formed-of}
+use Rattle.book_layout.proofs.Lent.{takes, taken, held-accepted, handed, read-held, read-size}
 
 -- For two lists of rings that the writer takes, the books are the same bytes exactly if the lists are equally long and each ring is, bit for bit, a
 -- reading of the one at its place.
@@ -36,7 +37,7 @@ unfolding readRefusal
 again f room counts bytes h =
     let ok = row-parts (bookCheck f) (unless (holdsAll f room counts) 4 0) h .0 in
     record {
-      formed = formed (coordsOf f);
+      formed = formed-of (coordsOf f);
       taken = taken (numbersOf f) (countsOf f) (length f) (read-held f bytes ok) (omega (arith, read-size f bytes ok));
       book = ap bookOf (handed f bytes ok) ∙ written-again f bytes ok;
     }

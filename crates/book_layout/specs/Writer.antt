@@ -9,11 +9,11 @@ use lib.Ieee.{Float, binary64, fits}
 use Rattle.ring.specs.Room.{laid}
 use Rattle.refusals.specs.Answers.{Outcome, outcome, left}
 use Rattle.refusals.specs.Refusals.{firstOf}
-use Rattle.refusals.specs.Screens.{wrongBook}
+use Rattle.refusals.specs.Screens.{shortRoom}
 use Rattle.refusals.specs.Rows.{ofRings}
 use Rattle.refusals.specs.Bounds.{coordinates}
 use Rattle.refusals.specs.declared.Refusal.{Refusal}
-use Rattle.number_bytes.specs.Bytes.{Each}
+use Rattle.number_bytes.specs.Bytes.{Formed}
 use Rattle.reading.specs.Reading.{Vertex}
 use Rattle.reading.specs.Lent.{ringOf}
 use Rattle.book_layout.specs.Faults.{_passes}
@@ -31,7 +31,7 @@ bookSize ns = vertexBytes * total ns + entryBytes * length ns + tailBytes
 
 -- the first of the tests that fails, for a room of so many bytes
 unfoldable pub writeRefusal : List Float → List ℕ → ℕ → Refusal
-writeRefusal xs ns size = firstOf (ofRings xs ns ∷ wrongBook (bookSize ns) size ∷ [])
+writeRefusal xs ns size = firstOf (ofRings xs ns ∷ shortRoom (bookSize ns) size ∷ [])
 
 -- what the call answers, and the room as it leaves it
 abbrev pub writeCall : List Float → List ℕ → ℕ → Outcome ℕ
@@ -47,10 +47,6 @@ pub record Held (xs : List Float) (ns : List ℕ) : Type 0 where
   pub sized : sizedAll ns ≡ true
   pub whole : length xs ≡ 2 * total ns
   pub bounded : coordinates xs ≡ true
-
--- every number of a list is one that the format holds
-abbrev pub Formed : List Float → Type 0
-Formed xs = Each (λ (x : Float). T (fits binary64 x)) xs
 
 -- the writer can write the file f: it takes these numbers and counts, with room for just that file, and their book is f
 pub record Writes (xs : List Float) (ns f : List ℕ) : Type 0 where

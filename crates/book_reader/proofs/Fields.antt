@@ -11,7 +11,7 @@ use borrow.Author.Tests.{le-leb, lt-leb, lt-ltb}
 use Rattle.refusals.specs.Bounds.{coordinate}
 use Rattle.refusals.specs.Rings.{verticesLeast, verticesMost, ringsMost}
 use Rattle.book_layout.specs.Layout.{coordinateBits}
-use Rattle.book_layout.proofs.Lent.{coordinate-number}
+use Rattle.refusals.proofs.Coordinate.{coordinate-number}
 use Rattle.book_reader.specs.Parts.{fieldOk}
 
 -- ---- the fields

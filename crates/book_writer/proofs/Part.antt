@@ -12,7 +12,7 @@ use lib.Ieee.{Float, nan, isNan}
 use Rattle.refusals.specs.Bounds.{coordinate, every, coordinates}
 use Rattle.reading.specs.Lent.{Lent}
 use Rattle.refusals.specs.Rings.{verticesMost}
-use Rattle.book_layout.proofs.Lent.{coordinate-number}
+use Rattle.refusals.proofs.Coordinate.{coordinate-number}
 use Rattle.laws.proofs.Both.{both}
 
 coordinates-at : (xs : List Float) (i : ℕ) → coordinates xs ≡ true → i < length xs → coordinate (getD xs i nan) ≡ true

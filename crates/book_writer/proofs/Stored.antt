@@ -16,12 +16,13 @@ use Rattle.number_bytes.proofs.Bytes.{length-bytesOf}
 use Rattle.refusals.specs.Rings.{verticesLeast, verticesMost, within, total, sizedAll}
 use Rattle.book_layout.specs.Layout.{fieldBytes, vertexBytes, entryBytes, entries, layout, bookOf}
 use Rattle.book_layout.specs.Writer.{ringsFrom, bookSize}
-use Rattle.book_layout.proofs.Bytes.{laid-is, length-entries}
+use Rattle.ring.proofs.Emit.{laid-is, sets-append}
+use Rattle.book_layout.proofs.Bytes.{length-entries}
 use Rattle.book_layout.proofs.Checks.{body-total}
 use Rattle.laws.proofs.Both.{both}
 use Rattle.refusals.proofs.Counts.{is-within}
 use Rattle.book_layout.proofs.Lent.{ring-count}
-use Rattle.book_writer.proofs.Storing.{stored, sets-append}
+use Rattle.book_writer.proofs.Storing.{stored}
 
 stored-counts : (ns : List ℕ) (xs : List Float) → sizedAll ns ≡ true → 2 * total ns ≤ length xs → map length (map leastReading (ringsFrom ns xs)) ≡ ns
 unfolding ringsFrom sizedAll total

@@ -11,18 +11,13 @@ use lib.Ieee.{Float}
 use Rattle.reading.specs.Reading.{flat, leastReading}
 use Rattle.reading.specs.Lent.{ringOf}
 use Rattle.reading.proofs.Leasts.{length-least}
+use Rattle.ring.proofs.Emit.{sets-append}
 use Rattle.number_bytes.specs.Bytes.{bytesOf}
 use Rattle.number_bytes.proofs.Bytes.{length-bytesOf}
 use Rattle.book_layout.specs.Layout.{fieldBytes, coordinateBytes, vertexBytes, entryBytes, coordBytes, body, entries}
 use Rattle.book_layout.specs.Writer.{ringsFrom}
 use Rattle.book_layout.proofs.Bytes.{length-ring}
 use Rattle.book_layout.proofs.Lent.{ring-count}
-
-pub sets-append : {A : Type 0} (l : List A) (i : ℕ) (u v : List A) → sets l i (u ++ v) ≡ sets (sets l i u) (i + length u) v
-sets-append l i [] v = ap (λ (k : ℕ). sets l k v) (omega arith)
-sets-append l i (a ∷ u) v =
-    let e : suc i + length u ≡ i + suc (length u) = omega arith in
-    sets-append (set l i a) (suc i) u v ∙ ap (λ (k : ℕ). sets (sets (set l i a) (suc i) u) k v) e
 
 -- ---- `put_ring`
 

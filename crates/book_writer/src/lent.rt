@@ -29,5 +29,5 @@ pub fn refusal(xs: &[f64], counts: &[u32], size: usize) -> Refusal
     if !no.passed() {
         return no;
     }
-    screen::book(size_of(counts), size)
+    screen::short(size_of(counts), size)
 }

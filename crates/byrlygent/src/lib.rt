@@ -4,3 +4,4 @@ pub mod rings;
 pub mod scalars;
 pub mod sliding;
 pub mod version;
+pub mod wkb;

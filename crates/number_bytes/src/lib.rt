@@ -1,6 +1,7 @@
-// Numbers as bytes, the lowest byte first, and floats by their bit patterns.
+// Numbers as bytes, the lowest byte first or the highest, and floats by their bit patterns.
 ghost use mathlib.Core.Path.{_≡_};
 ghost use Prim.Native.Nat.{_+_, _<_, _≤_};
+ghost use mathlib.Core.List.{reverse};
 ghost use lib.ListN.{length, take, drop};
 ghost use lib.Seq.{sets};
 ghost use lib.Ieee.{binary64, ofBits, toBits};
@@ -31,6 +32,28 @@ pub fn number8(f: &[u8], at: usize) -> u64
 {
     let low = number4(f, at);
     let high = number4(f, at + 4);
+    low + 4294967296 * high
+}
+
+// The number in the four bytes from f[at] on, the highest byte first.
+pub fn big4(f: &[u8], at: usize) -> u64
+    requires { ⌜ at + 4 ≤ length (now f) ⌝ }
+    ensures { λ r. ⌜ (r ≡ numberOf (reverse (take 4 (drop at (now (f .entry)))))) × (r < 4294967296) ⌝ }
+{
+    let a = wide(f[at]);
+    let b = wide(f[at + 1]);
+    let c = wide(f[at + 2]);
+    let d = wide(f[at + 3]);
+    d + 256 * c + 65536 * b + 16777216 * a
+}
+
+// The number in the eight bytes from f[at] on, the highest byte first.
+pub fn big8(f: &[u8], at: usize) -> u64
+    requires { ⌜ at + 8 ≤ length (now f) ⌝ }
+    ensures { λ r. ⌜ r ≡ numberOf (reverse (take 8 (drop at (now (f .entry))))) ⌝ }
+{
+    let high = big4(f, at);
+    let low = big4(f, at + 4);
     low + 4294967296 * high
 }
 

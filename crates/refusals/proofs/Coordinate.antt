@@ -1,14 +1,14 @@
--- What the two comparisons of `is_coordinate` say: the magnitude is at most a million. Assumes nothing.
+-- What the two comparisons of `is_coordinate` say: the magnitude is at most a million; and that a coordinate is no NaN. Assumes nothing.
 use Prim.Native.Nat.{ℕ, zero, suc, _+_, _*_, _^_, _≤_, _<_}
 use mathlib.Core.Path.{_≡_, refl, sym, _∙_}
-use mathlib.Core.Bool.{Bool, true, false, _&&_, _||_, and-true}
+use mathlib.Core.Bool.{Bool, true, false, not, _&&_, _||_, and-true, true≢false}
 use native.Mathlib.Omega.{arith}
 use native.Mathlib.Nat.{mul-one}
 use native.Mathlib.Decide.{decLe}
 use lib.Pow.{pow-pos}
 use lib.IntN.{ℤ, pos, negsuc}
-use lib.Dec.{leb, ltb, eqb}
-use lib.Ieee.{Float, nan, inf, fin, binary64, le, lt, eq, neg, up, down, ofBits, ofFields, odd}
+use lib.Dec.{T, leb, ltb, eqb}
+use lib.Ieee.{Float, nan, inf, fin, binary64, isNan, le, lt, eq, neg, up, down, ofBits, ofFields, odd}
 use borrow.Author.Tests.{lt-ltb, le-ltb, le-leb, lt-leb, eq-eqb, ne-eqb}
 use Rattle.refusals.specs.Bounds.{coordinate}
 
@@ -48,3 +48,10 @@ coordinate-le (fin false m e) =
 coordinate-le (fin true m e) =
     rw million-is
     (simp (mul-one, ltb-or-eqb (m * up e) (1000000 * down e) .1, lt-ltb 0 (m * up e + 1000000 * down e) (omega (arith, down-pos e)), and-true))
+
+-- a coordinate is no NaN
+pub coordinate-number : (x : Float) → coordinate x ≡ true → T (not (isNan x))
+unfolding coordinate isNan
+coordinate-number nan h = absurd (true≢false (sym h))
+coordinate-number (inf s) h = tt
+coordinate-number (fin s m e) h = tt

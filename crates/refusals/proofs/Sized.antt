@@ -13,7 +13,7 @@ use Rattle.refusals.specs.Bounds.{coordinates}
 use Rattle.plane.specs.declared.Point.{Point}
 use Rattle.refusals.specs.Screens.{wrongNumber, wrongInfinite, wrongPosition, wrongTolerance, wrongFit}
 use Rattle.refusals.specs.Lists.{Extent, listFault, faultOf, ringExtent, polygonExtent, pointsExtent}
-use Rattle.refusals.specs.Rows.{ofRing, ofTwoPolygons, ofList, ofTouching, ofMoving, fitLengths, fitNumbers, ofFit, ofRooms}
+use Rattle.refusals.specs.Rows.{ofRing, ofPolygon, ofTwoPolygons, ofList, ofTouching, ofMoving, fitLengths, fitNumbers, ofFit, ofRooms}
 use Rattle.refusals.specs.declared.Refusal.{Refusal}
 
 -- an even length, of at most 512
@@ -73,6 +73,13 @@ is-list r tol h =
 
 is-polygon : (r : List Float) → Fine (polygonExtent r) → Polygon r
 is-polygon r f = record { even = f .whole; least = omega (arith, f .whole, f .enough); most = omega (arith, f .whole, f .within) }
+
+-- a polygon that is not refused
+pub one-polygon : (r : List Float) → passed (ofPolygon r) ≡ true → Polygon r × (coordinates r ≡ true)
+unfolding ofPolygon
+one-polygon r h =
+    let p = row-parts (listFault (polygonExtent r) 0) (wrongNumber r) h in
+    (is-polygon r (fine (polygonExtent r) 0 (p .0)), holds (coordinates r) 2 0 refl (p .1))
 
 -- two polygons that are not refused
 module _ (a b : List Float) (h : passed (ofTwoPolygons a b) ≡ true) where

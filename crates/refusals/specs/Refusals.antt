@@ -43,9 +43,14 @@ refusedFew = 8
 abbrev pub refusedMany : ℕ
 refusedMany = 9
 
--- those that tell a place: which list or ring it was, or the byte of a book's first fault
+-- a drawing in well-known binary is wrong
+abbrev pub refusedWkb : ℕ
+refusedWkb = 10
+
+-- those that tell a place: which list or ring it was, or the byte of a file's first fault
 unfoldable pub tellsPlace : ℕ → Bool
-tellsPlace num = eqb num refusedLength || (eqb num refusedBook || (eqb num refusedFew || eqb num refusedMany))
+tellsPlace num =
+    eqb num refusedLength || (eqb num refusedBook || (eqb num refusedFew || (eqb num refusedMany || eqb num refusedWkb)))
 
 -- ---- refusals
 

@@ -28,6 +28,9 @@ ofNear p a b tol = firstOf (wrongPoint p ∷ wrongPoint a ∷ wrongPoint b ∷ w
 unfoldable pub ofRing : List Float → Refusal
 ofRing r = firstOf (faultOf (ringExtent r ∷ []) ∷ wrongNumber r ∷ [])
 
+unfoldable pub ofPolygon : List Float → Refusal
+ofPolygon r = firstOf (faultOf (polygonExtent r ∷ []) ∷ wrongNumber r ∷ [])
+
 unfoldable pub ofTwoRings : List Float → List Float → Refusal
 ofTwoRings a b = firstOf (faultOf (ringExtent a ∷ ringExtent b ∷ []) ∷ wrongNumber a ∷ wrongNumber b ∷ [])
 

@@ -40,7 +40,7 @@ wrongTolerance t = unless (toleranceOk t) refusedSetting 0
 abbrev pub wrongSettings : Settings → Refusal
 wrongSettings s = unless (settingsOk s) refusedSetting 0
 
--- ---- 4: a work room that does not hold whole points, one at least; a result room shorter than it; a room that is shorter than a book
+-- ---- 4: a work room that does not hold whole points, one at least; a result room shorter than it; a room that is shorter than a file or a ring
 
 abbrev pub wrongWork : ℕ → Refusal
 wrongWork size = unless (workOk size) refusedRoom 0
@@ -48,8 +48,8 @@ wrongWork size = unless (workOk size) refusedRoom 0
 abbrev pub wrongResult : ℕ → ℕ → Refusal
 wrongResult work result = unless (leb work result) refusedRoom 0
 
-abbrev pub wrongBook : ℕ → ℕ → Refusal
-wrongBook needed size = unless (leb needed size) refusedRoom 0
+abbrev pub shortRoom : ℕ → ℕ → Refusal
+shortRoom needed size = unless (leb needed size) refusedRoom 0
 
 -- a book's rings, or their counts, do not fit their rooms
 abbrev pub wrongBookRooms : ℕ → ℕ → ℕ → ℕ → Refusal

@@ -36,6 +36,9 @@ pub const REFUSED_FEW: u32 = 8;
 // A list has too many entries.
 pub const REFUSED_MANY: u32 = 9;
 
+// A drawing in well-known binary is wrong.
+pub const REFUSED_WKB: u32 = 10;
+
 // A polygon, and a ring of a book, has 3 to 256 vertices.
 pub const VERTICES_LEAST: usize = 3;
 
@@ -80,7 +83,7 @@ impl Refusal {
         self.number == 0
     }
 
-    // Whether it tells a place: 1, 7, 8 and 9 do.
+    // Whether it tells a place: 1, 7, 8, 9 and 10 do.
     pub fn tells_place(self) -> bool
         ensures { λ r. ⌜ r ≡ tellsPlace (self .number) ⌝ }
     {
@@ -90,6 +93,7 @@ impl Refusal {
             7 => true,
             8 => true,
             9 => true,
+            10 => true,
             _ => false,
         }
     }

@@ -17,7 +17,7 @@ use plane::Point;
 ghost use mathlib.Core.Path.{_≡_};
 ghost use Rattle.refusals.specs.Refusals.{first};
 ghost use Rattle.refusals.specs.Screens.{wrongNumber};
-ghost use Rattle.refusals.specs.Rows.{ofPoints3, ofPoints4, ofNear, ofRing, ofTwoRings, ofTwoPolygons, ofList, ofVectors};
+ghost use Rattle.refusals.specs.Rows.{ofPoints3, ofPoints4, ofNear, ofRing, ofPolygon, ofTwoRings, ofTwoPolygons, ofList, ofVectors};
 ghost use Rattle.refusals.specs.Rows.{ofTouching, ofMoving, fitLengths, fitNumbers, ofFit, ofTrace, ofRooms};
 
 // Three single points.
@@ -47,6 +47,14 @@ pub fn ring(ring: &[f64]) -> Refusal
 {
     let no = lists::ring(ring, 0);
     if no.passed() { numbers(ring) } else { no }
+}
+
+// A polygon of 3 to 256 vertices, in the same way.
+pub fn polygon(polygon: &[f64]) -> Refusal
+    ensures { λ r. ⌜ r ≡ ofPolygon (now (polygon .entry)) ⌝ }
+{
+    let no = lists::polygon(polygon, 0);
+    if no.passed() { numbers(polygon) } else { no }
 }
 
 // The numbers of two lists, which are not read where a list has a fault.

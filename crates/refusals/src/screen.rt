@@ -16,7 +16,7 @@ use plane::Point;
 ghost use mathlib.Core.Path.{_≡_};
 ghost use Rattle.refusals.specs.Refusals.{unless, first};
 ghost use Rattle.refusals.specs.Screens.{wrongNumber, wrongInfinite, wrongPoint, wrongPosition, wrongTolerance, wrongSettings};
-ghost use Rattle.refusals.specs.Screens.{wrongWork, wrongResult, wrongBook, wrongBookRooms, wrongFit, wrongRoom};
+ghost use Rattle.refusals.specs.Screens.{wrongWork, wrongResult, shortRoom, wrongBookRooms, wrongFit, wrongRoom};
 
 // The refusal with a number and a place where a test does not hold.
 pub fn unless(ok: bool, number: u32, place: u64) -> Refusal
@@ -95,9 +95,9 @@ pub fn result_room(work: usize, result: usize) -> Refusal
     unless(work <= result, REFUSED_ROOM, 0)
 }
 
-// A room of size bytes for a book of so many.
-pub fn book(needed: usize, size: usize) -> Refusal
-    ensures { λ r. ⌜ r ≡ wrongBook needed size ⌝ }
+// A room of so many entries for a file, or a ring, that needs so many.
+pub fn short(needed: usize, size: usize) -> Refusal
+    ensures { λ r. ⌜ r ≡ shortRoom needed size ⌝ }
 {
     unless(needed <= size, REFUSED_ROOM, 0)
 }

@@ -5,6 +5,7 @@ mod rings;
 mod scalars;
 mod sliding;
 mod traces;
+mod wkb;
 
 use crate::tally::Compared;
 use oracle::refusals::Refusal;
@@ -18,13 +19,17 @@ pub struct Checked {
 }
 
 /// All lists; the shares add up to a hundred.
-pub const LISTS: [Checked; 5] = [
-    Checked { name: "scalars", share: 18, check: scalars::check },
-    Checked { name: "rings", share: 33, check: rings::check },
-    Checked { name: "sliding", share: 33, check: sliding::check },
+pub const LISTS: [Checked; 6] = [
+    Checked { name: "scalars", share: 14, check: scalars::check },
+    Checked { name: "rings", share: 28, check: rings::check },
+    Checked { name: "sliding", share: 32, check: sliding::check },
     Checked { name: "book", share: 10, check: book::check },
+    Checked { name: "wkb", share: 10, check: wkb::check },
     Checked { name: "traces", share: 6, check: traces::check },
 ];
+
+/// What margins of bytes hold.
+const BYTE: u8 = 0xa5;
 
 /// The words of a record after its header, taken list by list.
 struct Words<'a>(&'a [u64]);
@@ -35,6 +40,14 @@ impl<'a> Words<'a> {
         let (list, rest) = self.0.split_at(length as usize);
         self.0 = rest;
         list
+    }
+
+    /// The next list, of so many bytes, which are packed eight to a word.
+    fn bytes(&mut self, length: u64) -> Vec<u8> {
+        let words = self.take(length.div_ceil(8));
+        let mut bytes: Vec<u8> = words.iter().flat_map(|word| word.to_le_bytes()).collect();
+        bytes.truncate(length as usize);
+        bytes
     }
 }
 

@@ -34,8 +34,8 @@ impl Compared {
     }
 }
 
-/// How many numbers a call's answer can have: 0 and the refusals 1 to 9.
-const NUMBERS: usize = 10;
+/// How many numbers a call's answer can have: 0 and the refusals 1 to 10.
+const NUMBERS: usize = 11;
 /// How many stop reasons there are, from 1 on.
 const STOPS: usize = 5;
 /// How many differences are told in full.

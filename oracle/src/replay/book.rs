@@ -18,7 +18,7 @@ mod sample;
 
 pub use lent::longest;
 
-use super::{bits, float_room, once, refused, List};
+use super::{bits, byte_room, float_room, once, packed, refused, List};
 use crate::book::{book_of, file_of, read_book, write_book};
 use crate::seeded::Seeded;
 use std::slice;
@@ -80,20 +80,9 @@ fn length(rings: &[Vec<f64>]) -> usize {
     8 * rings.concat().len() + 8 * rings.len() + 8
 }
 
-/// A room of this many bytes, a pattern without a short period.
-fn byte_room(length: usize) -> Vec<u8> {
-    (0..length).map(|i| (i * 151 + i / 64 + 90) as u8).collect()
-}
-
 /// A room of this many counts, none of which a ring can have.
 fn count_room(length: usize) -> Vec<u32> {
     (0..length).map(|i| 0xc000_0000 + 1000 * i as u32).collect()
-}
-
-/// The bytes, eight to a word, the last word filled up with zeros.
-fn packed(bytes: &[u8]) -> Vec<u64> {
-    let word = |chunk: &[u8]| chunk.iter().rev().fold(0, |word, &byte| word << 8 | u64::from(byte));
-    bytes.chunks(8).map(word).collect()
 }
 
 /// The counts, a word each.

@@ -8,6 +8,7 @@ pub mod rings;
 pub mod scalars;
 pub mod sliding;
 pub mod traces;
+pub mod wkb;
 
 use crate::refusals::{Refusal, LARGEST};
 use crate::seeded::Seeded;
@@ -66,6 +67,7 @@ pub fn list(name: &str) -> Option<List> {
         "book_one" => Some(book::ONE),
         "sliding" => Some(sliding::LIST),
         "traces" => Some(traces::LIST),
+        "wkb" => Some(wkb::LIST),
         _ => None,
     }
 }
@@ -96,15 +98,42 @@ fn with(list: &[f64], place: usize, number: f64) -> Vec<f64> {
     changed
 }
 
+/// An edge number or a NaN.
+fn edge(seeded: &mut Seeded) -> f64 {
+    if seeded.below(4) == 0 {
+        f64::from_bits(seeded.pick(&NANS))
+    } else {
+        seeded.pick(&EDGES)
+    }
+}
+
+/// Puts these bytes in this place, if they fit.
+fn patch(file: &mut [u8], place: usize, bytes: &[u8]) {
+    if let Some(there) = file.get_mut(place..place + bytes.len()) {
+        there.copy_from_slice(bytes);
+    }
+}
+
 /// A room of this length whose every number can be told from an answer.
 fn float_room(length: usize) -> Vec<f64> {
     let number = |i: usize| if i % 5 == 3 { -0.0 } else { 1000.5 + i as f64 };
     (0..length).map(number).collect()
 }
 
+/// A room of this many bytes, a pattern without a short period.
+fn byte_room(length: usize) -> Vec<u8> {
+    (0..length).map(|i| (i * 151 + i / 64 + 90) as u8).collect()
+}
+
 /// The bits of the numbers.
 fn bits(list: &[f64]) -> Vec<u64> {
     list.iter().map(|x| x.to_bits()).collect()
+}
+
+/// The bytes, eight to a word, the last word filled up with zeros.
+fn packed(bytes: &[u8]) -> Vec<u64> {
+    let word = |chunk: &[u8]| chunk.iter().rev().fold(0, |word, &byte| word << 8 | u64::from(byte));
+    bytes.chunks(8).map(word).collect()
 }
 
 /// The records, none twice.

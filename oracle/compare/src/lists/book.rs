@@ -1,22 +1,13 @@
 //! The outline book, through the library.
 
-use super::{told_place, Words};
+use super::{told_place, Words, BYTE};
 use crate::ffi;
 use crate::lent::{words, Cell, Room};
 use crate::tally::Compared;
 use oracle::replay::book::{HEADER, WRITE};
 
-/// What margins of bytes and of counts hold.
-const BYTE: u8 = 0xa5;
+/// What margins of counts hold.
 const COUNT: u32 = 0xdead_beef;
-
-/// So many bytes, packed eight to a word.
-fn bytes(rest: &mut Words, length: u64) -> Vec<u8> {
-    let words = rest.take(length.div_ceil(8));
-    let mut bytes: Vec<u8> = words.iter().flat_map(|word| word.to_le_bytes()).collect();
-    bytes.truncate(length as usize);
-    bytes
-}
 
 /// So many counts, a word each.
 fn counts(rest: &mut Words, length: u64) -> Vec<u32> {
@@ -28,7 +19,7 @@ fn writing(record: &[u64]) -> Compared {
     let (number, value, at) = (record[5], record[6], record[7]);
     let mut rest = Words(&record[HEADER..]);
     let (coordinates, vertices) = (rest.take(record[1]), counts(&mut rest, record[2]));
-    let [before, after] = [0, 1].map(|_| bytes(&mut rest, record[3]));
+    let [before, after] = [0, 1].map(|_| rest.bytes(record[3]));
     let (list, lent) = (words(coordinates), Room::new(&vertices, COUNT));
     let mut room = Room::new(&before, BYTE);
     let (room_n, mut length, mut place) = (room.len(), u64::HELD, u64::HELD);
@@ -57,7 +48,7 @@ fn writing(record: &[u64]) -> Compared {
 fn reading(record: &[u64]) -> Compared {
     let (number, value, at) = (record[5], record[6], record[7]);
     let mut rest = Words(&record[HEADER..]);
-    let file = bytes(&mut rest, record[1]);
+    let file = rest.bytes(record[1]);
     let [before, after] = [0, 1].map(|_| (rest.take(record[3]), counts(&mut rest, record[4])));
     let book = Room::new(&file, BYTE);
     let (mut numbers, mut vertices) = (words(before.0), Room::new(&before.1, COUNT));

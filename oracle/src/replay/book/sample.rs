@@ -5,7 +5,7 @@ use crate::answers::Point;
 use crate::book::{book_of, file_of, readings, MOST_BYTES, MOST_RINGS};
 use crate::calls::points_of;
 use crate::replay::polygons::near;
-use crate::replay::{with, EDGES, NANS};
+use crate::replay::{edge, patch, with};
 use crate::seeded::Seeded;
 use crate::shapes::seeded_ring;
 
@@ -77,15 +77,6 @@ fn turned(seeded: &mut Seeded, ring: &[f64]) -> Vec<f64> {
     all[seeded.below(all.len())].iter().flat_map(|p| [p.0, p.1]).collect()
 }
 
-/// An edge number or a NaN.
-fn edge(seeded: &mut Seeded) -> f64 {
-    if seeded.below(4) == 0 {
-        f64::from_bits(seeded.pick(&NANS))
-    } else {
-        seeded.pick(&EDGES)
-    }
-}
-
 /// Something wrong, or only odd, about what is lent for writing.
 fn disturb(seeded: &mut Seeded, coordinates: &mut Vec<f64>, counts: &mut Vec<u32>) {
     let place = seeded.below(counts.len().max(1));
@@ -130,13 +121,6 @@ fn resplit(seeded: &mut Seeded, rings: &[Vec<f64>]) -> Vec<Vec<f64>> {
     let last = cut[place].split_off(rings[place].len() - 2);
     cut[next] = [last, cut[next].clone()].concat();
     cut
-}
-
-/// Puts these bytes in this place, if they fit.
-fn patch(file: &mut [u8], place: usize, bytes: &[u8]) {
-    if let Some(there) = file.get_mut(place..place + bytes.len()) {
-        there.copy_from_slice(bytes);
-    }
 }
 
 /// Exchanges the vertices of the file that begin with these two places.

@@ -11,7 +11,7 @@ use Rattle.refusals.specs.Refusals.{passed}
 use Rattle.book_layout.specs.Layout.{coordinateBytes, coordsIn, countsIn, entryOffset, coordsOf, countsOf}
 use Rattle.book_layout.specs.Faults.{coordsCheck}
 use Rattle.book_layout.specs.Reader.{numbersOf}
-use Rattle.book_layout.proofs.Bytes.{laid-is}
+use Rattle.ring.proofs.Emit.{laid-is}
 use Rattle.book_layout.proofs.Exact.{Checked, checked}
 use Rattle.book_layout.proofs.Lent.{length-numbers, length-counts}
 use Rattle.book_reader.proofs.load.load_book.Statement.{statement}

@@ -3,7 +3,7 @@ use Prim.Native.Nat.{ℕ}
 use mathlib.Core.Path.{sym, ap, _∙_}
 use borrow.Author.Needs.{needs}
 use borrow.Author.Tests.{not-true, not-false}
-use Rattle.refusals.specs.Screens.{wrongBook}
+use Rattle.refusals.specs.Screens.{shortRoom}
 use Rattle.refusals.proofs.First.{on, off}
 use Rattle.refusals.proofs.RingRow.{rings-taken}
 use Rattle.book_layout.specs.Writer.{writeRefusal}
@@ -29,19 +29,19 @@ size-of-requires c κs =
     let t = rings-taken (a .xs .now) (a .counts .now) (rw (← p .before .lent .ensures, ← p .passed .ensures) (not-false (p .passed .result) (c .if1 .left))) in
     (t .1, t .2)
 
-book-requires : tie.Need-book-requires
-book-requires c κs = search needs
+short-requires : tie.Need-short-requires
+short-requires c κs = search needs
 
 returns-2 : tie.Need-returns-2
 unfolding writeRefusal
 returns-2 c =
     let e = c .before .before in
     let p = e .before in
-    c .book .ensures
-    ∙ ap (λ (n : ℕ). wrongBook n (p .before .before .before .before .args .size)) (c .before .size-of .ensures)
+    c .short .ensures
+    ∙ ap (λ (n : ℕ). shortRoom n (p .before .before .before .before .args .size)) (c .before .size-of .ensures)
     ∙ sym (on _ _ (p .before .lent .ensures) (p .passed .ensures) (not-false (p .passed .result) (e .if1 .left)))
 
 pub refusal-spec : {M : Type 1} → statement M
 refusal-spec =
     tie.close
-    (tie.spec lent-requires passed-requires returns size-of-requires book-requires returns-2)
+    (tie.spec lent-requires passed-requires returns size-of-requires short-requires returns-2)

@@ -22,10 +22,14 @@ returns-4 c = rw (c .match .keys4)
 
 returns-5 : tie.Need-returns-5
 unfolding tellsPlace
-returns-5 c =
+returns-5 c = rw (c .match .keys5)
+
+returns-6 : tie.Need-returns-6
+unfolding tellsPlace
+returns-6 c =
     let n = c .before .args .self .number in
     let r = c .match .rest in
-    rw (ne-eqb n 1 (r .0 .0 .0 .1), ne-eqb n 7 (r .0 .0 .1), ne-eqb n 8 (r .0 .1), ne-eqb n 9 (r .1))
+    rw (ne-eqb n 1 (r .0 .0 .0 .0 .1), ne-eqb n 7 (r .0 .0 .0 .1), ne-eqb n 8 (r .0 .0 .1), ne-eqb n 9 (r .0 .1), ne-eqb n 10 (r .1))
 
 pub tells-place-spec : {M : Type 1} → statement M
-tells-place-spec = tie.close (tie.spec returns returns-2 returns-3 returns-4 returns-5)
+tells-place-spec = tie.close (tie.spec returns returns-2 returns-3 returns-4 returns-5 returns-6)

@@ -5,6 +5,7 @@
 
 mod memory;
 mod plain_book;
+mod plain_wkb;
 mod rows;
 mod timing;
 mod traces;

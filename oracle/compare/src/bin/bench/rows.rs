@@ -1,13 +1,14 @@
 //! Single calls, each side of which is first seen to answer the same.
 
-use crate::plain_book;
 use crate::timing::{side, Sides};
+use crate::{plain_book, plain_wkb};
 use compare::ffi;
 use oracle::answers::Point;
 use oracle::calls::{self, points_of};
 use oracle::fixed::{nfp_sliding as text, polygon_ops};
 use oracle::seeded::Seeded;
-use oracle::shapes::{disc, placed};
+use oracle::shapes::{closed, disc, placed};
+use oracle::wkb::{file_of, Order};
 use std::hint::black_box;
 
 /// The usual tolerance.
@@ -223,6 +224,51 @@ fn reading(equal: bool) -> Sides {
     ]
 }
 
+/// A seeded ring of 256 vertices.
+fn ring_of_256() -> Vec<f64> {
+    let seeded = &mut Seeded::new(3);
+    (0..512).map(|_| seeded.spread(1e6)).collect()
+}
+
+/// `write_wkb` of a ring of 256 vertices.
+fn writing_wkb() -> Sides {
+    let ring = ring_of_256();
+    let (mut room, mut plain) = (vec![0; 4_125], vec![0; 4_125]);
+    let same = ring.clone();
+    let write = move |room: &mut [u8]| {
+        let (mut length, mut place) = (0, 0);
+        let (list, n) = (black_box(ring.as_ptr()), ring.len());
+        let (to, room_n) = (room.as_mut_ptr(), room.len());
+        // SAFETY: both lists are as long as is said, and every pointer has its cell.
+        let number = unsafe { ffi::byr_write_wkb(list, n, to, room_n, &mut length, &mut place) };
+        (number, length)
+    };
+    assert_eq!(write(&mut room), (0, 4_125));
+    assert_eq!(plain_wkb::write(&same, &mut plain), 4_125);
+    assert!(room == plain);
+    [side(move || plain_wkb::write(black_box(&same), &mut plain)), side(move || write(&mut room))]
+}
+
+/// `read_wkb` of a ring of 256 vertices, in this byte order.
+fn reading_wkb(order: Order) -> Sides {
+    let ring = ring_of_256();
+    let file = file_of(order, &closed(&ring));
+    let same = file.clone();
+    let read = move |room: &mut [f64]| {
+        let (mut vertices, mut place) = (0, 0);
+        let (list, n) = (black_box(file.as_ptr()), file.len());
+        let (to, room_n) = (room.as_mut_ptr(), room.len());
+        // SAFETY: both lists are as long as is said, and every pointer has its cell.
+        let number = unsafe { ffi::byr_read_wkb(list, n, to, room_n, &mut vertices, &mut place) };
+        (number, vertices)
+    };
+    let (mut one, mut other) = (vec![0.0; 512], vec![0.0; 512]);
+    assert_eq!(read(&mut one), (0, 256));
+    assert_eq!(plain_wkb::read(&same, &mut other), Some(256));
+    assert!(one == ring && other == ring);
+    [side(move || plain_wkb::read(black_box(&same), &mut other)), side(move || read(&mut one))]
+}
+
 /// All single calls.
 pub fn calls() -> Vec<Row> {
     vec![
@@ -237,5 +283,8 @@ pub fn calls() -> Vec<Row> {
         Row::new("write_book, 8 rings of 256 equal vertices", || writing(true)),
         Row::new("read_book, 8 seeded rings of 256", || reading(false)),
         Row::new("read_book, 8 rings of 256 equal vertices", || reading(true)),
+        Row::new("write_wkb, 256 vertices", writing_wkb),
+        Row::new("read_wkb, 256 vertices, little-endian", || reading_wkb(Order::Little)),
+        Row::new("read_wkb, 256 vertices, big-endian", || reading_wkb(Order::Big)),
     ]
 }

@@ -1,0 +1,2 @@
+-- The definitions that the contracts of the reader's inner functions cite.
+pub mod Parts

@@ -1,0 +1,3 @@
+// The writer of drawings in well-known binary.
+pub mod calls;
+mod store;
