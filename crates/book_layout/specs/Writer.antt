@@ -20,12 +20,12 @@ use Rattle.book_layout.specs.Faults.{_passes}
 use Rattle.refusals.specs.Rings.{ringsMost, total, sizedAll}
 use Rattle.book_layout.specs.Layout.{vertexBytes, entryBytes, tailBytes, bookOf}
 
--- the rings of these vertex counts, one after the other
+-- the rings of these vertex counts, one after the other, as a book keeps their coordinates
 unfoldable pub ringsFrom : List ℕ → List Float → List (List Vertex)
 ringsFrom [] xs = []
 ringsFrom (n ∷ ns) xs = ringOf (take (2 * n) xs) ∷ ringsFrom ns (drop (2 * n) xs)
 
--- the same rings as they are lent, bit for bit
+-- the same rings with the bits that are lent
 unfoldable pub lentFrom : List ℕ → List Float → List (List Vertex)
 lentFrom [] xs = []
 lentFrom (n ∷ ns) xs = vertices (map (toBits binary64) (take (2 * n) xs)) ∷ lentFrom ns (drop (2 * n) xs)

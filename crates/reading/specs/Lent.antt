@@ -12,7 +12,7 @@ use Rattle.reading.specs.Reading.{Vertex, vertices}
 unfoldable pub kept : Float → ℕ
 kept x = cond (eq x (ofBits binary64 0)) 0 (toBits binary64 x)
 
--- the ring that is lent
+-- the ring that is lent, as a book keeps its coordinates
 abbrev pub ringOf : List Float → List Vertex
 ringOf xs = vertices (map kept xs)
 
