@@ -104,18 +104,23 @@ ring-count n xs h =
     let l : length (take (2 * n) xs) ≡ 2 * n = length-take-le (2 * n) xs h in
     omega (arith, length-ringOf (take (2 * n) xs) (omega arith))
 
+-- one ring, as it is kept
+ring-outline : (n : ℕ) (xs : List Float) → Formed xs → within verticesLeast verticesMost n ≡ true → coordinates xs ≡ true → 2 * n ≤ length xs → Outline (ringOf (take (2 * n) xs))
+ring-outline n xs f s t h =
+    let w = is-within verticesLeast verticesMost n s in
+    let c : length (ringOf (take (2 * n) xs)) ≡ n = ring-count n xs h in
+    record {
+      least = omega (arith, w .0);
+      most = omega (arith, w .1);
+      corners = corners (map kept (take (2 * n) xs)) (all-kept (take (2 * n) xs) (each-take (λ (x : Float). T (fits binary64 x)) (2 * n) xs f) (coordinates-take (2 * n) xs t));
+    }
+
 rings-outline : (ns : List ℕ) (xs : List Float) → Formed xs → sizedAll ns ≡ true → coordinates xs ≡ true → 2 * total ns ≤ length xs → Each Outline (ringsFrom ns xs)
 unfolding ringsFrom sizedAll total
 rings-outline [] xs f s t h = tt
 rings-outline (n ∷ ns) xs f s t h =
-    let p = both (within verticesLeast verticesMost n) (sizedAll ns) s in
-    let w = is-within verticesLeast verticesMost n (p .0) in
-    let c : length (ringOf (take (2 * n) xs)) ≡ n = ring-count n xs (omega arith) in (
-      record {
-        least = omega (arith, w .0);
-        most = omega (arith, w .1);
-        corners = corners (map kept (take (2 * n) xs)) (all-kept (take (2 * n) xs) (each-take (λ (x : Float). T (fits binary64 x)) (2 * n) xs f) (coordinates-take (2 * n) xs t));
-      },
+    let p = both (within verticesLeast verticesMost n) (sizedAll ns) s in (
+      ring-outline n xs f (p .0) t (omega arith),
       rings-outline ns (drop (2 * n) xs) (each-drop (λ (x : Float). T (fits binary64 x)) (2 * n) xs f) (p .1) (coordinates-drop (2 * n) xs t) (omega (arith, length-drop (2 * n) xs)),
     )
 

@@ -31,13 +31,13 @@ keptOf b = kept (ofBits binary64 b)
 abbrev keptVertex : Vertex → Vertex
 keptVertex v = record { x = keptOf (v .x); y = keptOf (v .y) }
 
-same-kept : (a b : ℕ) → AsNumbers a b → keptOf a ≡ keptOf b
-same-kept a b = kept-eq (ofBits binary64 a) (ofBits binary64 b) (ofBits-fits binary64 a) (ofBits-fits binary64 b)
-
 kept-same : (a b : ℕ) → Coordinate (keptOf b) → keptOf a ≡ keptOf b → AsNumbers a b
 kept-same a b c =
     eq-kept (ofBits binary64 a) (ofBits binary64 b) (ofBits-fits binary64 a) (ofBits-fits binary64 b)
     (kept-number (ofBits binary64 b) (ofBits-fits binary64 b) (bits-number (keptOf b) c))
+
+same-kept : (a b : ℕ) → AsNumbers a b → keptOf a ≡ keptOf b
+same-kept a b = kept-eq (ofBits binary64 a) (ofBits binary64 b) (ofBits-fits binary64 a) (ofBits-fits binary64 b)
 
 -- ---- rings, as they are lent and as they are kept
 

@@ -14,7 +14,7 @@ use Rattle.reading.specs.Lent.{kept, ringOf}
 use Rattle.number_bytes.specs.Bytes.{bytesOf, numberOf}
 use Rattle.refusals.specs.Rings.{total}
 use Rattle.book_layout.specs.Layout.{coordBytes, body, entries, layout, bookOf, coordinateBits, coordsIn, countsIn, coordsOf, countsOf, ringCount, entryOffset}
-use Rattle.book_layout.specs.Writer.{writeRefusal}
+use Rattle.book_layout.specs.Writer.{ringsFrom, writeRefusal}
 use Rattle.book_layout.specs.Reader.{readRefusal}
 use Rattle.book_layout.specs.Faults.{faultAt, entriesCheck, coordsCheck, leastCheck, bookCheck}
 
@@ -47,13 +47,13 @@ unfolding bookOf layout body entries coordBytes bytesOf leastReading bestOf best
 triangle-book = refl
 
 -- so has the ring (4,-0.0), (-0.0,3), (0,0), though the pattern of -0.0 is before that of 0.0
-pub minus-book : bookOf (ringOf (four ∷ minus ∷ minus ∷ three ∷ zero ∷ zero ∷ []) ∷ []) ≡ book
-unfolding bookOf layout body entries coordBytes bytesOf leastReading bestOf best less ord kept toBits eq ofBits
+pub minus-book : bookOf (ringsFrom (3 ∷ []) (four ∷ minus ∷ minus ∷ three ∷ zero ∷ zero ∷ [])) ≡ book
+unfolding ringsFrom bookOf layout body entries coordBytes bytesOf leastReading bestOf best less ord kept toBits eq ofBits
 minus-book = refl
 
 -- (-0.0,3), (4,0), (0,3), (4,0) and its reading from the third vertex on differ in a zero's sign only
-pub twin-book : bookOf (ringOf (minus ∷ three ∷ four ∷ zero ∷ zero ∷ three ∷ four ∷ zero ∷ []) ∷ []) ≡ bookOf (ringOf (zero ∷ three ∷ four ∷ zero ∷ minus ∷ three ∷ four ∷ zero ∷ []) ∷ [])
-unfolding kept toBits eq ofBits
+pub twin-book : bookOf (ringsFrom (4 ∷ []) (minus ∷ three ∷ four ∷ zero ∷ zero ∷ three ∷ four ∷ zero ∷ [])) ≡ bookOf (ringsFrom (4 ∷ []) (zero ∷ three ∷ four ∷ zero ∷ minus ∷ three ∷ four ∷ zero ∷ []))
+unfolding ringsFrom kept toBits eq ofBits
 twin-book = refl
 
 pub triangle-fine : bookCheck book ≡ none

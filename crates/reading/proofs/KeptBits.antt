@@ -7,7 +7,7 @@ use mathlib.Core.Bool.{Bool, true, false, not, _&&_, _||_, or-true, Bool·beq}
 use lib.IntN.{ℤ}
 use lib.Dec.{T, eqb}
 use lib.Ieee.{Float, nan, inf, fin, binary64, eq, lt, up, down, isNan, fits, ofBits, toBits}
-use lib.Ieee.Bits.{ofBits-toBits, toBits-lt}
+use lib.Ieee.Bits.{ofBits-toBits, ofBits-fits, toBits-lt}
 use lib.Ieee.Fits.{up-pos, down-pos}
 use borrow.Author.Tests.{eqb-true, eq-eqb, le-ltb, ltb-false}
 use Rattle.laws.proofs.Both.{both}
@@ -150,3 +150,7 @@ kept-eq (fin s (suc m) e) (fin t (suc n) d) f g h =
     ∙ same-bits s m n e d f (subst (λ (b : Bool). T (fits binary64 (fin b (suc n) d))) (sym z) g) l
     ∙ ap (λ (b : Bool). toBits binary64 (fin b (suc n) d)) z
     ∙ sym (kept-own (fin t (suc n) d) (some-eq t n d))
+
+-- no number is changed by being kept
+pub kept-equal : (x : Float) → T (fits binary64 x) → T (not (isNan x)) → eq (ofBits binary64 (kept x)) x ≡ true
+kept-equal x f n = eq-kept (ofBits binary64 (kept x)) x (ofBits-fits binary64 (kept x)) f n (kept-again x f)
