@@ -26,6 +26,7 @@ struct Met {
 }
 
 impl Met {
+    /// What is in a record of the list.
     fn of(record: &[u64]) -> Self {
         let (call, n, rings) = (record[0], record[1] as usize, record[2] as usize);
         let rest = &record[book::HEADER..];
