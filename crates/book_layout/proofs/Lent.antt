@@ -1,13 +1,13 @@
 -- Lists of f64s: those that the writer takes are rings that a book holds, and those that the reader hands out are taken by the writer. Assumes nothing.
-use Prim.Native.Nat.{ℕ, zero, suc, _+_, _*_, _/_, _%_, _≤_}
+use Prim.Native.Nat.{ℕ, zero, suc, _+_, _*_, _/_, _≤_}
 use native.Mathlib.Omega.{arith}
 use mathlib.Core.Path.{_≡_, refl, ap, ap₂, subst, _∙_}
-use mathlib.Core.Bool.{true, not, _&&_}
+use mathlib.Core.Bool.{true, not}
 use mathlib.Core.List.{List, [], _∷_, _++_, map, map-append}
 use lib.ListN.{length, take, drop, length-drop, length-map}
 use lib.Seq.{drop-drop, length-take-le, take-at, drop-at}
 use lib.Dec.{T, leb, eqb}
-use lib.Ieee.{Float, nan, inf, fin, binary64, fits, isNan, ofBits}
+use lib.Ieee.{Float, binary64, fits, isNan, ofBits}
 use borrow.Author.Tests.{le-leb, leb-true, eq-eqb, eqb-true}
 use Rattle.refusals.specs.Screens.{shortRoom}
 use Rattle.refusals.specs.Rows.{ofRings}
@@ -16,11 +16,10 @@ use Rattle.refusals.proofs.Coordinate.{coordinate-number}
 use Rattle.reading.specs.Reading.{Vertex, vertices}
 use Rattle.reading.specs.Lent.{kept, ringOf}
 use Rattle.reading.proofs.KeptBits.{kept-lt, of-kept, kept-again}
-use Rattle.reading.proofs.Order.{no-bool}
 use Rattle.reading.proofs.Places.{length-ringOf}
 use Rattle.number_bytes.specs.Bytes.{numberOf, Each, Byte, Formed}
 use Rattle.number_bytes.proofs.Each.{each-take, each-drop}
-use Rattle.refusals.specs.Rings.{verticesLeast, verticesMost, ringsMost, within, total, sizedAll}
+use Rattle.refusals.specs.Rings.{verticesLeast, verticesMost, within, total, sizedAll}
 use Rattle.book_layout.specs.Layout.{coordinateBytes, vertexBytes, coordinateBits, Coordinate, Outline, Accepted, coordsIn, ringsIn, ringCount, entryOffset, coordsOf, countsOf, ringsOf}
 use Rattle.book_layout.specs.Faults.{_passes, bookCheck}
 use Rattle.book_layout.specs.Writer.{ringsFrom, bookSize, writeRefusal, Held}

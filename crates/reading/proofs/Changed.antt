@@ -1,10 +1,10 @@
 -- The readings of a ring whose vertices are changed, each by itself, are the readings of the ring, so changed. Assumes nothing.
-use Prim.Native.Nat.{ℕ, zero, suc, _<_}
+use Prim.Native.Nat.{ℕ, zero, suc}
 use native.Mathlib.Omega.{arith}
 use mathlib.Core.Path.{_≡_, refl, sym, ap, ap₂, _∙_}
 use mathlib.Core.Bool.{Bool, true, false}
 use mathlib.Core.List.{List, [], _∷_, _++_, map, map-append, reverseAux, reverse}
-use lib.ListN.{length, take, drop, length-map}
+use lib.ListN.{take, drop, length-map}
 use Rattle.reading.specs.Reading.{rot, reading, Reads}
 
 module _ {A B : Type 0} (g : A → B) where
