@@ -1,17 +1,16 @@
 -- The reader's loops over coordinates: what is left of the check, and of what is loaded. Assumes nothing.
-use Prim.Native.Nat.{ℕ, zero, suc, _+_, _-_, _*_, _≤_, _<_}
+use Prim.Native.Nat.{ℕ, suc, _+_, _-_, _*_, _≤_, _<_}
 use native.Mathlib.Omega.{arith}
-use mathlib.Core.Path.{_≡_, refl, ap, ap₂, _∙_}
+use mathlib.Core.Path.{_≡_, ap, ap₂, _∙_}
 use mathlib.Core.Bool.{true, false}
 use mathlib.Core.List.{List, map}
-use lib.ListN.{length, drop, set}
+use lib.ListN.{drop, set}
 use lib.Seq.{sets, drop-drop}
 use lib.Ieee.{Float, binary64, ofBits}
 use Rattle.refusals.specs.Refusals.{refusedWkb, none, refuse, first}
 use Rattle.refusals.specs.Bounds.{coordinate}
 use Rattle.refusals.specs.declared.Refusal.{Refusal}
 use Rattle.wkb_layout.specs.Layout.{headBytes, numberBytes, orderIn, bitsIn, numbersIn}
-use Rattle.wkb_layout.specs.declared.Order.{Order}
 use Rattle.wkb_layout.specs.Faults.{wkbFault, numberIn, numbersCheck}
 
 -- the byte of coordinate j
@@ -24,11 +23,6 @@ checkFrom f k j = numbersCheck (orderIn f) k (numberAt j) (drop (numberAt j) f)
 
 abbrev pub numbersFrom : List ℕ → ℕ → ℕ → List Float
 numbersFrom f k j = map (ofBits binary64) (numbersIn (orderIn f) k (drop (numberAt j) f))
-
-pub length-numbers : (o : Order) (k : ℕ) (f : List ℕ) → length (numbersIn o k f) ≡ k
-unfolding numbersIn
-length-numbers o zero f = refl
-length-numbers o (suc k) f = ap suc (length-numbers o k (drop numberBytes f))
 
 next : (j : ℕ) → numberAt j + numberBytes ≡ numberAt (j + 1)
 next j = omega arith

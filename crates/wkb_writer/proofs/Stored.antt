@@ -7,13 +7,13 @@ use lib.ListN.{length, take, length-append, length-map}
 use lib.Seq.{sets, length-take-le}
 use lib.Ieee.{Float, binary64, toBits}
 use Rattle.ring.specs.Room.{laid}
-use Rattle.ring.proofs.Emit.{laid-is}
+use Rattle.ring.proofs.Emit.{laid-is, sets-append}
 use Rattle.number_bytes.specs.Bytes.{bytesOf}
-use Rattle.number_bytes.proofs.Bytes.{length-bytesOf}
 use Rattle.wkb_layout.specs.Layout.{numberBytes, headBytes, writtenAs, numbersAs, headOf, wkbOf}
 use Rattle.wkb_layout.specs.Writer.{closed, drawingOf, drawingSize}
 use Rattle.wkb_layout.specs.declared.Order.the-variants.{Little}
-use Rattle.wkb_writer.proofs.Storing.{sets-append, numbers}
+use Rattle.wkb_layout.proofs.Numbers.{length-numbersAs}
+use Rattle.wkb_writer.proofs.Storing.{numbers}
 
 -- ---- the parts
 
@@ -25,11 +25,7 @@ numbers-append (x ∷ xs) ys =
     ap (λ (l : List ℕ). b ++ l) (numbers-append xs ys) ∙ sym (append-assoc b (numbers xs) (numbers ys))
 
 length-numbers : (xs : List Float) → length (numbers xs) ≡ numberBytes * length xs
-unfolding numbersAs writtenAs
-length-numbers [] = refl
-length-numbers (x ∷ xs) =
-    length-append (bytesOf numberBytes (toBits binary64 x)) (numbers xs)
-    ∙ omega (arith, length-numbers xs, length-bytesOf numberBytes (toBits binary64 x))
+length-numbers xs = length-numbersAs Little (map (toBits binary64) xs) ∙ ap (λ (n : ℕ). numberBytes * n) (length-map xs (toBits binary64))
 
 length-head : (points : ℕ) → length (headOf Little points) ≡ headBytes
 unfolding writtenAs bytesOf

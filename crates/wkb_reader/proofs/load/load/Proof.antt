@@ -11,8 +11,9 @@ use lib.Ieee.{Float, binary64, ofBits}
 use Rattle.ring.proofs.Emit.{laid-is}
 use Rattle.wkb_layout.specs.Layout.{headBytes, orderIn, numbersIn, openVertices, openNumbers}
 use Rattle.wkb_layout.specs.Reader.{openRing}
+use Rattle.wkb_layout.proofs.Numbers.{length-numbersIn}
 use Rattle.wkb_reader.proofs.Checked.{Headed, passing}
-use Rattle.wkb_reader.proofs.Numbers.{numbersFrom, length-numbers, load-start, load-on, load-end}
+use Rattle.wkb_reader.proofs.Numbers.{numbersFrom, load-start, load-on, load-end}
 use Rattle.wkb_reader.proofs.load.load.Statement.{statement}
 use Rattle.wkb_reader.proofs.load.load.Tie as tie
 
@@ -89,7 +90,7 @@ returns c =
     let f = s .args .f .now in
     let n = p .points .result - 1 in
     let e : n ≡ openVertices f = ap (λ (k : ℕ). k - 1) (p .points .ensures .0) in
-    let size : length (openRing f) ≡ 2 * openVertices f = length-map (numbersIn (orderIn f) (2 * openVertices f) (drop headBytes f)) (ofBits binary64) ∙ length-numbers (orderIn f) (2 * openVertices f) (drop headBytes f) in (
+    let size : length (openRing f) ≡ 2 * openVertices f = length-map (numbersIn (orderIn f) (2 * openVertices f) (drop headBytes f)) (ofBits binary64) ∙ length-numbersIn (orderIn f) (2 * openVertices f) (drop headBytes f) in (
       e,
       sym (load-end f (2 * n) (l .loop .j) (c .loop-test .left) (l .loop .room))
           ∙ sym (l .loop .inv .2)
