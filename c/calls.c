@@ -943,6 +943,64 @@ static void closed_drawings(void) {
     CHECK(place == HELD_COUNT);
 }
 
+/* Rings that differ in the signs of zeros alone, one book; a carrier that is symmetric
+ * about x = 0 and its mirror likewise. */
+static void books_of_zeros(void) {
+    static const double zeros[6] = {4, -0.0, -0.0, 3, 0, -0.0};
+    static const double chosen[10] = {0, -0.0, 1, 5, 2, 2, 0, 0, 1, 3}; /* by sign, read back from the first */
+    static const double least[10] = {0, 0, 1, 3, 0, 0, 1, 5, 2, 2};
+    static const double carrier[16] = {0, 9.125, -12.5, 18.75, -42.25, 18.75, -42.25, 0,
+                                       0, -6.5,  42.25, 0,     42.25,  18.75, 12.5,   18.75};
+    static const uint32_t three[1] = {3};
+    static const uint32_t five[1] = {5};
+    static const uint32_t eight[1] = {8};
+    double mirror[16];
+    double stored[10];
+    uint32_t counts[1];
+    uint8_t room[144];
+    uint8_t other[144];
+    uint64_t rings = HELD_COUNT;
+    uint64_t length = HELD_COUNT;
+    uint64_t vertices = HELD_COUNT;
+    uint64_t place = HELD_COUNT;
+
+    CHECK(byr_write_book(zeros, 6, three, 1, room, 64, &length, &place) == 0 && memcmp(room, BOOK, 64) == 0);
+    CHECK(byr_write_book(chosen, 10, five, 1, room, 96, &length, &place) == 0 && length == 96);
+    CHECK(byr_read_book(room, 96, stored, 10, counts, 1, &rings, &place) == 0 && same_list(stored, least, 10));
+    CHECK(byr_write_book(carrier, 16, eight, 1, room, 144, &length, &place) == 0 && length == 144);
+    CHECK(byr_mirror_polygon(carrier, 16, mirror, 16, &vertices, &place) == 0 && same(mirror[14], -0.0));
+    CHECK(byr_write_book(mirror, 16, eight, 1, other, 144, &length, &place) == 0 && length == 144);
+    CHECK(memcmp(room, other, 144) == 0 && place == HELD_COUNT);
+}
+
+/* A stored -0.0 in each coordinate, alone, and with a wrong one after and before it. */
+static void refused_zeros(void) {
+    uint8_t wrong[64];
+    double coordinates[6];
+    uint32_t counts[1] = {HELD_WORD};
+    uint64_t rings = HELD_COUNT;
+    size_t at;
+
+    hold(coordinates, 6);
+    for (at = 0; at < 48; at += 8) {
+        uint64_t place = HELD_COUNT;
+        row = at / 8 + 1;
+        memcpy(wrong, BOOK, sizeof wrong);
+        memset(wrong + at, 0, 7);
+        wrong[at + 7] = 0x80;
+        CHECK(byr_read_book(wrong, 64, coordinates, 6, counts, 1, &rings, &place) == BYR_REFUSED_BOOK && place == at);
+        if (at < 40) {
+            wrong[47] = 0x7f; /* past 1000000 */
+        }
+        place = HELD_COUNT;
+        CHECK(byr_read_book(wrong, 64, NULL, 0, NULL, 0, &rings, &place) == BYR_REFUSED_BOOK && place == at);
+        wrong[7] = 0x7f;
+        CHECK(byr_read_book(wrong, 64, NULL, 0, NULL, 0, &rings, &place) == BYR_REFUSED_BOOK && place == 0);
+    }
+    row = 0;
+    CHECK(held(coordinates, 0, 6) && counts[0] == HELD_WORD && rings == HELD_COUNT);
+}
+
 static void reading(void) {
     static const double stored[6] = {0, 0, 0, 3, 4, 0};
     uint8_t odd[65];
@@ -969,6 +1027,7 @@ static void reading(void) {
     CHECK(byr_read_book(odd + 1, 64, coordinates, 7, counts, 2, &rings, &place) == 0 && rings == 1);
     CHECK(same_list(coordinates, stored, 6) && held(coordinates, 6, 7));
     CHECK(counts[0] == 3 && counts[1] == HELD_WORD && place == HELD_COUNT);
+    refused_zeros();
 }
 
 /* ---- Drawings in well-known binary ---- */
@@ -1260,6 +1319,7 @@ int main(void) {
     traces();
     writing();
     closed_drawings();
+    books_of_zeros();
     reading();
     reading_wkb();
     writing_wkb();

@@ -298,10 +298,12 @@ uint32_t byr_compute_nfp_sliding(const double *stationary, size_t sn, const doub
 
 /* Writes the book of 1 to 8 rings of 3 to 256 vertices: coordinates has them one
  * after the other, counts the vertices of each. Two rings give the same bytes
- * exactly if they are the same vertices, bit for bit, begun at any of them and
- * taken either way round. A closing repeat is a vertex like any other: the closed
- * (0,0),(4,0),(0,3),(0,0) and (4,0),(0,3),(0,0),(4,0) have two books, and opened
- * one. length: the book's bytes, 16 a vertex, 8 a ring and 8; 32840 at most.
+ * exactly if they are the same vertices, as numbers, begun at any of them and taken
+ * either way round: of either zero 0.0 is kept, so that an outline symmetric about
+ * x = 0 and its mirror by byr_mirror_polygon have one book. A closing repeat is a
+ * vertex like any other: the closed (0,0),(4,0),(0,3),(0,0) and
+ * (4,0),(0,3),(0,0),(4,0) have two books, and opened one. length: the book's bytes,
+ * 16 a vertex, 8 a ring and 8; 32840 at most.
  *
  * Refusals, in this order, and the place that each tells:
  *
@@ -317,7 +319,9 @@ uint32_t byr_write_book(const double *coordinates, size_t n, const uint32_t *cou
 
 /* Hands out the rings of a book as stored: their coordinates one after the other
  * and the vertices of each; rings: how many. 4096 coordinates and 8 counts always
- * suffice. Refusals: 7, with place the byte of the first fault; then 4. */
+ * suffice. Writing what was read gives that book again. Refusals: 7 for what
+ * byr_write_book does not write, with place the byte of the first fault, which for a
+ * stored -0.0 is that coordinate's first byte; then 4. */
 uint32_t byr_read_book(const uint8_t *book, size_t n, double *coordinates, size_t coordinates_n, uint32_t *counts,
                        size_t counts_n, uint64_t *rings, uint64_t *place);
 

@@ -28,6 +28,21 @@ const FIELD: usize = 4;
 // Readings
 // ---------------------------------------------------------------------------
 
+/// What a book keeps of a coordinate: +0.0 of either zero, and another number as it
+/// is.
+pub fn kept(x: f64) -> f64 {
+    if x == 0.0 {
+        0.0
+    } else {
+        x
+    }
+}
+
+/// The ring with its coordinates as a book keeps them.
+fn kept_ring(ring: &[Point]) -> Vec<Point> {
+    ring.iter().map(|p| (kept(p.0), kept(p.1))).collect()
+}
+
 /// All readings of a ring: from each vertex on, and from each vertex back.
 pub fn readings(ring: &[Point]) -> Vec<Vec<Point>> {
     let n = ring.len();
@@ -36,15 +51,9 @@ pub fn readings(ring: &[Point]) -> Vec<Vec<Point>> {
     (0..n).flat_map(|start| [on(start), back(start)]).collect()
 }
 
-/// Numbers by size, -0.0 before +0.0; there is no NaN among them.
+/// Numbers by size; there is no NaN among them.
 fn number_order(a: f64, b: f64) -> Ordering {
-    if a < b {
-        Ordering::Less
-    } else if a > b {
-        Ordering::Greater
-    } else {
-        b.is_sign_negative().cmp(&a.is_sign_negative())
-    }
+    a.partial_cmp(&b).expect("neither is a NaN")
 }
 
 /// Points by x, then by y.
@@ -116,7 +125,8 @@ pub fn write_book(coordinates: &[f64], counts: &[u32], room: &mut [u8]) -> Answe
     lengths(coordinates, counts)?;
     refusals::coordinates(coordinates)?;
     let rings = cut(&points_of(coordinates), counts);
-    let book = layout(&rings.iter().map(|ring| least_reading(ring)).collect::<Vec<_>>());
+    let least = rings.iter().map(|ring| least_reading(&kept_ring(ring)));
+    let book = layout(&least.collect::<Vec<_>>());
     unless(book.len() <= room.len(), Refusal::of(4))?;
     room[..book.len()].copy_from_slice(&book);
     Ok(book.len())
@@ -186,6 +196,11 @@ fn entries_of(book: &[u8], rings: usize, entries: usize) -> Answer<Vec<u32>> {
     Ok(counts)
 }
 
+/// Whether a book can hold this number: within the bounds, and as it is kept.
+fn storable(number: f64) -> bool {
+    number.abs() <= LARGEST && number.to_bits() == kept(number).to_bits()
+}
+
 /// Checks the book; answers its coordinates and the vertices of each ring.
 fn checked(book: &[u8]) -> Answer<(Vec<f64>, Vec<u32>)> {
     let (rings, entries) = end_of(book)?;
@@ -193,7 +208,7 @@ fn checked(book: &[u8]) -> Answer<(Vec<f64>, Vec<u32>)> {
     let mut coordinates = Vec::new();
     for place in (0..entries).step_by(COORDINATE) {
         let number = coordinate(book, place);
-        check(number.abs() <= LARGEST, place)?;
+        check(storable(number), place)?;
         coordinates.push(number);
     }
     let mut place = 0;

@@ -3,6 +3,7 @@
 use crate::book::{book_of, file_of, patched, printed, LEAST_BYTES};
 use crate::refusals::LARGEST;
 use crate::replay::book::longest;
+use crate::shapes::{carrier, mirrored};
 use crate::stored::{Cases, Program};
 
 /// The program, with its stored cases.
@@ -29,6 +30,7 @@ fn books() -> Cases {
     vec![
         ("three_rings", book_of(&[triangle(), pinched(), edges])),
         ("same_twice", book_of(&[pinched(), pinched()])),
+        ("carrier_and_mirror", book_of(&[carrier(), mirrored(&carrier())])),
         ("longest", book_of(&longest())),
     ]
 }
@@ -73,7 +75,8 @@ fn wrong_rings() -> Cases {
         ("infinite", with(40, f64::NEG_INFINITY)),
         ("not_a_number", with(24, f64::NAN)),
         ("too_large", with(32, LARGEST.next_up())),
-        ("zeros_swapped", file_of(&[vec![0.0, 0.0, 0.0, 3.0, -0.0, 1.0]])),
+        ("minus_zero", with(40, -0.0)),
+        ("minus_zero_and_not_the_least", file_of(&[triangle(), mirrored(&triangle())])),
         ("not_the_least", file_of(&[least, turned])),
         ("two_faults", file_of(&[triangle(), far])),
     ]

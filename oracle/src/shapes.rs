@@ -1,5 +1,6 @@
 //! Rings to try the calls on, as lists of x, y alternating.
 
+use crate::calls::mirror_polygon;
 use crate::seeded::Seeded;
 
 /// The square of docs/SCOPE.md's measured pieces with this side, at the origin.
@@ -14,6 +15,13 @@ pub fn parabola(n: usize) -> Vec<f64> {
         [x, x * x]
     };
     (0..n).flat_map(corner).collect()
+}
+
+/// A carrier that is symmetric about x = 0, with a foot and a notch on that line.
+pub fn carrier() -> Vec<f64> {
+    let left = [0.0, 9.125, -12.5, 18.75, -42.25, 18.75, -42.25, 0.0];
+    let right = [0.0, -6.5, 42.25, 0.0, 42.25, 18.75, 12.5, 18.75];
+    [left, right].concat()
 }
 
 /// A comb with this many teeth: four vertices a tooth, and two.
@@ -96,6 +104,13 @@ pub fn placed(ring: &[f64], scale: f64, x: f64, y: f64) -> Vec<f64> {
 /// The ring with its vertices in the other order.
 pub fn reversed(ring: &[f64]) -> Vec<f64> {
     ring.chunks_exact(2).rev().flat_map(|p| [p[0], p[1]]).collect()
+}
+
+/// The ring's mirror at x = 0, with -0.0 where the ring has an x of 0.0.
+pub fn mirrored(ring: &[f64]) -> Vec<f64> {
+    let mut room = vec![0.0; ring.len()];
+    mirror_polygon(ring, &mut room).expect("the ring has its mirror");
+    room
 }
 
 /// The ring with its first vertex repeated at the end.

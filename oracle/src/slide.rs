@@ -183,6 +183,7 @@ fn wrong() -> Cases {
     let right = input_of(&DEFAULT, &[least.clone(), square(2.0)]);
     let bad = Settings { contact_tolerance: 2.0, ..DEFAULT };
     let far = vec![0.0, 0.0, 0.0, 4.0, LARGEST.next_up(), 4.0];
+    let minus = vec![0.0, 0.0, 0.0, 4.0, 4.0, -0.0];
     let mut cut = right.clone();
     cut.pop();
     vec![
@@ -192,7 +193,8 @@ fn wrong() -> Cases {
         ("book_cut_off", cut),
         ("not_the_least", unchecked(&DEFAULT, &[least.clone(), turned(&least)])),
         ("not_the_least_and_large_tolerance", unchecked(&bad, &[least.clone(), turned(&least)])),
-        ("coordinate_too_large", unchecked(&DEFAULT, &[far, least])),
+        ("coordinate_too_large", unchecked(&DEFAULT, &[far, least.clone()])),
+        ("minus_zero", unchecked(&DEFAULT, &[least, minus])),
         ("too_long", [settings_bytes(&DEFAULT), vec![0; MOST_BYTES + 1]].concat()),
     ]
 }

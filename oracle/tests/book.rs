@@ -1,7 +1,7 @@
 //! The outline book: docs/SCOPE.md's example, the least reading, each refusal.
 
 use oracle::answers::Point;
-use oracle::book::{layout, least_reading, printed, read_book, readings, write_book};
+use oracle::book::{kept, layout, least_reading, printed, read_book, readings, write_book};
 use oracle::calls::points_of;
 use oracle::refusals::{Answer, Refusal};
 use oracle::seeded::Seeded;
@@ -84,8 +84,8 @@ fn several_rings_and_refused_books_are_printed() {
         0000000000000000 4008000000000000\n\
         4010000000000000 0000000000000000\n\
         ring 1 vertices 3\n\
-        8000000000000000 3ff0000000000000\n\
         0000000000000000 bff0000000000000\n\
+        0000000000000000 3ff0000000000000\n\
         4000000000000000 3fe0000000000000\n";
     assert_eq!(printed(&book), text);
     for wrong in [vec![], vec![0; 63], vec![0; 32_841], vec![0; 100_000]] {
@@ -106,12 +106,20 @@ fn a_ring_may_hold_its_lowest_vertex_twice() {
 }
 
 #[test]
-fn minus_zero_comes_first_and_is_kept() {
-    let ring = [0.0, 0.0, -0.0, 0.0, 0.0, -0.0];
-    let (mut coordinates, mut counts) = ([7.5; 6], [9; 1]);
-    assert_eq!(read_book(&book_of(&[&ring]), &mut coordinates, &mut counts), Ok(1));
-    let expected = [-0.0, 0.0, 0.0, -0.0, 0.0, 0.0];
-    assert_eq!(coordinates.map(f64::to_bits), expected.map(f64::to_bits));
+fn either_zero_is_kept_as_plus_zero() {
+    let zeros = [0.0, 0.0, -0.0, 0.0, 0.0, -0.0];
+    assert_eq!(book_of(&[&zeros]), layout(&[vec![(0.0, 0.0); 3]]));
+    for number in [5e-324, -5e-324, f64::MIN_POSITIVE, -1.0, 1e6, -1e6] {
+        assert_eq!(kept(number).to_bits(), number.to_bits());
+    }
+}
+
+#[test]
+fn the_sign_of_a_zero_does_not_choose_the_reading() {
+    // By sign the ring would be read back from its first vertex.
+    let ring = [0.0, -0.0, 1.0, 5.0, 2.0, 2.0, 0.0, 0.0, 1.0, 3.0];
+    let least = [0.0, 0.0, 1.0, 3.0, 0.0, 0.0, 1.0, 5.0, 2.0, 2.0];
+    assert_eq!(book_of(&[&ring]), layout(&[points_of(&least)]));
 }
 
 #[test]
@@ -191,7 +199,7 @@ fn each_fault_has_its_place() {
     wrong(&with_field(&book, entries + 12, 3), length - 4);
     wrong(&with_field(&book, entries + 12, 5), length - 4);
     for place in (0..entries).step_by(8) {
-        for number in [f64::NAN, f64::INFINITY, 1_000_000.0_f64.next_up()] {
+        for number in [f64::NAN, f64::INFINITY, 1_000_000.0_f64.next_up(), -0.0] {
             wrong(&with_number(&book, place, number), place);
         }
     }
@@ -206,6 +214,10 @@ fn the_first_fault_is_told() {
     assert_eq!(read(&turned), Err(Refusal::at(7, 0)));
     // A coordinate of a later ring comes before an earlier ring's reading.
     assert_eq!(read(&with_number(&turned, 88, 2e6)), Err(Refusal::at(7, 88)));
+    let minus = with_number(&turned, 88, -0.0);
+    assert_eq!(read(&minus), Err(Refusal::at(7, 88)));
+    assert_eq!(read(&with_number(&minus, 80, f64::NAN)), Err(Refusal::at(7, 80)));
+    assert_eq!(read(&with_number(&minus, 40, -0.0)), Err(Refusal::at(7, 40)));
     let both = with_field(&with_field(&turned, 104, 8), 100, 2);
     assert_eq!(read(&both), Err(Refusal::at(7, 100)));
     assert_eq!(read(&with_field(&both, 116, 0)), Err(Refusal::at(7, 116)));

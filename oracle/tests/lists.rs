@@ -156,8 +156,8 @@ fn failed(record: &[u64]) -> Check {
     } else if place >= entries.expect("the entries are in the file") {
         [Check::RingOffset, Check::Vertices].into_iter().nth((length - place) / 4 % 2).expect("two")
     } else {
-        let number = f64::from_bits(record[book::HEADER + place / 8]);
-        if number.abs() <= 1e6 {
+        let bits = record[book::HEADER + place / 8];
+        if f64::from_bits(bits).abs() <= 1e6 && bits != 1 << 63 {
             Check::Reading
         } else {
             Check::Coordinate

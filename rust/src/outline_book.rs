@@ -1,5 +1,5 @@
 //! The outline book: rings in a form that does not depend on where an open ring
-//! was begun or which way round it went.
+//! was begun, which way round it went or what sign its zeros have.
 
 use crate::lent::{flat, points};
 use crate::refusal::{among, plain};
@@ -10,9 +10,10 @@ const MOST_COORDINATES: usize = 4096;
 const MOST_RINGS: usize = 8;
 
 /// The book of 1 to 8 rings of 3 to 256 vertices. Two rings give the same bytes
-/// exactly if they are the same vertices, bit for bit, begun at any of them and
-/// taken either way round. A closing repeat is a vertex like any other, so the book
-/// of a closed drawing depends on where it was begun: open it first.
+/// exactly if they are the same vertices, as numbers, begun at any of them and taken
+/// either way round: of either zero 0.0 is kept. A closing repeat is a vertex like any
+/// other, so the book of a closed drawing depends on where it was begun: open it
+/// first.
 ///
 /// ```
 /// use byrlygent::outline_book::{read_book, write_book};
@@ -26,6 +27,14 @@ const MOST_RINGS: usize = 8;
 /// let elsewhere = [(4.0, 0.0), (0.0, 3.0), (0.0, 0.0), (4.0, 0.0)];
 /// assert_ne!(write_book(&[closed])?, write_book(&[elsewhere])?);
 /// assert_eq!(write_book(&[byrlygent::polygon_ops::open_ring(&elsewhere)?])?, monday);
+///
+/// // A carrier that is symmetric about x = 0; its mirror has -0.0 for each x of 0.0.
+/// let carrier = [
+///     (0.0, 9.125), (-12.5, 18.75), (-42.25, 18.75), (-42.25, 0.0),
+///     (0.0, -6.5), (42.25, 0.0), (42.25, 18.75), (12.5, 18.75),
+/// ];
+/// let mirror = byrlygent::polygon_ops::mirror_polygon(&carrier)?;
+/// assert_eq!(write_book(&[mirror])?, write_book(&[carrier])?);
 /// # Ok::<(), byrlygent::Refusal>(())
 /// ```
 pub fn write_book<R: AsRef<[P]>, P: Into<Point> + Copy>(rings: &[R]) -> Result<Vec<u8>> {
@@ -61,7 +70,19 @@ fn lists_of<R: AsRef<[P]>, P>(rings: &[R]) -> Vec<Entries> {
     rings.iter().enumerate().map(ring).chain([Entries::book(rings.len())]).collect()
 }
 
-/// The rings of a book as stored, in order and bit for bit.
+/// The rings of a book as stored, in order and bit for bit; writing them gives that
+/// book again. A file that [`write_book`] does not write is refused, one with a stored
+/// -0.0 at that coordinate's first byte.
+///
+/// ```
+/// use byrlygent::outline_book::{read_book, write_book};
+/// use byrlygent::Refusal;
+///
+/// let mut book = write_book(&[[(4.0, 0.0), (0.0, 3.0), (0.0, 0.0)]])?;
+/// book[40..48].copy_from_slice(&(-0.0_f64).to_le_bytes());
+/// assert_eq!(read_book(&book), Err(Refusal::Book { place: 40 }));
+/// # Ok::<(), Refusal>(())
+/// ```
 pub fn read_book(book: &[u8]) -> Result<Vec<Vec<Point>>> {
     let (mut coordinates, mut counts) = (vec![0.0; MOST_COORDINATES], [0; MOST_RINGS]);
     let (mut rings, mut place) = (0, 0);

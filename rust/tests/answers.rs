@@ -155,15 +155,42 @@ fn traces_carry_path_passes_and_reason() {
     assert_eq!(simplified, round.polygons[0]);
 }
 
+/// The bits of a ring's coordinates.
+fn bits(ring: &[Point]) -> Vec<u64> {
+    ring.iter().flat_map(|p| [p.0.to_bits(), p.1.to_bits()]).collect()
+}
+
 #[test]
-fn books_keep_every_bit() {
-    let zeros = [(0.0, 0.0), (-0.0, 0.0), (0.0, -0.0)];
-    let book = write_book(&[&zeros[..], &S]).expect("a book of two rings");
+fn books_keep_every_bit_but_the_sign_of_a_zero() {
+    let odd = [(-0.0, 5e-324), (-5e-324, 1e6), (0.1, -0.0)];
+    let book = write_book(&[&odd[..], &S]).expect("a book of two rings");
     let rings = read_book(&book).expect("it was just written");
-    let bits = |ring: &[Point]| -> Vec<u64> {
-        ring.iter().flat_map(|p| [p.0.to_bits(), p.1.to_bits()]).collect()
-    };
-    assert_eq!(bits(&rings[0]), bits(&[(-0.0, 0.0), (0.0, -0.0), (0.0, 0.0)]));
+    assert_eq!(bits(&rings[0]), bits(&[(-5e-324, 1e6), (0.0, 5e-324), (0.1, 0.0)]));
     assert_eq!(rings[1], [(0.0, 0.0), (0.0, 4.0), (4.0, 4.0), (4.0, 0.0)]);
     assert_eq!(write_book(&rings), Ok(book));
+}
+
+#[test]
+fn the_sign_of_a_zero_does_not_choose_the_reading() {
+    // By sign the ring would be read back from its first vertex.
+    let ring = [(0.0, -0.0), (1.0, 5.0), (2.0, 2.0), (0.0, 0.0), (1.0, 3.0)];
+    let rings = read_book(&write_book(&[ring]).unwrap()).unwrap();
+    let least = [(0.0, 0.0), (1.0, 3.0), (0.0, 0.0), (1.0, 5.0), (2.0, 2.0)];
+    assert_eq!(bits(&rings[0]), bits(&least));
+}
+
+#[test]
+fn a_carrier_and_its_mirror_have_one_book() {
+    let half = [(0.0, 9.125), (-12.5, 18.75), (-42.25, 18.75), (-42.25, 0.0), (0.0, -6.5)];
+    let other = half[1..4].iter().rev().map(|&(x, y)| (-x, y));
+    let carrier: Vec<Point> = half.into_iter().chain(other).collect();
+    let mirror = polygon_ops::mirror_polygon(&carrier).unwrap();
+    let minus = |ring: &[Point]| bits(ring).into_iter().filter(|&bits| bits == 1 << 63).count();
+    assert_eq!((minus(&carrier), minus(&mirror)), (0, 2));
+    let book = write_book(&[&carrier]).unwrap();
+    assert_eq!(write_book(&[&mirror]).unwrap(), book);
+    let mut turned = mirror;
+    turned.rotate_left(3);
+    assert_eq!(write_book(&[turned]).unwrap(), book);
+    assert_eq!(minus(&read_book(&book).unwrap()[0]), 0);
 }

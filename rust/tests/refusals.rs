@@ -113,3 +113,22 @@ fn a_wrong_book_tells_the_place() {
     wrong[8..16].copy_from_slice(&f64::NAN.to_le_bytes());
     assert_eq!(read_book(&wrong), Err(Refusal::Book { place: 8 }));
 }
+
+#[test]
+fn a_stored_minus_zero_is_told_at_its_coordinate() {
+    let book = write_book(&[SQUARE]).expect("a square makes a book");
+    let with = |book: &[u8], place: usize, number: f64| {
+        let mut wrong = book.to_vec();
+        wrong[place..place + 8].copy_from_slice(&number.to_le_bytes());
+        wrong
+    };
+    for place in (0..book.len() - 16).step_by(8) {
+        let minus = with(&book, place, -0.0);
+        assert_eq!(read_book(&minus), Err(Refusal::Book { place }));
+        // A wrong coordinate before it is told first; one after it is not.
+        assert_eq!(read_book(&with(&minus, 0, -0.0)), Err(Refusal::Book { place: 0 }));
+        let after = (place + 8).min(book.len() - 24);
+        let both = with(&with(&book, after, f64::NAN), place, -0.0);
+        assert_eq!(read_book(&both), Err(Refusal::Book { place }));
+    }
+}

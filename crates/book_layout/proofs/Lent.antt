@@ -1,13 +1,13 @@
 -- Lists of f64s: those that the writer takes are rings that a book holds, and those that the reader hands out are taken by the writer. Assumes nothing.
-use Prim.Native.Nat.{ℕ, zero, suc, _+_, _*_, _/_, _%_, _≤_}
+use Prim.Native.Nat.{ℕ, zero, suc, _+_, _*_, _/_, _≤_}
 use native.Mathlib.Omega.{arith}
 use mathlib.Core.Path.{_≡_, refl, ap, ap₂, subst, _∙_}
-use mathlib.Core.Bool.{true, not, _&&_}
+use mathlib.Core.Bool.{true, not}
 use mathlib.Core.List.{List, [], _∷_, _++_, map, map-append}
 use lib.ListN.{length, take, drop, length-drop, length-map}
 use lib.Seq.{drop-drop, length-take-le, take-at, drop-at}
 use lib.Dec.{T, leb, eqb}
-use lib.Ieee.{Float, nan, inf, fin, binary64, fits, isNan, ofBits}
+use lib.Ieee.{Float, binary64, fits, isNan, ofBits}
 use borrow.Author.Tests.{le-leb, leb-true, eq-eqb, eqb-true}
 use Rattle.refusals.specs.Screens.{shortRoom}
 use Rattle.refusals.specs.Rows.{ofRings}
@@ -15,12 +15,11 @@ use Rattle.refusals.specs.Bounds.{coordinate, every, coordinates}
 use Rattle.refusals.proofs.Coordinate.{coordinate-number}
 use Rattle.reading.specs.Reading.{Vertex, vertices}
 use Rattle.reading.specs.Lent.{kept, ringOf}
-use Rattle.reading.proofs.KeptBits.{kept-lt, of-kept, kept-of}
-use Rattle.reading.proofs.Order.{no-bool}
+use Rattle.reading.proofs.KeptBits.{kept-lt, of-kept, kept-again}
 use Rattle.reading.proofs.Places.{length-ringOf}
 use Rattle.number_bytes.specs.Bytes.{numberOf, Each, Byte, Formed}
 use Rattle.number_bytes.proofs.Each.{each-take, each-drop}
-use Rattle.refusals.specs.Rings.{verticesLeast, verticesMost, ringsMost, within, total, sizedAll}
+use Rattle.refusals.specs.Rings.{verticesLeast, verticesMost, within, total, sizedAll}
 use Rattle.book_layout.specs.Layout.{coordinateBytes, vertexBytes, coordinateBits, Coordinate, Outline, Accepted, coordsIn, ringsIn, ringCount, entryOffset, coordsOf, countsOf, ringsOf}
 use Rattle.book_layout.specs.Faults.{_passes, bookCheck}
 use Rattle.book_layout.specs.Writer.{ringsFrom, bookSize, writeRefusal, Held}
@@ -50,15 +49,26 @@ module _ (xs : List Float) (ns : List ℕ) (size : ℕ) where
 
 -- ---- coordinates
 
--- the bits of a coordinate are such bits
+zero-coordinate : coordinate (ofBits binary64 0) ≡ true
+unfolding coordinate ofBits
+zero-coordinate = refl
+
+-- what is kept of a coordinate are such bits
 coordinate-kept : (x : Float) → T (fits binary64 x) → coordinate x ≡ true → Coordinate (kept x)
 unfolding coordinateBits
-coordinate-kept x f h = record { pattern = kept-lt x f; bounded = ap coordinate (of-kept x f) ∙ h }
+coordinate-kept x f h =
+    let c : coordinate (ofBits binary64 (kept x)) ≡ true = of-kept (λ (y : Float). coordinate y ≡ true) x f zero-coordinate h in
+    record { pattern = kept-lt x f; bounded = rw (c, eq-eqb (kept (ofBits binary64 (kept x))) (kept x) (kept-again x f)) }
 
--- and they stand for one
-pub bits-number : (b : ℕ) → Coordinate b → T (not (isNan (ofBits binary64 b)))
+-- they stand for one, and as they are kept
+pub stored : (b : ℕ) → coordinateBits b ≡ true → (coordinate (ofBits binary64 b) ≡ true) × (kept (ofBits binary64 b) ≡ b)
 unfolding coordinateBits
-bits-number b c = coordinate-number (ofBits binary64 b) (c .bounded)
+stored b h =
+    let p = both (coordinate (ofBits binary64 b)) (eqb (kept (ofBits binary64 b)) b) h in
+    (p .0, eqb-true (kept (ofBits binary64 b)) b (p .1))
+
+pub bits-number : (b : ℕ) → Coordinate b → T (not (isNan (ofBits binary64 b)))
+bits-number b c = coordinate-number (ofBits binary64 b) (stored b (c .bounded) .0)
 
 coordinates-take : (n : ℕ) (xs : List Float) → coordinates xs ≡ true → coordinates (take n xs) ≡ true
 unfolding every
@@ -93,18 +103,23 @@ ring-count n xs h =
     let l : length (take (2 * n) xs) ≡ 2 * n = length-take-le (2 * n) xs h in
     omega (arith, length-ringOf (take (2 * n) xs) (omega arith))
 
+-- one ring, as it is kept
+ring-outline : (n : ℕ) (xs : List Float) → Formed xs → within verticesLeast verticesMost n ≡ true → coordinates xs ≡ true → 2 * n ≤ length xs → Outline (ringOf (take (2 * n) xs))
+ring-outline n xs f s t h =
+    let w = is-within verticesLeast verticesMost n s in
+    let c : length (ringOf (take (2 * n) xs)) ≡ n = ring-count n xs h in
+    record {
+      least = omega (arith, w .0);
+      most = omega (arith, w .1);
+      corners = corners (map kept (take (2 * n) xs)) (all-kept (take (2 * n) xs) (each-take (λ (x : Float). T (fits binary64 x)) (2 * n) xs f) (coordinates-take (2 * n) xs t));
+    }
+
 rings-outline : (ns : List ℕ) (xs : List Float) → Formed xs → sizedAll ns ≡ true → coordinates xs ≡ true → 2 * total ns ≤ length xs → Each Outline (ringsFrom ns xs)
 unfolding ringsFrom sizedAll total
 rings-outline [] xs f s t h = tt
 rings-outline (n ∷ ns) xs f s t h =
-    let p = both (within verticesLeast verticesMost n) (sizedAll ns) s in
-    let w = is-within verticesLeast verticesMost n (p .0) in
-    let c : length (ringOf (take (2 * n) xs)) ≡ n = ring-count n xs (omega arith) in (
-      record {
-        least = omega (arith, w .0);
-        most = omega (arith, w .1);
-        corners = corners (map kept (take (2 * n) xs)) (all-kept (take (2 * n) xs) (each-take (λ (x : Float). T (fits binary64 x)) (2 * n) xs f) (coordinates-take (2 * n) xs t));
-      },
+    let p = both (within verticesLeast verticesMost n) (sizedAll ns) s in (
+      ring-outline n xs f (p .0) t (omega arith),
       rings-outline ns (drop (2 * n) xs) (each-drop (λ (x : Float). T (fits binary64 x)) (2 * n) xs f) (p .1) (coordinates-drop (2 * n) xs t) (omega (arith, length-drop (2 * n) xs)),
     )
 
@@ -117,7 +132,7 @@ held-accepted xs ns f h =
 
 back : (l : List ℕ) → Each Coordinate l → map kept (map (ofBits binary64) l) ≡ l
 back [] h = refl
-back (b ∷ l) h = ap₂ (λ (a : ℕ) (t : List ℕ). a ∷ t) (kept-of b (h .0 .pattern) (bits-number b (h .0))) (back l (h .1))
+back (b ∷ l) h = ap₂ (λ (a : ℕ) (t : List ℕ). a ∷ t) (stored b (h .0 .bounded) .1) (back l (h .1))
 
 pub ring-loaded : (l : List ℕ) → Each Coordinate l → ringOf (map (ofBits binary64) l) ≡ vertices l
 ring-loaded l h = ap vertices (back l h)
@@ -163,9 +178,9 @@ sized-all [] h = refl
 sized-all (n ∷ ns) h = rw (within-true verticesLeast verticesMost n (h .0 .0) (h .0 .1)) (sized-all ns (h .1))
 
 coordinates-read : (l : List ℕ) → Each Coordinate l → coordinates (map (ofBits binary64) l) ≡ true
-unfolding every coordinateBits
+unfolding every
 coordinates-read [] h = refl
-coordinates-read (b ∷ l) h = rw (h .0 .bounded) (coordinates-read l (h .1))
+coordinates-read (b ∷ l) h = rw (stored b (h .0 .bounded) .0) (coordinates-read l (h .1))
 
 pub length-counts : (f : List ℕ) → length (countsOf f) ≡ ringCount f
 unfolding countsOf

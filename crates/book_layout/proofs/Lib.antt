@@ -8,4 +8,5 @@ pub mod Checks
 pub mod Found
 pub mod Exact
 pub mod Lent
+pub mod Outlines
 pub mod Theorems

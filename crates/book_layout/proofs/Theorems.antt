@@ -9,27 +9,28 @@ use lib.ListN.{length}
 use lib.Ieee.{Float}
 use borrow.Author.Tests.{le-leb}
 use Rattle.refusals.specs.Refusals.{passed, unless}
-use Rattle.reading.specs.Reading.{BitForBit, leastReading}
+use Rattle.reading.specs.Reading.{leastReading}
 use Rattle.number_bytes.specs.Bytes.{Each, Byte, Formed}
 use Rattle.refusals.specs.Rings.{ringsMost}
 use Rattle.book_layout.specs.Layout.{numbersMost, bookOf, SameOutlines, coordsOf, countsOf, ringsOf}
 use Rattle.book_layout.specs.Faults.{_passes, bookCheck}
-use Rattle.book_layout.specs.Writer.{ringsFrom, writeRefusal, Writes}
+use Rattle.book_layout.specs.Writer.{ringsFrom, lentFrom, AsNumbers, writeRefusal, Writes}
 use Rattle.book_layout.specs.Reader.{numbersOf, holdsAll, readRefusal}
 use Rattle.refusals.proofs.Sized.{row-parts}
-use Rattle.book_layout.proofs.Books.{same-book, least-accepted}
+use Rattle.book_layout.proofs.Books.{least-accepted}
 use Rattle.book_layout.proofs.Laid.{rings-of}
 use Rattle.book_layout.proofs.Exact.{written-again, book-passes}
 use Rattle.refusals.proofs.Counts.{total-bounds}
 use Rattle.number_bytes.proofs.Formed.{formed-of}
 use Rattle.book_layout.proofs.Lent.{takes, taken, held-accepted, handed, read-held, read-size}
+use Rattle.book_layout.proofs.Outlines.{same-outlines}
 
--- For two lists of rings that the writer takes, the books are the same bytes exactly if the lists are equally long and each ring is, bit for bit, a
--- reading of the one at its place.
+-- For two lists of rings that the writer takes, the books are the same bytes exactly if the lists are equally long and each ring is, its coordinates
+-- compared as numbers, the ring at its place, begun at some corner and read in one direction or the other.
 pub same-bytes : (xs ys : List Float) (ns ms : List ℕ) (s t : ℕ) → Formed xs → Formed ys → writeRefusal xs ns s passes → writeRefusal ys ms t passes
-    → (bookOf (ringsFrom ns xs) ≡ bookOf (ringsFrom ms ys)) ↔ SameOutlines BitForBit (ringsFrom ns xs) (ringsFrom ms ys)
+    → (bookOf (ringsFrom ns xs) ≡ bookOf (ringsFrom ms ys)) ↔ SameOutlines AsNumbers (lentFrom ns xs) (lentFrom ms ys)
 same-bytes xs ys ns ms s t f g h k =
-    same-book (ringsFrom ns xs) (ringsFrom ms ys) (held-accepted xs ns f (takes xs ns s h .0)) (held-accepted ys ms g (takes ys ms t k .0))
+    same-outlines xs ys ns ms f g (held-accepted xs ns f (takes xs ns s h .0)) (held-accepted ys ms g (takes ys ms t k .0))
 
 -- Writing what was read gives that file again.
 pub again : (f : List ℕ) (room counts : ℕ) → Each Byte f → readRefusal f room counts passes → Writes (numbersOf f) (countsOf f) f
@@ -64,7 +65,7 @@ enough f room counts bytes ok h k =
     let m : length (countsOf f) ≤ counts = omega (arith, held .few) in
     rw (le-leb (length (numbersOf f)) room n, le-leb (length (countsOf f)) counts m)
 
--- Of a book that was written, the rings are read as stored: in order, each in its least reading, bit for bit.
+-- Of a book that was written, the rings are read as stored: in order, each in its least reading, bit for bit as they are kept.
 pub read-back : (xs : List Float) (ns : List ℕ) (size : ℕ) → Formed xs → writeRefusal xs ns size passes → ringsOf (bookOf (ringsFrom ns xs)) ≡ map leastReading (ringsFrom ns xs)
 unfolding bookOf
 read-back xs ns size f h =

@@ -1,11 +1,11 @@
 -- Worked examples, computed. Assumes nothing.
 use Prim.Native.Nat.{ℕ}
 use mathlib.Core.Path.{_≡_, refl}
-use mathlib.Core.Bool.{false}
+use mathlib.Core.Bool.{true, false}
 use mathlib.Core.List.{List, [], _∷_}
 use lib.ListN.{take, set}
 use lib.IntN.{pos}
-use lib.Ieee.{Float, fin, toBits, ofBits}
+use lib.Ieee.{Float, fin, eq, toBits, ofBits}
 use Rattle.refusals.specs.Refusals.{none, refuse}
 use Rattle.refusals.specs.Bounds.{coordinate, every}
 use Rattle.refusals.specs.Rows.{ofRings}
@@ -14,12 +14,15 @@ use Rattle.reading.specs.Lent.{kept, ringOf}
 use Rattle.number_bytes.specs.Bytes.{bytesOf, numberOf}
 use Rattle.refusals.specs.Rings.{total}
 use Rattle.book_layout.specs.Layout.{coordBytes, body, entries, layout, bookOf, coordinateBits, coordsIn, countsIn, coordsOf, countsOf, ringCount, entryOffset}
-use Rattle.book_layout.specs.Writer.{writeRefusal}
+use Rattle.book_layout.specs.Writer.{ringsFrom, writeRefusal}
 use Rattle.book_layout.specs.Reader.{readRefusal}
 use Rattle.book_layout.specs.Faults.{faultAt, entriesCheck, coordsCheck, leastCheck, bookCheck}
 
 abbrev zero : Float
 zero = fin false 0 (pos 0)
+
+abbrev minus : Float
+minus = fin true 0 (pos 0)
 
 abbrev three : Float
 three = fin false 3 (pos 0)
@@ -40,58 +43,76 @@ book =
     ∷ 0 ∷ 0 ∷ 0 ∷ 0 ∷ 3 ∷ 0 ∷ 0 ∷ 0 ∷ 1 ∷ 0 ∷ 0 ∷ 0 ∷ 48 ∷ 0 ∷ 0 ∷ 0 ∷ []
 
 pub triangle-book : bookOf triangle ≡ book
-unfolding bookOf layout body entries coordBytes bytesOf leastReading bestOf best less ord kept toBits
+unfolding bookOf layout body entries coordBytes bytesOf leastReading bestOf best less ord kept toBits eq ofBits
 triangle-book = refl
 
+-- so has the ring (4,-0.0), (-0.0,3), (0,0), though the pattern of -0.0 is before that of 0.0
+pub minus-book : bookOf (ringsFrom (3 ∷ []) (four ∷ minus ∷ minus ∷ three ∷ zero ∷ zero ∷ [])) ≡ book
+unfolding ringsFrom bookOf layout body entries coordBytes bytesOf leastReading bestOf best less ord kept toBits eq ofBits
+minus-book = refl
+
+-- (-0.0,3), (4,0), (0,3), (4,0) and its reading from the third vertex on differ in a zero's sign only
+pub twin-book : bookOf (ringsFrom (4 ∷ []) (minus ∷ three ∷ four ∷ zero ∷ zero ∷ three ∷ four ∷ zero ∷ [])) ≡ bookOf (ringsFrom (4 ∷ []) (zero ∷ three ∷ four ∷ zero ∷ minus ∷ three ∷ four ∷ zero ∷ []))
+unfolding ringsFrom kept toBits eq ofBits
+twin-book = refl
+
 pub triangle-fine : bookCheck book ≡ none
-unfolding bookCheck entriesCheck coordsCheck leastCheck coordinateBits coordinate ofBits numberOf coordsIn countsIn countsOf ringCount entryOffset total bestOf best less ord
+unfolding bookCheck entriesCheck coordsCheck leastCheck coordinateBits coordinate ofBits numberOf coordsIn countsIn countsOf ringCount entryOffset total bestOf best less ord kept toBits eq
 triangle-fine = refl
 
 -- one fault each: the length, the ring count, the offset of the entries, the ring's offset, its vertices, where the rings end, the
--- coordinate (2 ^ 20 and more, a NaN), and a ring that is not its least reading
+-- coordinate (2 ^ 20 and more, a NaN, -0.0), and a ring that is not its least reading
 pub cut-short : bookCheck (take 63 book) ≡ faultAt 0
-unfolding bookCheck entriesCheck coordsCheck leastCheck coordinateBits coordinate ofBits numberOf coordsIn countsIn countsOf ringCount entryOffset total bestOf best less ord
+unfolding bookCheck entriesCheck coordsCheck leastCheck coordinateBits coordinate ofBits numberOf coordsIn countsIn countsOf ringCount entryOffset total bestOf best less ord kept toBits eq
 cut-short = refl
 
 pub no-rings : bookCheck (set book 56 0) ≡ faultAt 56
-unfolding bookCheck entriesCheck coordsCheck leastCheck coordinateBits coordinate ofBits numberOf coordsIn countsIn countsOf ringCount entryOffset total bestOf best less ord
+unfolding bookCheck entriesCheck coordsCheck leastCheck coordinateBits coordinate ofBits numberOf coordsIn countsIn countsOf ringCount entryOffset total bestOf best less ord kept toBits eq
 no-rings = refl
 
 pub entries-elsewhere : bookCheck (set book 60 47) ≡ faultAt 60
-unfolding bookCheck entriesCheck coordsCheck leastCheck coordinateBits coordinate ofBits numberOf coordsIn countsIn countsOf ringCount entryOffset total bestOf best less ord
+unfolding bookCheck entriesCheck coordsCheck leastCheck coordinateBits coordinate ofBits numberOf coordsIn countsIn countsOf ringCount entryOffset total bestOf best less ord kept toBits eq
 entries-elsewhere = refl
 
 pub ring-elsewhere : bookCheck (set book 48 1) ≡ faultAt 48
-unfolding bookCheck entriesCheck coordsCheck leastCheck coordinateBits coordinate ofBits numberOf coordsIn countsIn countsOf ringCount entryOffset total bestOf best less ord
+unfolding bookCheck entriesCheck coordsCheck leastCheck coordinateBits coordinate ofBits numberOf coordsIn countsIn countsOf ringCount entryOffset total bestOf best less ord kept toBits eq
 ring-elsewhere = refl
 
 pub two-vertices : bookCheck (set book 52 2) ≡ faultAt 52
-unfolding bookCheck entriesCheck coordsCheck leastCheck coordinateBits coordinate ofBits numberOf coordsIn countsIn countsOf ringCount entryOffset total bestOf best less ord
+unfolding bookCheck entriesCheck coordsCheck leastCheck coordinateBits coordinate ofBits numberOf coordsIn countsIn countsOf ringCount entryOffset total bestOf best less ord kept toBits eq
 two-vertices = refl
 
 pub four-vertices : bookCheck (set book 52 4) ≡ faultAt 60
-unfolding bookCheck entriesCheck coordsCheck leastCheck coordinateBits coordinate ofBits numberOf coordsIn countsIn countsOf ringCount entryOffset total bestOf best less ord
+unfolding bookCheck entriesCheck coordsCheck leastCheck coordinateBits coordinate ofBits numberOf coordsIn countsIn countsOf ringCount entryOffset total bestOf best less ord kept toBits eq
 four-vertices = refl
 
 pub too-large : bookCheck (set (set book 47 65) 46 48) ≡ faultAt 40
-unfolding bookCheck entriesCheck coordsCheck leastCheck coordinateBits coordinate ofBits numberOf coordsIn countsIn countsOf ringCount entryOffset total bestOf best less ord
+unfolding bookCheck entriesCheck coordsCheck leastCheck coordinateBits coordinate ofBits numberOf coordsIn countsIn countsOf ringCount entryOffset total bestOf best less ord kept toBits eq
 too-large = refl
 
 pub not-a-number : bookCheck (set (set book 39 127) 38 248) ≡ faultAt 32
-unfolding bookCheck entriesCheck coordsCheck leastCheck coordinateBits coordinate ofBits numberOf coordsIn countsIn countsOf ringCount entryOffset total bestOf best less ord
+unfolding bookCheck entriesCheck coordsCheck leastCheck coordinateBits coordinate ofBits numberOf coordsIn countsIn countsOf ringCount entryOffset total bestOf best less ord kept toBits eq
 not-a-number = refl
 
+pub minus-x : bookCheck (set book 23 128) ≡ faultAt 16
+unfolding bookCheck entriesCheck coordsCheck leastCheck coordinateBits coordinate ofBits numberOf coordsIn countsIn countsOf ringCount entryOffset total bestOf best less ord kept toBits eq
+minus-x = refl
+
+pub minus-y : bookCheck (set book 47 128) ≡ faultAt 40
+unfolding bookCheck entriesCheck coordsCheck leastCheck coordinateBits coordinate ofBits numberOf coordsIn countsIn countsOf ringCount entryOffset total bestOf best less ord kept toBits eq
+minus-y = refl
+
 pub as-given : bookCheck (layout triangle) ≡ faultAt 0
-unfolding layout body entries coordBytes bytesOf kept toBits bookCheck entriesCheck coordsCheck leastCheck coordinateBits coordinate ofBits numberOf coordsIn countsIn countsOf ringCount entryOffset total bestOf best less ord
+unfolding layout body entries coordBytes bytesOf kept toBits bookCheck entriesCheck coordsCheck leastCheck coordinateBits coordinate ofBits numberOf coordsIn countsIn countsOf ringCount entryOffset total bestOf best less ord eq
 as-given = refl
 
 -- of two faults the first is told: the ring's offset before its vertices, a coordinate before the least reading
 pub offset-first : bookCheck (set (set book 48 1) 52 2) ≡ faultAt 48
-unfolding bookCheck entriesCheck coordsCheck leastCheck coordinateBits coordinate ofBits numberOf coordsIn countsIn countsOf ringCount entryOffset total bestOf best less ord
+unfolding bookCheck entriesCheck coordsCheck leastCheck coordinateBits coordinate ofBits numberOf coordsIn countsIn countsOf ringCount entryOffset total bestOf best less ord kept toBits eq
 offset-first = refl
 
 pub coordinate-first : bookCheck (set (set (set (layout triangle) 7 64) 15 65) 14 48) ≡ faultAt 8
-unfolding layout body entries coordBytes bytesOf kept toBits bookCheck entriesCheck coordsCheck leastCheck coordinateBits coordinate ofBits numberOf coordsIn countsIn countsOf ringCount entryOffset total bestOf best less ord
+unfolding layout body entries coordBytes bytesOf kept toBits bookCheck entriesCheck coordsCheck leastCheck coordinateBits coordinate ofBits numberOf coordsIn countsIn countsOf ringCount entryOffset total bestOf best less ord eq
 coordinate-first = refl
 
 -- ---- the writer's tests, for rooms of so many bytes
@@ -148,17 +169,17 @@ first-too-long = refl
 -- ---- the reader's, for rooms of so many numbers and counts
 
 pub accepted : readRefusal book 6 1 ≡ none
-unfolding readRefusal coordsOf bookCheck entriesCheck coordsCheck leastCheck coordinateBits coordinate ofBits numberOf coordsIn countsIn countsOf ringCount entryOffset total bestOf best less ord
+unfolding readRefusal coordsOf bookCheck entriesCheck coordsCheck leastCheck coordinateBits coordinate ofBits numberOf coordsIn countsIn countsOf ringCount entryOffset total bestOf best less ord kept toBits eq
 accepted = refl
 
 pub small-numbers : readRefusal book 5 1 ≡ refuse 4 0
-unfolding readRefusal coordsOf bookCheck entriesCheck coordsCheck leastCheck coordinateBits coordinate ofBits numberOf coordsIn countsIn countsOf ringCount entryOffset total bestOf best less ord
+unfolding readRefusal coordsOf bookCheck entriesCheck coordsCheck leastCheck coordinateBits coordinate ofBits numberOf coordsIn countsIn countsOf ringCount entryOffset total bestOf best less ord kept toBits eq
 small-numbers = refl
 
 pub small-counts : readRefusal book 6 0 ≡ refuse 4 0
-unfolding readRefusal coordsOf bookCheck entriesCheck coordsCheck leastCheck coordinateBits coordinate ofBits numberOf coordsIn countsIn countsOf ringCount entryOffset total bestOf best less ord
+unfolding readRefusal coordsOf bookCheck entriesCheck coordsCheck leastCheck coordinateBits coordinate ofBits numberOf coordsIn countsIn countsOf ringCount entryOffset total bestOf best less ord kept toBits eq
 small-counts = refl
 
 pub fault-before-room : readRefusal (set book 52 2) 5 0 ≡ faultAt 52
-unfolding readRefusal coordsOf bookCheck entriesCheck coordsCheck leastCheck coordinateBits coordinate ofBits numberOf coordsIn countsIn countsOf ringCount entryOffset total bestOf best less ord
+unfolding readRefusal coordsOf bookCheck entriesCheck coordsCheck leastCheck coordinateBits coordinate ofBits numberOf coordsIn countsIn countsOf ringCount entryOffset total bestOf best less ord kept toBits eq
 fault-before-room = refl

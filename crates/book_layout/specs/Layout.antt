@@ -4,11 +4,12 @@ use mathlib.Core.Path.{_≡_}
 use mathlib.Core.Bool.{Bool, true, _&&_}
 use mathlib.Core.List.{List, [], _∷_, _++_, map}
 use lib.ListN.{length, getD, take, drop}
-use lib.Dec.{leb}
+use lib.Dec.{leb, eqb}
 use lib.Ieee.{binary64, ofBits}
 use Rattle.number_bytes.specs.Bytes.{bytesOf, numberOf, Each}
 use Rattle.refusals.specs.Bounds.{coordinate}
 use Rattle.refusals.specs.Rings.{verticesLeast, verticesMost, ringsMost}
+use Rattle.reading.specs.Lent.{kept}
 use Rattle.reading.specs.Reading.{ReadsUpTo, Vertex, flat, vertices, leastReading}
 
 -- ---- sizes, in bytes
@@ -68,9 +69,9 @@ bookOf rs = layout (map leastReading rs)
 
 -- ---- which lists a book holds
 
--- whether a bit pattern is a coordinate's: finite, of magnitude at most 1,000,000
+-- whether a bit pattern is one that a book stores: a coordinate's, finite and of magnitude at most 1,000,000, and as it is kept
 unfoldable pub coordinateBits : ℕ → Bool
-coordinateBits b = coordinate (ofBits binary64 b)
+coordinateBits b = coordinate (ofBits binary64 b) && eqb (kept (ofBits binary64 b)) b
 
 pub record Coordinate (b : ℕ) : Type 0 where
   pub pattern : b < 2 ^ 64

@@ -1,11 +1,10 @@
 -- The writer of a book: what it is lent, when it refuses, and what it leaves in the room. Definitions only.
-use Prim.Native.Nat.{ℕ, _+_, _*_, _%_, _≤_}
+use Prim.Native.Nat.{ℕ, _+_, _*_, _≤_}
 use mathlib.Core.Path.{_≡_}
-use mathlib.Core.Bool.{Bool, true, _&&_}
-use mathlib.Core.List.{List, [], _∷_}
+use mathlib.Core.Bool.{true}
+use mathlib.Core.List.{List, [], _∷_, map}
 use lib.ListN.{length, take, drop}
-use lib.Dec.{T, leb, eqb}
-use lib.Ieee.{Float, binary64, fits}
+use lib.Ieee.{Float, binary64, eq, ofBits, toBits}
 use Rattle.ring.specs.Room.{laid}
 use Rattle.refusals.specs.Answers.{Outcome, outcome, left}
 use Rattle.refusals.specs.Refusals.{firstOf}
@@ -14,16 +13,25 @@ use Rattle.refusals.specs.Rows.{ofRings}
 use Rattle.refusals.specs.Bounds.{coordinates}
 use Rattle.refusals.specs.declared.Refusal.{Refusal}
 use Rattle.number_bytes.specs.Bytes.{Formed}
-use Rattle.reading.specs.Reading.{Vertex}
+use Rattle.reading.specs.Reading.{Vertex, vertices}
 use Rattle.reading.specs.Lent.{ringOf}
 use Rattle.book_layout.specs.Faults.{_passes}
 use Rattle.refusals.specs.Rings.{ringsMost, total, sizedAll}
 use Rattle.book_layout.specs.Layout.{vertexBytes, entryBytes, tailBytes, bookOf}
 
--- the rings of these vertex counts, one after the other
+-- the rings of these vertex counts, one after the other, as a book keeps their coordinates
 unfoldable pub ringsFrom : List ℕ → List Float → List (List Vertex)
 ringsFrom [] xs = []
 ringsFrom (n ∷ ns) xs = ringOf (take (2 * n) xs) ∷ ringsFrom ns (drop (2 * n) xs)
+
+-- the same rings with the bits that are lent
+unfoldable pub lentFrom : List ℕ → List Float → List (List Vertex)
+lentFrom [] xs = []
+lentFrom (n ∷ ns) xs = vertices (map (toBits binary64) (take (2 * n) xs)) ∷ lentFrom ns (drop (2 * n) xs)
+
+-- two coordinates that are equal as numbers
+abbrev pub AsNumbers : ℕ → ℕ → Type 0
+AsNumbers a b = eq (ofBits binary64 a) (ofBits binary64 b) ≡ true
 
 -- how many bytes the book has
 abbrev pub bookSize : List ℕ → ℕ

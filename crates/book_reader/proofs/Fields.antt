@@ -10,7 +10,9 @@ use lib.Ieee.Bits.{nanBits-is, nanBits-above}
 use borrow.Author.Tests.{le-leb, lt-leb, lt-ltb}
 use Rattle.refusals.specs.Bounds.{coordinate}
 use Rattle.refusals.specs.Rings.{verticesLeast, verticesMost, ringsMost}
+use Rattle.reading.specs.Lent.{kept}
 use Rattle.book_layout.specs.Layout.{coordinateBits}
+use Rattle.book_layout.proofs.Lent.{stored}
 use Rattle.refusals.proofs.Coordinate.{coordinate-number}
 use Rattle.book_reader.specs.Parts.{fieldOk}
 
@@ -42,12 +44,20 @@ no-field (suc (suc (suc (suc code)))) v t a b d = refl
 
 -- ---- the coordinates
 
+-- what is no coordinate is no pattern of one, and of one it is asked whether it is as it is kept
+pub no-coordinate : (b : ℕ) → coordinate (ofBits binary64 b) ≡ false → false ≡ coordinateBits b
+unfolding coordinateBits
+no-coordinate b e = rw e
+
+pub as-kept : (b : ℕ) → coordinate (ofBits binary64 b) ≡ true → eqb (kept (ofBits binary64 b)) b ≡ coordinateBits b
+unfolding coordinateBits
+as-kept b e = rw e
+
 -- a pattern above those of the infinities is a NaN's
 pub too-high : (b : ℕ) → 2047 * 2 ^ 52 < b % 2 ^ 63 → false ≡ coordinateBits b
-unfolding coordinateBits
-too-high b h = go (ofBits binary64 b) (sym (nanBits-is binary64 b) ∙ nanBits-above binary64 b ∙ lt-ltb (2047 * 2 ^ 52) (b % 2 ^ 63) h)
+too-high b h = no-coordinate b (go (ofBits binary64 b) (sym (nanBits-is binary64 b) ∙ nanBits-above binary64 b ∙ lt-ltb (2047 * 2 ^ 52) (b % 2 ^ 63) h))
   where
-    go : (x : Float) → isNan x ≡ true → false ≡ coordinate x
+    go : (x : Float) → isNan x ≡ true → coordinate x ≡ false
     go nan e = unfold coordinate in refl
     go (inf s) e = unfold isNan in cc
     go (fin s m d) e = unfold isNan in cc
@@ -63,5 +73,4 @@ not-high b h =
 
 -- a coordinate's pattern is no NaN's
 pub no-nan : (b : ℕ) → coordinateBits b ≡ true → T (not (nanBits binary64 b))
-unfolding coordinateBits
-no-nan b h = subst (λ (t : Bool). T (not t)) (sym (nanBits-is binary64 b)) (coordinate-number (ofBits binary64 b) h)
+no-nan b h = subst (λ (t : Bool). T (not t)) (sym (nanBits-is binary64 b)) (coordinate-number (ofBits binary64 b) (stored b h .0))

@@ -12,6 +12,7 @@ use book_layout::VERTEX_BYTES;
 use number_bytes::number4;
 use number_bytes::number8;
 use reading::is_least;
+use reading::kept_bits;
 use refusals::REFUSED_BOOK;
 use refusals::RINGS_MOST;
 use refusals::Refusal;
@@ -61,14 +62,18 @@ fn is_right(code: u32, value: usize, told: usize) -> bool
     }
 }
 
-// Whether a bit pattern is a coordinate's.
+// Whether a bit pattern is one that a book stores: a coordinate's, and as it is kept.
 fn are_coordinate_bits(b: u64) -> bool
     ensures { λ r. ⌜ r ≡ coordinateBits b ⌝ }
 {
     if 0x7ff0_0000_0000_0000 < b % 0x8000_0000_0000_0000 {
         return false;
     }
-    is_coordinate(f64::from_bits(b))
+    let x = f64::from_bits(b);
+    if !is_coordinate(x) {
+        return false;
+    }
+    kept_bits(x) == b
 }
 
 // The k entries from f[from] on, and that the rings end where they begin.

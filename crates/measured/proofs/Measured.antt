@@ -64,7 +64,7 @@ unfolding path simplifyRefusal ofList every finite simplified survivors piece st
 path-holds = (refl, (refl, (refl, record {})))
 
 ring-holds : AllHold ring
-unfolding ring leastReading bestOf best less ord kept toBits round
+unfolding ring leastReading bestOf best less ord kept toBits eq ofBits round
 ring-holds = (refl, record {})
 
 crossed-holds : AllHold crossed

@@ -6,4 +6,4 @@ pub mod Own
 pub mod Places
 pub mod Size
 pub mod KeptBits
-pub mod UpTo
+pub mod Changed

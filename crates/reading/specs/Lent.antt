@@ -5,14 +5,14 @@ use mathlib.Core.Bool.{not, cond}
 use mathlib.Core.List.{List, map}
 use lib.ListN.{length, getD}
 use lib.Dec.{T, ltb}
-use lib.Ieee.{Float, nan, isNan, binary64, toBits}
+use lib.Ieee.{Float, nan, isNan, binary64, eq, ofBits, toBits}
 use Rattle.reading.specs.Reading.{Vertex, vertices}
 
--- a coordinate's bits as a book keeps them: unchanged
+-- a coordinate's bits as a book keeps them: those of +0.0 for either zero, and else its own
 unfoldable pub kept : Float → ℕ
-kept x = toBits binary64 x
+kept x = cond (eq x (ofBits binary64 0)) 0 (toBits binary64 x)
 
--- the ring that is lent
+-- the ring that is lent, as a book keeps its coordinates
 abbrev pub ringOf : List Float → List Vertex
 ringOf xs = vertices (map kept xs)
 

@@ -55,10 +55,6 @@ pub record ReadsUpTo (R : ℕ → ℕ → Type 0) (r x : List Vertex) : Type 0 w
   pub reads : Reads r read
   pub alike : Alike R (flat read) (flat x)
 
--- the relation of coordinates that are the same bit for bit
-abbrev pub BitForBit : ℕ → ℕ → Type 0
-BitForBit a b = a ≡ b
-
 -- ---- "Numbers are ordered by size, -0.0 before +0.0; points by x, then y; readings by the first difference."
 
 -- The place of a bit pattern in the order of numbers. The patterns below 2 ^ 63 have no sign, and grow with the number. Those from 2 ^ 63

@@ -8,12 +8,12 @@ ghost use lib.Ieee.{isNan};
 ghost use Rattle.reading.specs.Reading.{ord, flat, choice, earlier, bestOf, isLeast};
 ghost use Rattle.reading.specs.Lent.{kept, ringOf, Lent, vertexPlace};
 
-// A coordinate's bits as a book keeps them.
-fn bits(x: f64) -> u64
+// A coordinate's bits as a book keeps them: those of +0.0 for either zero.
+pub fn kept_bits(x: f64) -> u64
     requires { ⌜ T (not (isNan x)) ⌝ }
     ensures { λ r. ⌜ r ≡ kept x ⌝ }
 {
-    f64::to_bits(x)
+    if x == 0.0 { 0 } else { f64::to_bits(x) }
 }
 
 // The place of a bit pattern in the order of numbers by size, -0.0 before +0.0.
@@ -48,7 +48,7 @@ pub fn coordinate(ring: &[f64], c: usize, j: usize) -> u64
     ensures { λ r. ⌜ r ≡ getD (flat (choice (ringOf (now (ring .entry))) c)) j 0 ⌝ }
 {
     let v = vertex(ring.len() / 2, c, j / 2);
-    bits(ring[2 * v + j % 2])
+    kept_bits(ring[2 * v + j % 2])
 }
 
 // Whether the reading a is before the reading b: the first difference decides.

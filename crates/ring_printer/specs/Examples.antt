@@ -2,7 +2,7 @@
 use Prim.Native.Nat.{ℕ}
 use mathlib.Core.Path.{_≡_, refl}
 use mathlib.Core.List.{List, [], _∷_}
-use lib.Ieee.{toBits, ofBits}
+use lib.Ieee.{eq, toBits, ofBits}
 use Rattle.print.specs.Digits.{digits, upTo}
 use Rattle.lines.specs.Lines.{refusalLine, pointLines}
 use Rattle.ring.specs.Ring.{pointAt}
@@ -10,6 +10,7 @@ use Rattle.number_bytes.specs.Bytes.{numberOf}
 use Rattle.refusals.specs.Refusals.{tellsPlace}
 use Rattle.refusals.specs.Bounds.{coordinate}
 use Rattle.reading.specs.Reading.{ord, less, best, bestOf}
+use Rattle.reading.specs.Lent.{kept}
 use Rattle.refusals.specs.Rings.{total}
 use Rattle.book_layout.specs.Layout.{coordinateBits, coordsIn, countsIn, coordsOf, countsOf, ringCount, entryOffset}
 use Rattle.book_layout.specs.Faults.{entriesCheck, coordsCheck, leastCheck, bookCheck}
@@ -36,7 +37,7 @@ printed =
     ∷ 48 ∷ 48 ∷ 48 ∷ 48 ∷ 48 ∷ 48 ∷ 48 ∷ 48 ∷ 48 ∷ 10 ∷ []
 
 pub triangle-printed : bookText book ≡ printed
-unfolding bookText ringsLine ringLine ringTexts pointLines pointAt digits upTo toBits bookCheck entriesCheck coordsCheck leastCheck coordinateBits coordinate ofBits numberOf coordsIn countsIn coordsOf countsOf ringCount entryOffset total bestOf best less ord
+unfolding bookText ringsLine ringLine ringTexts pointLines pointAt digits upTo toBits bookCheck entriesCheck coordsCheck leastCheck coordinateBits kept eq coordinate ofBits numberOf coordsIn countsIn coordsOf countsOf ringCount entryOffset total bestOf best less ord
 triangle-printed = refl
 
 -- "refused 7 0": a file of no bytes

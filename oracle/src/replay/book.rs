@@ -131,13 +131,14 @@ pub fn records() -> Vec<Vec<u64>> {
     once(cases.map(|case| record(&case)).collect())
 }
 
-/// A record of a long run: by turns a ring of the grid written and read as it is,
-/// wrong counts, and a seeded case, which also follows the last of the others.
+/// A record of a long run: by turns a book of the grid's rings written, such a ring
+/// read as it is, wrong counts, and a seeded case, which also follows the last of the
+/// others.
 fn long(seeded: &mut Seeded, place: u64) -> Vec<u64> {
     let round = place / 4;
     let read = |ring: Vec<f64>| Case::reading(&file_of(slice::from_ref(&ring)), ring.len(), 1);
     let case = match place % 4 {
-        0 => lent::grid_ring(round).map(|ring| Case::writing(&[ring])),
+        0 => lent::grid_book(round).map(|rings| Case::writing(&rings)),
         1 => lent::grid_ring(round).map(read),
         2 => counts::swept(round),
         _ => None,

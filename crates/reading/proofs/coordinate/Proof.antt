@@ -10,20 +10,20 @@ use Rattle.reading.proofs.coordinate.Tie as tie
 vertex-requires : tie.Need-vertex-requires
 vertex-requires c κs = search needs
 
-mul-bits : tie.Need-mul-bits
-mul-bits c = search needs
+mul-kept-bits : tie.Need-mul-kept-bits
+mul-kept-bits c = search needs
 
-add-bits : tie.Need-add-bits
-add-bits c = search needs
+add-kept-bits : tie.Need-add-kept-bits
+add-kept-bits c = search needs
 
-mul-bits-2 : tie.Need-mul-bits-2
-mul-bits-2 c = search needs
+mul-kept-bits-2 : tie.Need-mul-kept-bits-2
+mul-kept-bits-2 c = search needs
 
-shared-slice-read-bits : tie.Need-shared-slice-read-bits
-shared-slice-read-bits c = search needs
+shared-slice-read-kept-bits : tie.Need-shared-slice-read-kept-bits
+shared-slice-read-kept-bits c = search needs
 
-bits-requires : tie.Need-bits-requires
-bits-requires c κs =
+kept-bits-requires : tie.Need-kept-bits-requires
+kept-bits-requires c κs =
     let s = c .before .before .before in
     s .pre .0 .numbers (2 * c .before .vertex .result + s .args .j % 2) (omega (arith, c .before .vertex .ensures .1))
 
@@ -31,7 +31,7 @@ returns : tie.Need-returns
 returns c =
     let v = c .before .before .vertex in
     let s = c .before .before .before .before in
-    c .bits .ensures
+    c .kept-bits .ensures
     ∙ coord-at (s .args .ring .now) (s .pre .0 .even) (s .args .c) (s .args .j) (v .result) (s .pre .1 .0) (s .pre .1 .1) (v .ensures .0) (v .ensures .1)
 
 pub coordinate-spec : {M : Type 1} → statement M
@@ -39,9 +39,9 @@ coordinate-spec =
     tie.close
     (tie.spec
     vertex-requires
-    mul-bits
-    add-bits
-    mul-bits-2
-    shared-slice-read-bits
-    bits-requires
+    mul-kept-bits
+    add-kept-bits
+    mul-kept-bits-2
+    shared-slice-read-kept-bits
+    kept-bits-requires
     returns)

@@ -2,7 +2,7 @@
 
 use super::lent::{grid_sample, longest, special_rings, triangles};
 use super::Case;
-use crate::book::{book_of, file_of, patched, readings, LEAST_BYTES};
+use crate::book::{book_of, file_of, kept, patched, readings, LEAST_BYTES};
 use crate::calls::points_of;
 use crate::replay::{EDGES, NANS};
 
@@ -66,9 +66,9 @@ fn patches() -> Vec<(usize, Vec<u8>)> {
     ];
     let numbers: [(usize, &[f64]); 4] = [
         (0, &[f64::NAN, 1.0, -0.0]),
-        (40, &[f64::INFINITY, -1.0]),
-        (48, &[0.5, f64::NEG_INFINITY]),
-        (104, &[1_000_000.0_f64.next_up(), 0.0]),
+        (40, &[f64::INFINITY, -1.0, -0.0]),
+        (48, &[0.5, f64::NEG_INFINITY, -0.0]),
+        (104, &[1_000_000.0_f64.next_up(), 0.0, -0.0]),
     ];
     let mut all = Vec::new();
     for (place, values) in fields {
@@ -123,19 +123,22 @@ fn numbers() -> Vec<Case> {
     all
 }
 
-/// Every reading of the special rings, and some rings of the grid, as they are.
-fn kept() -> Vec<Case> {
+/// Every reading of the special rings, and some rings of the grid: as they are, and
+/// with their coordinates as a book keeps them.
+fn as_they_are() -> Vec<Case> {
     let mut all = Vec::new();
     for ring in special_rings() {
         for reading in readings(&points_of(&ring)) {
             let reading: Vec<f64> = reading.iter().flat_map(|p| [p.0, p.1]).collect();
-            all.push(Case::reading(&file_of(&[reading]), ring.len(), 1));
+            let kept = reading.iter().map(|&x| kept(x)).collect();
+            all.extend([reading, kept].map(|it| Case::reading(&file_of(&[it]), ring.len(), 1)));
         }
     }
     for ring in grid_sample() {
         let book = book_of(std::slice::from_ref(&ring));
         all.push(Case::reading(&book, ring.len(), 1));
-        all.push(Case::reading(&file_of(&[ring]), 2, 1));
+        let kept = ring.iter().map(|&x| kept(x)).collect();
+        all.extend([ring, kept].map(|it| Case::reading(&file_of(&[it]), 2, 1)));
     }
     all
 }
@@ -186,7 +189,7 @@ pub fn cases() -> Vec<Case> {
     all.extend(faults());
     all.extend(too_many_entries());
     all.extend(numbers());
-    all.extend(kept());
+    all.extend(as_they_are());
     all.extend(rooms());
     all.extend(lengths());
     all

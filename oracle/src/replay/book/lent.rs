@@ -5,10 +5,10 @@ use crate::book::{readings, MOST_RINGS};
 use crate::calls::points_of;
 use crate::replay::{with, EDGES, NANS};
 use crate::seeded::Seeded;
-use crate::shapes::{closed, parabola, placed, square};
+use crate::shapes::{carrier, closed, mirrored, parabola, placed, square};
 
-/// What the coordinates of the grid's points are; two zeros, so that the order
-/// of -0.0 and +0.0 decides as often as any other.
+/// What the coordinates of the grid's points are; two zeros, so that points that
+/// differ in the sign of one alone meet in every place.
 const GRID: [f64; 3] = [-0.0, 0.0, 1.0];
 
 /// The ring with this place among all rings of 3, then 4, then 5 vertices over
@@ -26,6 +26,14 @@ pub fn grid_ring(place: u64) -> Option<Vec<f64>> {
     None
 }
 
+/// As many rings of the grid as a book holds, with this place among such books;
+/// nothing past the last.
+pub fn grid_book(place: u64) -> Option<Vec<Vec<f64>>> {
+    let most = MOST_RINGS as u64;
+    let rings: Vec<_> = (most * place..most * (place + 1)).map_while(grid_ring).collect();
+    (!rings.is_empty()).then_some(rings)
+}
+
 /// Some rings of the grid: every eleventh of three vertices, and as many of four
 /// and of five.
 pub fn grid_sample() -> Vec<Vec<f64>> {
@@ -36,7 +44,8 @@ pub fn grid_sample() -> Vec<Vec<f64>> {
 
 /// docs/SCOPE.md's rings, and others whose least reading is easy to miss: with
 /// repeated corners, all corners equal or all but one, the same either way
-/// round, repeating themselves, signed zeros, the least and largest numbers.
+/// round, repeating themselves, zeros whose sign must not decide, a carrier and its
+/// mirror, the least and largest numbers.
 pub fn special_rings() -> Vec<Vec<f64>> {
     let (tiny, large) = (5e-324, 1e6);
     vec![
@@ -51,6 +60,9 @@ pub fn special_rings() -> Vec<Vec<f64>> {
         vec![0.0, 0.0, 0.0, 0.0, 1.0, 0.0, 0.0, 0.0, 0.0, 0.0, 0.0, 1.0],
         vec![0.0, 0.0, -0.0, 0.0, 0.0, -0.0, -0.0, -0.0],
         vec![-0.0, 1.0, 0.0, -1.0, 0.0, 1.0],
+        vec![0.0, -0.0, 1.0, 5.0, 2.0, 2.0, 0.0, 0.0, 1.0, 3.0],
+        carrier(),
+        mirrored(&carrier()),
         vec![tiny, -tiny, -tiny, tiny, -0.0, 0.0],
         vec![large, -large, -large, large, -large, -large],
         vec![-1.5, 2.25, 0.1, 0.2, 0.1, 0.3, -1.5, 2.0],
@@ -67,6 +79,7 @@ fn plain() -> Vec<Case> {
         }
     }
     all.extend(grid_sample().into_iter().map(|ring| Case::writing(&[ring])));
+    all.push(Case::writing(&[carrier(), mirrored(&carrier())]));
     all
 }
 

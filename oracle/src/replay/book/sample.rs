@@ -2,7 +2,7 @@
 
 use super::{counts, length, Case};
 use crate::answers::Point;
-use crate::book::{book_of, file_of, readings, MOST_BYTES, MOST_RINGS};
+use crate::book::{book_of, file_of, kept, readings, MOST_BYTES, MOST_RINGS};
 use crate::calls::points_of;
 use crate::replay::polygons::near;
 use crate::replay::{edge, patch, with};
@@ -153,10 +153,20 @@ fn damage(seeded: &mut Seeded, file: &mut Vec<u8>) {
     file.truncate(MOST_FILE);
 }
 
+/// The rings, half of the time with their coordinates as a book keeps them: a file of
+/// the others seldom gets past its zeros.
+fn some_kept(seeded: &mut Seeded, rings: Vec<Vec<f64>>) -> Vec<Vec<f64>> {
+    if seeded.below(2) == 0 {
+        return rings;
+    }
+    rings.into_iter().map(|ring| ring.into_iter().map(kept).collect()).collect()
+}
+
 /// A case of reading: a book, or one that was damaged, cut otherwise or keeps a
 /// ring in another reading.
 fn reading(seeded: &mut Seeded) -> Case {
     let rings = rings(seeded);
+    let rings = some_kept(seeded, rings);
     let mut file = book_of(&rings);
     match seeded.below(6) {
         0 => file = file_of(&rings),

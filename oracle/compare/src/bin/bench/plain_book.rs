@@ -8,15 +8,20 @@ use std::cmp::Ordering;
 /// A reading of a ring: where it starts, and whether it goes back.
 type Reading = (usize, bool);
 
-/// The i-th vertex of a reading.
+/// What a book keeps of a coordinate: the sum of either zero and +0.0 is +0.0.
+fn kept(x: f64) -> f64 {
+    x + 0.0
+}
+
+/// The i-th vertex of a reading, as a book keeps it.
 fn vertex(ring: &[f64], (start, back): Reading, i: usize) -> (f64, f64) {
     let n = ring.len() / 2;
     let place = if back { start + n - i } else { start + i };
     let place = if place >= n { place - n } else { place };
-    (ring[2 * place], ring[2 * place + 1])
+    (kept(ring[2 * place]), kept(ring[2 * place + 1]))
 }
 
-/// The order of two readings: the first difference, by x, then y, -0.0 first.
+/// The order of two readings: the first difference, by x, then y.
 fn order(ring: &[f64], a: Reading, b: Reading) -> Ordering {
     let vertices = 0..ring.len() / 2;
     let differ = |i| {
@@ -85,7 +90,8 @@ pub fn read(book: &[u8], coordinates: &mut [f64], counts: &mut [u32]) -> Option<
     (before == entries).then_some(())?;
     for (number, bytes) in coordinates.iter_mut().zip(book[..entries].chunks_exact(8)) {
         let stored = f64::from_le_bytes(bytes.try_into().expect("eight bytes"));
-        *number = (stored.abs() <= LARGEST).then_some(stored)?;
+        let storable = stored.abs() <= LARGEST && stored.to_bits() == kept(stored).to_bits();
+        *number = storable.then_some(stored)?;
     }
     let mut rest = &coordinates[..entries / 8];
     for &count in &counts[..rings] {
