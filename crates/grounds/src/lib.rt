@@ -142,10 +142,11 @@ fn noted(sweep: Sweep, kind: u8, tally: Tally, v: usize, e: usize, d: f64) -> Ta
     requires { ⌜ AtMost tally (2 * pairsMost) ⌝ }
     ensures { λ r. ⌜ r ≡ notedOf sweep kind tally v e (At d) ⌝ }
 {
+    let best = tally.best;
     let new = pair(Ray::At(d), sweep, kind, v, e);
     Tally {
-        best: keep(tally.best, new),
-        others: others_after(tally.others, tally.best, new),
+        best: keep(best, new),
+        others: others_after(tally.others, best, new),
         near: one_more(tally.near, d <= sweep.tolerance),
         between: one_more(tally.between, in_between(d, sweep)),
         far: one_more(tally.far, too_far(d, sweep)),

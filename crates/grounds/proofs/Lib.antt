@@ -1,0 +1,1 @@
+-- The modules that belong to no one function.
