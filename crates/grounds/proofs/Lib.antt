@@ -2,3 +2,4 @@
 pub mod Counts
 pub mod Classes
 pub mod Grounds
+pub mod Answers

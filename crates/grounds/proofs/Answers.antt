@@ -1,0 +1,100 @@
+-- No two answers say the same, and an answer that keeps the call's promise says what the theorems demand: its ground is true of the pairs scanned, its
+-- collision is what the check's theorem demands, and its counts are those of the pairs. Assumes nothing.
+use Prim.Native.Nat.{ℕ}
+use native.Mathlib.Omega.{arith}
+use mathlib.Core.Path.{_≡_, refl, sym, ap, _∙_}
+use mathlib.Core.Bool.{Bool, true, false, cond}
+use mathlib.Core.List.{List}
+use lib.Dec.{eqb}
+use lib.Ieee.{Float, lt}
+use Rattle.plane.specs.Vector.{lengthOf}
+use Rattle.plane.specs.declared.Point.{Point}
+use Rattle.refusals.specs.Refusals.{passed}
+use Rattle.refusals.specs.Rows.{ofMoving}
+use Rattle.refusals.specs.Answers.{answers, refuses}
+use Rattle.collision.specs.Check.{sweepOf, collisionOf}
+use Rattle.collision.specs.Nearest.{Told}
+use Rattle.collision.specs.declared.Collision.{Collision}
+use Rattle.collision.proofs.Nearest.{collision-told}
+use Rattle.collision.proofs.Answers.{values-only}
+use Rattle.grounds.specs.Classes.{tooNear, inBetween, tooFar, howMany}
+use Rattle.grounds.specs.Grounds.{groundNumber, Says}
+use Rattle.grounds.specs.Scan.{noTally}
+use Rattle.grounds.specs.Explanation.{tallyOf, explanationOf}
+use Rattle.grounds.specs.Calls.{Account, account, explained, explainCall}
+use Rattle.grounds.specs.declared.Ground.{Ground}
+use Rattle.grounds.specs.declared.Ground.the-variants.{Hit, Short, Never, Near, Far, BothSides}
+use Rattle.grounds.specs.declared.Tally.{Tally}
+use Rattle.grounds.specs.declared.Explanation.{Explanation}
+use Rattle.grounds.specs.declared.answer.Explained.{Explained}
+use Rattle.grounds.specs.declared.answer.Explained.the-variants.{Is, Refused}
+use Rattle.grounds.proofs.Grounds.{ground-says, same-collision}
+
+-- ---- no two answers say the same
+
+-- the ground with a number
+numbered : ℕ → Ground
+numbered n = cond (eqb n 0) Hit (cond (eqb n 1) Short (cond (eqb n 2) Never (cond (eqb n 3) Near (cond (eqb n 4) Far BothSides))))
+
+number-back : (g : Ground) → numbered (groundNumber g) ≡ g
+unfolding numbered
+number-back Hit = refl
+number-back Short = refl
+number-back Never = refl
+number-back Near = refl
+number-back Far = refl
+number-back BothSides = refl
+
+pub ground-number-only : (g h : Ground) → groundNumber g ≡ groundNumber h → g ≡ h
+ground-number-only g h e = sym (number-back g) ∙ ap numbered e ∙ number-back h
+
+same-parts : (x : Explanation) (g : Ground) (c : Collision) (o n b f : ℕ) → x .ground ≡ g → x .tally .best ≡ c → x .tally .others ≡ o → x .tally .near ≡ n
+    → x .tally .between ≡ b → x .tally .far ≡ f → x ≡ record { ground = g; tally = record { best = c; others = o; near = n; between = b; far = f } }
+same-parts x g c o n b f p q r s t u = rw (← p, ← q, ← r, ← s, ← t, ← u)
+
+pub account-only : (x y : Explanation) → account x ≡ account y → x ≡ y
+account-only x y h =
+    same-parts x _ _ _ _ _ _
+    (ground-number-only (x .ground) (y .ground) (ap (λ (a : Account). a .ground) h))
+    (values-only (x .tally .best) (y .tally .best) (ap (λ (a : Account). a .hit) h))
+    (ap (λ (a : Account). a .others) h)
+    (ap (λ (a : Account). a .near) h)
+    (ap (λ (a : Account). a .between) h)
+    (ap (λ (a : Account). a .far) h)
+
+pub explained-only : (a b : Explained) → explained a ≡ explained b → a ≡ b
+explained-only (Is x) (Is y) h = cc (account-only x y (cc))
+explained-only (Is x) (Refused r) h = cc
+explained-only (Refused r) (Is y) h = cc
+explained-only (Refused r) (Refused s) h = cc
+
+-- ---- an answer that keeps the call's promise
+
+module _ (st orb : List Float) (move : Point) (tol : Float) (x : Explanation) (keeps : explained (Is x) ≡ explainCall st orb move tol) where
+  answer-is : (passed (ofMoving st orb move tol) ≡ true) × (x ≡ explanationOf st orb move tol)
+  answer-is = go (passed (ofMoving st orb move tol)) refl keeps
+    where
+      go : (b : Bool) → passed (ofMoving st orb move tol) ≡ b
+          → answers (account x) ≡ cond b (answers (account (explanationOf st orb move tol))) (refuses (ofMoving st orb move tol))
+          → (passed (ofMoving st orb move tol) ≡ true) × (x ≡ explanationOf st orb move tol)
+      go true p e = (p, account-only x (explanationOf st orb move tol) (cc))
+      go false p e = absurd (let z : _≡_ {A = ℕ} 0 1 = cc in omega arith)
+
+  pub answer-says : Says st orb move tol (x .ground)
+  answer-says = rw (answer-is .1) (ground-says st orb move tol (answer-is .0))
+
+  pub answer-told : Told st orb move tol (x .tally .best)
+  answer-told = rw (answer-is .1, same-collision st orb move tol) (collision-told st orb move tol)
+
+  -- a move shorter than the tolerance has no counts
+  pub answer-short : lt (lengthOf move) tol ≡ true → x .tally ≡ noTally
+  unfolding explanationOf
+  answer-short h = rw (answer-is .1, h)
+
+  pub answer-counts : lt (lengthOf move) tol ≡ false →
+      let w = sweepOf move tol in
+      (x .tally .near ≡ howMany st orb move tol (tooNear w))
+      × (x .tally .between ≡ howMany st orb move tol (inBetween w))
+      × (x .tally .far ≡ howMany st orb move tol (tooFar w))
+  unfolding explanationOf tallyOf
+  answer-counts h = (rw (answer-is .1, h), rw (answer-is .1, h), rw (answer-is .1, h))
