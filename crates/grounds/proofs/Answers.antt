@@ -12,7 +12,7 @@ use Rattle.plane.specs.declared.Point.{Point}
 use Rattle.refusals.specs.Refusals.{passed}
 use Rattle.refusals.specs.Rows.{ofMoving}
 use Rattle.refusals.specs.Answers.{answers, refuses}
-use Rattle.collision.specs.Check.{sweepOf, collisionOf}
+use Rattle.collision.specs.Check.{sweepOf}
 use Rattle.collision.specs.Nearest.{Told}
 use Rattle.collision.specs.declared.Collision.{Collision}
 use Rattle.collision.proofs.Nearest.{collision-told}
@@ -24,7 +24,6 @@ use Rattle.grounds.specs.Explanation.{tallyOf, explanationOf}
 use Rattle.grounds.specs.Calls.{Account, account, explained, explainCall}
 use Rattle.grounds.specs.declared.Ground.{Ground}
 use Rattle.grounds.specs.declared.Ground.the-variants.{Hit, Short, Never, Near, Far, BothSides}
-use Rattle.grounds.specs.declared.Tally.{Tally}
 use Rattle.grounds.specs.declared.Explanation.{Explanation}
 use Rattle.grounds.specs.declared.answer.Explained.{Explained}
 use Rattle.grounds.specs.declared.answer.Explained.the-variants.{Is, Refused}

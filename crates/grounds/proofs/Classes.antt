@@ -1,19 +1,18 @@
 -- A computed hit is too near, between or too far, and never two of them; of a call that is not refused it is one of them, so the three counts come to
 -- the count of all hits. For no distance is a NaN, and neither is the limit. Assumes nothing.
 use Prim.Native.Nat.{ℕ, zero, suc, _+_, _-_, _*_, _/_, _^_, compare}
-use mathlib.Core.Path.{_≡_, refl, sym, ap}
+use mathlib.Core.Path.{_≡_, refl, sym}
 use mathlib.Core.Logic.{inl, inr}
 use mathlib.Core.Bool.{Bool, true, false, not, _&&_, cond, true≢false}
 use mathlib.Core.List.{List}
-use lib.IntN.{ℤ}
-use lib.Dec.{T, eqb}
-use lib.Ieee.{Float, nan, inf, fin, Format, prec, low, size, nearest, binary64, up, down, isNan, lt, le, eq, neg, add, mul, sub, ofBits, round}
+use lib.Dec.{eqb}
+use lib.Ieee.{Float, nan, inf, fin, Format, prec, low, size, nearest, binary64, up, down, isNan, lt, le, eq, neg, add, mul, sub, ofBits}
 use Rattle.laws.proofs.Both.{both}
 use Rattle.laws.proofs.Order.{no-nan, total, clash, not-less}
 use Rattle.laws.proofs.Plain.{Plain, infinite, number, round-plain, units-plain, sum-plain}
 use Rattle.laws.proofs.Rounding.{Rounds, upward, downward, round-minus, finite-sum}
 use Rattle.laws.proofs.Turns.{tally-three}
-use Rattle.scalar.specs.Float.{_⊖_, _⊘_, f0, f1}
+use Rattle.scalar.specs.Float.{_⊖_, _⊘_, f0}
 use Rattle.scalar.specs.Scalar.{absOf, ahead, orNumber, largerOf}
 use Rattle.square_root.specs.Root.{isqrt, rooted, sqrtOf}
 use Rattle.plane.specs.Vector.{minusOf, crossOf, dotOf, lengthOf}

@@ -3,3 +3,4 @@ pub mod Counts
 pub mod Classes
 pub mod Grounds
 pub mod Answers
+pub mod Worked
