@@ -1,3 +1,4 @@
 -- The modules that belong to no one function.
 pub mod Counts
 pub mod Scanned
+pub mod Others

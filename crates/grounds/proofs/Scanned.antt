@@ -72,7 +72,7 @@ module _ (st orb : List Float) (move : Point) (tol : Float) where
   flat =
       let e : scans st orb ≡ half + half = omega arith in
       let one : turnRows (pairNoted orb st (sweepOf move tol) 0) (count st) noTally (count orb) ≡ turns stepOf noTally half =
-          rows-flat _ (count st) noTally (count orb) ∙ ap (turns _ noTally) (mul-comm (count orb) (count st)) ∙ turns-ext _ stepOf noTally half first-kind in
+      rows-flat _ (count st) noTally (count orb) ∙ ap (turns _ noTally) (mul-comm (count orb) (count st)) ∙ turns-ext _ stepOf noTally half first-kind in
       rows-flat _ (count orb) _ (count st)
       ∙ turns-ext _ (λ t k. stepOf t (half + k)) _ half second-kind
       ∙ ap (λ (s : Tally). turns (λ t k. stepOf t (half + k)) s half) one
