@@ -1,6 +1,7 @@
 -- The others are the other pairs at the hit's very distance. The invariant: after n pairs there is no hit and no other, or there are the others and the
 -- hit itself, as many as pairs so far at its distance. Assumes nothing.
-use Prim.Native.Nat.{ℕ, zero, suc, _+_, _-_, _<_}
+use Prim.Native.Nat.{ℕ, zero, suc, _+_, _-_, _≤_, _<_}
+use native.Mathlib.Nat.{add-zero, add-suc, le-refl}
 use native.Mathlib.Omega.{arith}
 use mathlib.Core.Path.{_≡_, refl, sym, ap, _∙_}
 use mathlib.Core.Bool.{Bool, true, false, not, cond, _&&_, true≢false}
@@ -22,7 +23,7 @@ use Rattle.collision.specs.declared.Ray.{Ray}
 use Rattle.collision.specs.declared.Ray.the-variants.{Miss, At}
 use Rattle.collision.specs.declared.Collision.{Collision}
 use Rattle.collision.specs.declared.Collision.the-variants.{Nothing, Hit}
-use Rattle.collision.proofs.Counting.{counts, real}
+use Rattle.collision.proofs.Counting.{above-real, counts, real}
 use Rattle.collision.proofs.Pairs.{found}
 use Rattle.collision.proofs.Nearest.{carried, found-first}
 use Rattle.grounds.specs.Classes.{hitIs, hitAt, howMany}
@@ -164,3 +165,37 @@ module _ (st orb : List Float) (move : Point) (tol : Float) where
   pub others-is : turns (stepOf st orb move tol) noTally (scans st orb) .others
       ≡ othersAt st orb move tol (turns (stepOf st orb move tol) noTally (scans st orb) .best)
   others-is = kept-others _ _ (kept (scans st orb))
+
+-- ---- the theorem
+
+module _ (passes : ℕ → Bool) (j : ℕ) (t : passes j ≡ true) where
+  -- what passes but for one number
+  abbrev besides : ℕ → Bool
+  besides k = not (eqb k j) && passes k
+
+  before-it : (n : ℕ) → n ≤ j → tally besides n ≡ tally passes n
+  unfolding tally
+  before-it zero l = refl
+  before-it (suc n) l = rw (before-it n (omega arith), ne-eqb n j (λ e. omega (arith, e)))
+
+  after-it : (n : ℕ) → tally passes (j + suc n) ≡ tally besides (j + suc n) + 1
+  unfolding tally
+  after-it zero = rw (add-suc, add-zero, before-it j (le-refl j), eq-eqb j j refl, t) (omega arith)
+  after-it (suc n) =
+      rw (add-suc j (suc n), ne-eqb (j + suc n) j (λ e. omega (arith, e)))
+      (let h = after-it n in omega (arith, h))
+
+-- the others are the number of other pairs at the distance of the hit
+module _ (st orb : List Float) (move : Point) (tol : Float) where
+  pub others-other : (d : Float) (k s o : ℕ) (j : ℕ) → Blocks st orb move tol j d
+      → othersAt st orb move tol (Hit d k s o) ≡ tally (λ i. not (eqb i j) && hitAt st orb move tol (λ e. eq e d) i) (scans st orb)
+  unfolding othersAt howMany
+  others-other d k s o j b =
+      let passes = hitAt st orb move tol (λ e. eq e d) in
+      let t : passes j ≡ true = itself in
+      let n : scans st orb ≡ j + suc (scans st orb - suc j) = omega (arith, b .meets .scanned) in
+      let h = after-it passes j t (scans st orb - suc j) in
+      rw n (omega (arith, h))
+    where
+      itself : hitAt st orb move tol (λ e. eq e d) j ≡ true
+      itself = at-hit st orb move tol j d d (b .meets .at) ∙ eq-self d (above-real tol d (b .above))
