@@ -7,7 +7,7 @@ use mathlib.Core.List.{List}
 use lib.Dec.{eqb}
 use lib.Ieee.{Float, lt}
 use borrow.Author.Tests.{eqb-true, eqb-false}
-use Rattle.laws.proofs.Turns.{tally-none, tally-some}
+use Rattle.laws.proofs.Turns.{none-passes, one-passes}
 use Rattle.plane.specs.Vector.{lengthOf}
 use Rattle.plane.specs.declared.Point.{Point}
 use Rattle.refusals.specs.Refusals.{passed}
@@ -52,12 +52,12 @@ module _ (st orb : List Float) (move : Point) (tol : Float) where
   some-of : (passes : Float → Bool) → eqb (howMany st orb move tol passes) 0 ≡ false → Some st orb move tol passes
   unfolding howMany
   some-of passes h =
-      let p = tally-some (hitAt st orb move tol passes) (scans st orb) (eqb-false _ _ h) in
+      let p = one-passes (hitAt st orb move tol passes) (scans st orb) (eqb-false _ _ h) in
       some-by passes (p .which) (p .below) _ refl (p .does)
 
   none-of : (passes : Float → Bool) → eqb (howMany st orb move tol passes) 0 ≡ true → None st orb move tol passes
   unfolding howMany hitIs
-  none-of passes h k d m = rw (m .at) at (tally-none (hitAt st orb move tol passes) (scans st orb) (eqb-true _ _ h) k (m .scanned))
+  none-of passes h k d m = rw (m .at) at (none-passes (hitAt st orb move tol passes) (scans st orb) (eqb-true _ _ h) k (m .scanned))
 
   -- the other way round
   of-some : (passes : Float → Bool) → Some st orb move tol passes → eqb (howMany st orb move tol passes) 0 ≡ false
@@ -99,17 +99,20 @@ module _ (st orb : List Float) (move : Point) (tol : Float) where
         → Says st orb move tol (cond b (cond n (cond f Never Far) (cond f Near BothSides)) Hit)
     says-by false n f B N F = (long, some-of between B)
     says-by true false false B N F = (long, some-of near N, some-of far F, none-of between B)
-    says-by true false true B N F =
-        ( long
-        , any-of near (some-of near N)
-        , λ k d m. left-first (classes st orb move tol takes k d m) (none-of between B k d m) (none-of far F k d m) )
-    says-by true true false B N F =
-        ( long
-        , any-of far (some-of far F)
-        , λ k d m. left-third (classes st orb move tol takes k d m) (none-of near N k d m) (none-of between B k d m) )
-    says-by true true true B N F =
-        ( long
-        , λ k d m. no-bool (sym (left-first (classes st orb move tol takes k d m) (none-of between B k d m) (none-of far F k d m)) ∙ none-of near N k d m) )
+    says-by true false true B N F = (
+      long,
+      any-of near (some-of near N),
+      λ k d m. left-first (classes st orb move tol takes k d m) (none-of between B k d m) (none-of far F k d m),
+    )
+    says-by true true false B N F = (
+      long,
+      any-of far (some-of far F),
+      λ k d m. left-third (classes st orb move tol takes k d m) (none-of near N k d m) (none-of between B k d m),
+    )
+    says-by true true true B N F = (
+      long,
+      λ k d m. no-bool (sym (left-first (classes st orb move tol takes k d m) (none-of between B k d m) (none-of far F k d m)) ∙ none-of near N k d m),
+    )
 
     by-counts : Says st orb move tol (groundBy (howMany st orb move tol near) (howMany st orb move tol between) (howMany st orb move tol far))
     unfolding groundBy

@@ -55,6 +55,12 @@ module _ {S : Type 0} (step : S → ℕ → ℕ → S) where
 
 -- ---- counts
 
+-- none passes
+pub tally-none : (passes : ℕ → Bool) (n : ℕ) → ((k : ℕ) → k < n → passes k ≡ false) → tally passes n ≡ 0
+unfolding tally
+tally-none passes zero h = refl
+tally-none passes (suc n) h = rw (tally-none passes n (λ k l. h k (omega arith)), h n (omega arith))
+
 -- a number below n that passes
 pub record Passing (passes : ℕ → Bool) (n : ℕ) : Type 0 where
   pub which : ℕ
@@ -62,10 +68,10 @@ pub record Passing (passes : ℕ → Bool) (n : ℕ) : Type 0 where
   pub does : passes which ≡ true
 
 -- where the count is 0 none passes
-pub tally-none : (passes : ℕ → Bool) (n : ℕ) → tally passes n ≡ 0 → (k : ℕ) → k < n → passes k ≡ false
+pub none-passes : (passes : ℕ → Bool) (n : ℕ) → tally passes n ≡ 0 → (k : ℕ) → k < n → passes k ≡ false
 unfolding tally
-tally-none passes zero h k l = absurd (omega arith)
-tally-none passes (suc n) h k l = go (passes n) refl (λ z q. tally-none passes n z k q) h
+none-passes passes zero h k l = absurd (omega arith)
+none-passes passes (suc n) h k l = go (passes n) refl (λ z q. none-passes passes n z k q) h
   where
     go : (b : Bool) → passes n ≡ b → (tally passes n ≡ 0 → k < n → passes k ≡ false) → tally passes n + cond b 1 0 ≡ 0 → passes k ≡ false
     go true e before z = absurd (omega arith)
@@ -74,10 +80,10 @@ tally-none passes (suc n) h k l = go (passes n) refl (λ z q. tally-none passes 
         elim (eq-or-lt-of-le m) [ inl q ↦ ap passes q ∙ e | inr q ↦ before (omega arith) q ]
 
 -- and where it is not, one does
-pub tally-some : (passes : ℕ → Bool) (n : ℕ) → (tally passes n ≡ 0 → ⊥) → Passing passes n
+pub one-passes : (passes : ℕ → Bool) (n : ℕ) → (tally passes n ≡ 0 → ⊥) → Passing passes n
 unfolding tally
-tally-some passes zero h = absurd (h refl)
-tally-some passes (suc n) h = go (passes n) refl (λ z. tally-some passes n z) h
+one-passes passes zero h = absurd (h refl)
+one-passes passes (suc n) h = go (passes n) refl (λ z. one-passes passes n z) h
   where
     go : (b : Bool) → passes n ≡ b → ((tally passes n ≡ 0 → ⊥) → Passing passes n) → (tally passes n + cond b 1 0 ≡ 0 → ⊥) → Passing passes (suc n)
     go true e before z = record { which = n; below = omega arith; does = e }

@@ -17,12 +17,12 @@ use Rattle.grounds.proofs.both.Tie as tie
 none : (m : ℕ) → AtMost noTally m
 none m = record { others-below = omega arith; near-below = omega arith; between-below = omega arith; far-below = omega arith }
 
-after-one : (vs es : List Float) (w : Sweep) (kind : ℕ) {t : Tally} → t ≡ scanNoted vs es w kind noTally
+after-one : (vs es : List Float) (w : Sweep) (kind : ℕ) {s t : Tally} → s ≡ noTally → t ≡ scanNoted vs es w kind s
     → count vs ≤ 256 → count es ≤ 256 → AtMost t kindMost
 unfolding scanNoted
-after-one vs es w kind h a b =
+after-one vs es w kind g h a b =
     let m : count vs * count es ≤ 256 * 256 = mul-le-mul a b in
-    rw h (most-more _ _ _ (rows-most vs es w kind noTally 0 (none 0) (count es) (count vs)) (omega (arith, m)))
+    rw (h, g) (most-more _ _ _ (rows-most vs es w kind noTally 0 (none 0) (count es) (count vs)) (omega (arith, m)))
 
 back-requires : tie.Need-back-requires
 back-requires c κs = search needs
@@ -38,7 +38,7 @@ scan-requires c κs =
 scan-requires-2 : tie.Need-scan-requires-2
 scan-requires-2 c κs =
     let p = c .before .before .before .before .before .pre in
-    (p .0, p .1, after-one _ _ _ _ (rw (← c .before .no-tally .ensures) (c .scan .ensures)) (p .1) (p .0))
+    (p .0, p .1, after-one _ _ _ _ (c .before .no-tally .ensures) (c .scan .ensures) (p .1) (p .0))
 
 returns : tie.Need-returns
 unfolding bothNoted
