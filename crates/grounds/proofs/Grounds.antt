@@ -96,27 +96,27 @@ module _ (st orb : List Float) (move : Point) (tol : Float) where
 
   module _ (takes : passed (ofMoving st orb move tol) ≡ true) (long : lt (lengthOf move) tol ≡ false) where
     says-by : (b n f : Bool) → zero between ≡ b → zero near ≡ n → zero far ≡ f
-        → Says st orb move tol (cond b (cond n (cond f Never Far) (cond f Near BothSides)) Hit)
-    says-by false n f B N F = (long, some-of between B)
-    says-by true false false B N F = (long, some-of near N, some-of far F, none-of between B)
-    says-by true false true B N F = (
-      long,
-      any-of near (some-of near N),
-      λ k d m. left-first (classes st orb move tol takes k d m) (none-of between B k d m) (none-of far F k d m),
-    )
-    says-by true true false B N F = (
-      long,
-      any-of far (some-of far F),
-      λ k d m. left-third (classes st orb move tol takes k d m) (none-of near N k d m) (none-of between B k d m),
-    )
-    says-by true true true B N F = (
-      long,
-      λ k d m. no-bool (sym (left-first (classes st orb move tol takes k d m) (none-of between B k d m) (none-of far F k d m)) ∙ none-of near N k d m),
-    )
-
-    by-counts : Says st orb move tol (groundBy (howMany st orb move tol near) (howMany st orb move tol between) (howMany st orb move tol far))
+        → Says st orb move tol (groundBy (howMany st orb move tol near) (howMany st orb move tol between) (howMany st orb move tol far))
     unfolding groundBy
-    by-counts = says-by (zero between) (zero near) (zero far) refl refl refl
+    says-by false n f B N F = rw B (long, some-of between B)
+    says-by true false false B N F = rw (B, N, F) (long, some-of near N, some-of far F, none-of between B)
+    says-by true false true B N F =
+        rw (B, N, F) (
+          long,
+          any-of near (some-of near N),
+          λ k d m. left-first (classes st orb move tol takes k d m) (none-of between B k d m) (none-of far F k d m),
+        )
+    says-by true true false B N F =
+        rw (B, N, F) (
+          long,
+          any-of far (some-of far F),
+          λ k d m. left-third (classes st orb move tol takes k d m) (none-of near N k d m) (none-of between B k d m),
+        )
+    says-by true true true B N F =
+        rw (B, N, F) (
+          long,
+          λ k d m. no-bool (sym (left-first (classes st orb move tol takes k d m) (none-of between B k d m) (none-of far F k d m)) ∙ none-of near N k d m),
+        )
 
   -- the theorem
   pub ground-says : passed (ofMoving st orb move tol) ≡ true → Says st orb move tol (explanationOf st orb move tol .ground)
@@ -126,15 +126,9 @@ module _ (st orb : List Float) (move : Point) (tol : Float) where
       go : (short : Bool) → lt (lengthOf move) tol ≡ short
           → Says st orb move tol (cond short (record { ground = Short; tally = noTally }) (explanationBy (tallyOf st orb move tol)) .ground)
       go true e = e
-      go false e = by-counts takes e
+      go false e = says-by takes e (zero between) (zero near) (zero far) refl refl refl
 
   -- ---- and no other is
-
-  -- the ground by what is known of the counts
-  named : {b n f : Bool} → lt (lengthOf move) tol ≡ false → zero between ≡ b → zero near ≡ n → zero far ≡ f
-      → explanationOf st orb move tol .ground ≡ cond b (cond n (cond f Never Far) (cond f Near BothSides)) Hit
-  unfolding explanationOf tallyOf groundBy
-  named long B N F = rw (long, B, N, F)
 
   -- where all hits are of one class, none is of the others
   near-only : All st orb move tol near → None st orb move tol between × None st orb move tol far
@@ -148,15 +142,14 @@ module _ (st orb : List Float) (move : Point) (tol : Float) where
 
   -- what is true is named, of any call
   pub ground-named : (g : Ground) → Says st orb move tol g → explanationOf st orb move tol .ground ≡ g
-  unfolding explanationOf
+  unfolding explanationOf tallyOf groundBy
   ground-named Short s = rw s
-  ground-named Hit (long, s) = named long (of-some between s) refl refl
-  ground-named Never (long, f) = named long (of-none between (no-hit between f)) (of-none near (no-hit near f)) (of-none far (no-hit far f))
+  ground-named Hit (long, s) = rw (long, of-some between s)
+  ground-named Never (long, f) = rw (long, of-none between (no-hit between f), of-none near (no-hit near f), of-none far (no-hit far f))
   ground-named Near (long, s, f) =
-      named long (of-none between (near-only f .0)) (of-some near (all-of near s f)) (of-none far (near-only f .1))
-  ground-named Far (long, s, f) =
-      named long (of-none between (far-only f .1)) (of-none near (far-only f .0)) (of-some far (all-of far s f))
-  ground-named BothSides (long, s, t, f) = named long (of-none between f) (of-some near s) (of-some far t)
+      rw (long, of-none between (near-only f .0), of-some near (all-of near s f), of-none far (near-only f .1))
+  ground-named Far (long, s, f) = rw (long, of-none between (far-only f .1), of-none near (far-only f .0), of-some far (all-of far s f))
+  ground-named BothSides (long, s, t, f) = rw (long, of-none between f, of-some near s, of-some far t)
 
   pub ground-only : (g h : Ground) → Says st orb move tol g → Says st orb move tol h → g ≡ h
   ground-only g h s t = sym (ground-named g s) ∙ ground-named h t
