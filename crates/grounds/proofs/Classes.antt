@@ -1,7 +1,7 @@
 -- A computed hit is too near, between or too far, and never two of them; of a call that is not refused it is one of them, so the three counts come to
 -- the count of all hits. For no distance is a NaN, and neither is the limit. Assumes nothing.
 use Prim.Native.Nat.{ℕ, zero, suc, _+_, _-_, _*_, _/_, _^_, compare}
-use mathlib.Core.Path.{_≡_, refl, sym}
+use mathlib.Core.Path.{_≡_, refl, sym, ap, _∙_}
 use mathlib.Core.Logic.{inl, inr}
 use mathlib.Core.Bool.{Bool, true, false, not, _&&_, cond, true≢false}
 use mathlib.Core.List.{List}
@@ -33,7 +33,7 @@ use Rattle.collision.specs.declared.Ray.the-variants.{Miss, At}
 use Rattle.grounds.specs.Classes.{tooNear, inBetween, tooFar, hitIs, hitAt, howMany}
 use Rattle.grounds.specs.Grounds.{any}
 
-no-bool : {A : Type 0} → true ≡ false → A
+pub no-bool : {A : Type 0} → true ≡ false → A
 no-bool e = absurd (true≢false e)
 
 -- ---- a hit's distance is no NaN
@@ -229,7 +229,7 @@ pub apart : (w : Sweep) (d : Float) → Apart (tooNear w d) (inBetween w d) (too
 apart w d =
     no-two (tooNear w d) (inBetween w d) (tooFar w d)
     (λ n b. clash (w .tolerance) d (both (lt (w .tolerance) d) (lt d (w .limit)) b .0) (rw n tt))
-    (λ n f. no-bool (sym (rw n at f)))
+    (λ n f. no-bool (sym (both (not (le d (w .tolerance))) (le (w .limit) d) f .0) ∙ ap not n))
     (λ b f. clash d (w .limit) (both (lt (w .tolerance) d) (lt d (w .limit)) b .1) (rw (both (not (le d (w .tolerance))) (le (w .limit) d) f .1) tt))
 
 module _ (st orb : List Float) (move : Point) (tol : Float) (takes : passed (ofMoving st orb move tol) ≡ true) where

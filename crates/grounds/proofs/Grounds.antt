@@ -2,7 +2,7 @@
 -- the collision told is that of the check. Assumes nothing.
 use Prim.Native.Nat.{ℕ, _<_}
 use mathlib.Core.Path.{_≡_, refl, sym, _∙_}
-use mathlib.Core.Bool.{Bool, true, false, cond, true≢false}
+use mathlib.Core.Bool.{Bool, true, false, cond}
 use mathlib.Core.List.{List}
 use lib.Dec.{eqb}
 use lib.Ieee.{Float, lt}
@@ -23,10 +23,7 @@ use Rattle.grounds.specs.Scan.{noTally}
 use Rattle.grounds.specs.Explanation.{tallyOf, explanationBy, explanationOf}
 use Rattle.grounds.specs.declared.Ground.{Ground}
 use Rattle.grounds.specs.declared.Ground.the-variants.{Hit, Short, Never, Near, Far, BothSides}
-use Rattle.grounds.proofs.Classes.{OneOf, the-first, the-second, the-third, apart, classes}
-
-no-bool : {A : Type 0} → true ≡ false → A
-no-bool e = absurd (true≢false e)
+use Rattle.grounds.proofs.Classes.{no-bool, OneOf, the-first, the-second, the-third, apart, classes}
 
 -- ---- of three truths, where two do not hold
 
