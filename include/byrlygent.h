@@ -103,6 +103,18 @@ enum {
     BYR_KIND_EDGE_EDGE = 2
 };
 
+/* Why byr_explain_collision answers what it does. A hit is too near if its distance
+ * is at most the tolerance; else too far if it is at least the move's length less the
+ * tolerance, as that difference is rounded; else between. */
+enum {
+    BYR_GROUND_HIT = 0,       /* a hit lies between: the move is not clear */
+    BYR_GROUND_SHORT = 1,     /* the move is shorter than the tolerance, and no pair is scanned */
+    BYR_GROUND_NEVER = 2,     /* no pair is ever hit */
+    BYR_GROUND_NEAR = 3,      /* there are hits, and all are too near */
+    BYR_GROUND_FAR = 4,       /* there are hits, and all are too far */
+    BYR_GROUND_BOTH_SIDES = 5 /* there are hits too near and too far, and none between */
+};
+
 /* ---- Scalars: every bit pattern is taken, and nothing refused. ---- */
 
 /* The same number without its sign. */
@@ -235,6 +247,17 @@ uint32_t byr_check_translation_collision(const double *stationary, size_t sn, co
                                          double dx, double dy, double tolerance, uint32_t *found,
                                          double *distance, uint32_t *kind, uint64_t *stationary_i,
                                          uint64_t *orbiting_i, uint64_t *place);
+
+/* The same, and why: ground is a BYR_GROUND_. With 0, a hit, distance, kind and both
+ * indices are those of byr_check_translation_collision, and others is how many other
+ * pairs, of either kind, have that very distance. With 1 to 5, nothing, those five
+ * are as they were. too_near, between and too_far, how many pairs have such a hit,
+ * are written with every ground; with BYR_GROUND_SHORT they are 0. Refusals: 1, 8, 9,
+ * 2, 3. */
+uint32_t byr_explain_collision(const double *stationary, size_t sn, const double *orbiting, size_t on, double dx,
+                               double dy, double tolerance, uint32_t *ground, double *distance, uint32_t *kind,
+                               uint64_t *stationary_i, uint64_t *orbiting_i, uint64_t *others,
+                               uint64_t *too_near, uint64_t *between, uint64_t *too_far, uint64_t *place);
 
 /* A position one tolerance nearer to a concave vertex, from (x,y), at which the
  * polygons do not overlap: found is 0 for none, else 1, and then (to_x,to_y).
