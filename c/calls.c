@@ -675,6 +675,9 @@ static const struct explained_move {
     {S, Q_TOUCHING, -1, 0, 1e-6, {BYR_GROUND_BOTH_SIDES, NO_HIT, 3, 0, 9, HELD_COUNT}},
     /* The limit is 0.5 and the tolerance 1: at 0.75 a hit is too near and too far, and counts as too near. */
     {S, Q_CLOSE, -1.5, 0, 1, {BYR_GROUND_BOTH_SIDES, NO_HIT, 4, 0, 12, HELD_COUNT}},
+    /* At the limit of 0.75 a hit is too far, and at the tolerance of 0.75, which is the limit too, too near. */
+    {S, Q_CLOSE, -1, 0, 0.25, {BYR_GROUND_FAR, NO_HIT, 0, 0, 8, HELD_COUNT}},
+    {S, Q_CLOSE, -1.5, 0, 0.75, {BYR_GROUND_BOTH_SIDES, NO_HIT, 4, 0, 12, HELD_COUNT}},
     /* A hit of each kind, with another pair of its kind at its distance; and with pairs of both kinds. */
     {S, Q_BESIDE, 10, 0, 1e-6, {BYR_GROUND_HIT, 3, BYR_KIND_VERTEX_EDGE, 3, 1, 1, 0, 8, 0, HELD_COUNT}},
     {Q, S_BEFORE_Q, 10, 0, 1e-6, {BYR_GROUND_HIT, 2, BYR_KIND_EDGE_VERTEX, 0, 1, 1, 0, 8, 0, HELD_COUNT}},
