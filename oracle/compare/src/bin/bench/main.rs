@@ -1,6 +1,7 @@
 //! Times the Rust and the library beside each other: the oracle's text over the
 //! fixed helpers, called straight, against the exported function with its
-//! refusals. `bench [PART]` measures the rows whose name has this part, all of
+//! refusals; and the call that explains a collision beside the one that checks for it,
+//! both of the library. `bench [PART]` measures the rows whose name has this part, all of
 //! them without it, and prints tables of them.
 
 mod memory;
@@ -20,8 +21,8 @@ type Heads = [&'static str; 3];
 /// The Rust beside the library: a ratio above 1 is the library being faster.
 const RUST: Heads = ["the Rust", "the library", "Rust / library"];
 
-/// Two calls of the library: a ratio above 1 is what the explanation costs, and it may
-/// be 1.25 at most.
+/// Two calls of the library: the ratio is what the explanation costs, and may be 1.25
+/// at most.
 const EXPLAINED: Heads = ["explained", "checked", "explained / checked, at most 1.25"];
 
 /// Prints a table of these rows, as they are measured.
