@@ -619,7 +619,7 @@ struct account {
     uint64_t place;
 };
 
-/* What those that a hit alone writes hold where there is none. */
+/* What the five cells that a hit alone writes hold where there is none. */
 #define NO_HIT HELD, HELD_WORD, HELD_COUNT, HELD_COUNT, HELD_COUNT
 
 static const struct account HELD_ACCOUNT = {HELD_WORD,  NO_HIT,     HELD_COUNT,
@@ -633,24 +633,25 @@ static uint32_t explained(struct account *x, const double *a, size_t an, const d
                                  &x->place);
 }
 
-/* Whether two accounts are the same but for the place. */
+/* Whether two accounts are the same. */
 static int same_account(const struct account *x, const struct account *y) {
     return x->ground == y->ground && same(x->distance, y->distance) && x->kind == y->kind &&
            x->stationary == y->stationary && x->orbiting == y->orbiting && x->others == y->others &&
-           x->near == y->near && x->between == y->between && x->far == y->far;
+           x->near == y->near && x->between == y->between && x->far == y->far && x->place == y->place;
 }
 
 static uint32_t lend_explanation(const double *a, size_t an, const double *b, size_t bn, uint64_t *place) {
     struct account x;
     uint32_t number = explained(&x, a, an, b, bn, 1, 0, 0);
 
-    CHECK(same_account(&x, &HELD_ACCOUNT));
     *place = x.place;
+    x.place = HELD_COUNT;
+    CHECK(same_account(&x, &HELD_ACCOUNT));
     return number;
 }
 
-/* Squares that touch S on its right, that stand 2 and 0.75 off it there, and one
- * higher than Q on its left. */
+/* On the right of S a square that touches it and two that stand 2 and 0.75 off it; on
+ * the left of Q one that is taller. */
 static const double Q_TOUCHING[8] = {4, 0, 6, 0, 6, 2, 4, 2};
 static const double S_BESIDE[8] = {6, 0, 10, 0, 10, 4, 6, 4};
 static const double Q_CLOSE[8] = {4.75, 1, 6.75, 1, 6.75, 3, 4.75, 3};
@@ -692,16 +693,16 @@ static void explanation(void) {
     begin("byr_explain_collision");
     try_polygons(lend_explanation);
     CHECK(explained(&x, S, 8, Q_BESIDE, 8, INFINITY, 0, 0) == BYR_REFUSED_NUMBER);
-    CHECK(same_account(&x, &HELD_ACCOUNT) && x.place == HELD_COUNT);
+    CHECK(same_account(&x, &HELD_ACCOUNT));
     CHECK(explained(&x, S, 8, Q_BESIDE, 8, 10, NAN, 0) == BYR_REFUSED_NUMBER);
-    CHECK(same_account(&x, &HELD_ACCOUNT) && x.place == HELD_COUNT);
+    CHECK(same_account(&x, &HELD_ACCOUNT));
     CHECK(explained(&x, S, 8, Q_BESIDE, 8, 10, 0, 0) == BYR_REFUSED_SETTING);
-    CHECK(same_account(&x, &HELD_ACCOUNT) && x.place == HELD_COUNT);
+    CHECK(same_account(&x, &HELD_ACCOUNT));
     for (i = 0; i < sizeof EXPLAINED / sizeof *EXPLAINED; i++) {
         const struct explained_move *move = &EXPLAINED[i];
         row = i + 1;
         CHECK(explained(&x, move->a, 8, move->b, 8, move->dx, move->dy, move->tolerance) == 0);
-        CHECK(same_account(&x, &move->account) && x.place == HELD_COUNT);
+        CHECK(same_account(&x, &move->account));
         h = HELD_HIT;
         CHECK(byr_check_translation_collision(move->a, 8, move->b, 8, move->dx, move->dy, move->tolerance, &h.found,
                                               &h.distance, &h.kind, &h.stationary, &h.orbiting, &h.place) == 0);

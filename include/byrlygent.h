@@ -103,9 +103,10 @@ enum {
     BYR_KIND_EDGE_EDGE = 2
 };
 
-/* Why byr_explain_collision answers what it does. A hit is too near if its distance
- * is at most the tolerance; else too far if it is at least the move's length less the
- * tolerance, as that difference is rounded; else between. */
+/* Why byr_explain_collision answers what it does. A pair is a vertex of one polygon
+ * and an edge of the other, and is hit at a distance or never. A hit is too near if its
+ * distance is at most the tolerance; else too far if it is at least the move's length
+ * less the tolerance, as that difference is rounded; else between. */
 enum {
     BYR_GROUND_HIT = 0,       /* a hit lies between: the move is not clear */
     BYR_GROUND_SHORT = 1,     /* the move is shorter than the tolerance, and no pair is scanned */
@@ -248,12 +249,12 @@ uint32_t byr_check_translation_collision(const double *stationary, size_t sn, co
                                          double *distance, uint32_t *kind, uint64_t *stationary_i,
                                          uint64_t *orbiting_i, uint64_t *place);
 
-/* The same, and why: ground is a BYR_GROUND_. With 0, a hit, distance, kind and both
- * indices are those of byr_check_translation_collision, and others is how many other
- * pairs, of either kind, have that very distance. With 1 to 5, nothing, those five
- * are as they were. too_near, between and too_far, how many pairs have such a hit,
- * are written with every ground; with BYR_GROUND_SHORT they are 0. Refusals: 1, 8, 9,
- * 2, 3. */
+/* The same answer and its ground, a BYR_GROUND_. With BYR_GROUND_HIT distance, kind
+ * and both indices are written as byr_check_translation_collision writes them, and
+ * others: how many other pairs, of either kind, are hit at that very distance. With
+ * grounds 1 to 5, which are those of nothing, these five are as they were. too_near,
+ * between and too_far, the pairs with such a hit, are written with every ground; all
+ * are 0 with BYR_GROUND_SHORT. Refusals: 1, 8, 9, 2, 3. */
 uint32_t byr_explain_collision(const double *stationary, size_t sn, const double *orbiting, size_t on, double dx,
                                double dy, double tolerance, uint32_t *ground, double *distance, uint32_t *kind,
                                uint64_t *stationary_i, uint64_t *orbiting_i, uint64_t *others,

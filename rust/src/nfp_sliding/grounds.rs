@@ -1,4 +1,4 @@
-//! Why a move is clear, or what it runs into and how many pairs it is that hit.
+//! Why a move is clear, or what it runs into, with the counts of all hits.
 
 use super::contacts::ContactType;
 use super::moves::CollisionEvent;
@@ -7,9 +7,10 @@ use crate::refusal::among;
 use crate::{ffi, Entries, Point, Result};
 use std::fmt;
 
-/// Why the answer of a collision check is what it is. A hit is too near if its
-/// distance is at most the tolerance; else too far if it is at least the move's
-/// length less the tolerance, as that difference is rounded; else between.
+/// Why the answer of a collision check is what it is. A pair is a vertex of one
+/// polygon and an edge of the other, and is hit at a distance or never. A hit is too
+/// near if its distance is at most the tolerance; else too far if it is at least the
+/// move's length less the tolerance, as that difference is rounded; else between.
 #[derive(Debug, Clone, Copy, PartialEq)]
 pub enum Ground {
     /// A hit lies between: the move is not clear.
@@ -18,7 +19,7 @@ pub enum Ground {
         ///
         /// [`check_translation_collision`]: super::check_translation_collision
         hit: CollisionEvent,
-        /// How many other pairs, of either kind, have that very distance.
+        /// How many other pairs, of either kind, are hit at that very distance.
         others: u64,
     },
     /// The move is shorter than the tolerance, and no pair is scanned.

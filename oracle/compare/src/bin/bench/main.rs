@@ -1,8 +1,8 @@
 //! Times the Rust and the library beside each other: the oracle's text over the
 //! fixed helpers, called straight, against the exported function with its
-//! refusals; and the call that explains a collision beside the one that checks for it,
-//! both of the library. `bench [PART]` measures the rows whose name has this part, all of
-//! them without it, and prints tables of them.
+//! refusals; and the library's explanation of a collision against its check.
+//! `bench [PART]` measures the rows whose name has this part, all of them without
+//! it, and prints tables of them.
 
 mod memory;
 mod plain_book;
