@@ -3,30 +3,33 @@
 use Prim.Native.Nat.{ℕ}
 use native.Mathlib.Omega.{arith}
 use mathlib.Core.Path.{_≡_, refl, sym, ap, _∙_}
-use mathlib.Core.Bool.{Bool, true, false, cond}
+use mathlib.Core.Bool.{Bool, true, false, not, _&&_, cond}
 use mathlib.Core.List.{List}
 use lib.Dec.{eqb}
-use lib.Ieee.{Float, lt}
+use lib.Ieee.{Float, lt, eq}
 use Rattle.plane.specs.Vector.{lengthOf}
+use Rattle.laws.specs.Turns.{tally}
 use Rattle.plane.specs.declared.Point.{Point}
 use Rattle.refusals.specs.Refusals.{passed}
 use Rattle.refusals.specs.Rows.{ofMoving}
 use Rattle.refusals.specs.Answers.{answers, refuses}
 use Rattle.collision.specs.Check.{sweepOf}
-use Rattle.collision.specs.Nearest.{Told}
+use Rattle.collision.specs.Nearest.{scans, Blocks, Told}
 use Rattle.collision.specs.declared.Collision.{Collision}
+use Rattle.collision.specs.declared.Collision.the-variants as collision-is
 use Rattle.collision.proofs.Nearest.{collision-told}
 use Rattle.collision.proofs.Answers.{values-only}
-use Rattle.grounds.specs.Classes.{tooNear, inBetween, tooFar, howMany}
+use Rattle.grounds.specs.Classes.{tooNear, inBetween, tooFar, hitAt, howMany}
 use Rattle.grounds.specs.Grounds.{groundNumber, Says}
 use Rattle.grounds.specs.Scan.{noTally}
-use Rattle.grounds.specs.Explanation.{tallyOf, explanationOf}
+use Rattle.grounds.specs.Explanation.{othersAt, tallyOf, explanationOf}
 use Rattle.grounds.specs.Calls.{Account, account, explained, explainCall}
 use Rattle.grounds.specs.declared.Ground.{Ground}
 use Rattle.grounds.specs.declared.Ground.the-variants.{Hit, Short, Never, Near, Far, BothSides}
 use Rattle.grounds.specs.declared.Explanation.{Explanation}
 use Rattle.grounds.specs.declared.answer.Explained.{Explained}
 use Rattle.grounds.specs.declared.answer.Explained.the-variants.{Is, Refused}
+use Rattle.grounds.proofs.Others.{others-other}
 use Rattle.grounds.proofs.Grounds.{ground-says, same-collision}
 
 -- ---- no two answers say the same
@@ -97,3 +100,24 @@ module _ (st orb : List Float) (move : Point) (tol : Float) (x : Explanation) (k
       × (x .tally .far ≡ howMany st orb move tol (tooFar w))
   unfolding explanationOf tallyOf
   answer-counts h = (rw (answer-is .1, h), rw (answer-is .1, h), rw (answer-is .1, h))
+
+  scanned : lt (lengthOf move) tol ≡ false → x .tally ≡ tallyOf st orb move tol
+  unfolding explanationOf
+  scanned h = rw (answer-is .1, h)
+
+  others-told : {d : Float} {k s o : ℕ} → x .tally .best ≡ collision-is.Hit d k s o → lt (lengthOf move) tol ≡ false
+      → x .tally .others ≡ othersAt st orb move tol (collision-is.Hit d k s o)
+  unfolding tallyOf
+  others-told e h =
+      let b : tallyOf st orb move tol .best ≡ x .tally .best = rw (scanned h) in
+      rw (scanned h) (ap (othersAt st orb move tol) (b ∙ e))
+
+  -- the others of a hit, whose pair has a number, are the other pairs at its distance
+  pub answer-others : (d : Float) (k s o : ℕ) → x .tally .best ≡ collision-is.Hit d k s o → (j : ℕ) → Blocks st orb move tol j d
+      → x .tally .others ≡ tally (λ i. not (eqb i j) && hitAt st orb move tol (λ e. eq e d) i) (scans st orb)
+  answer-others d k s o e j b = go (lt (lengthOf move) tol) refl
+    where
+      go : (short : Bool) → lt (lengthOf move) tol ≡ short
+          → x .tally .others ≡ tally (λ i. not (eqb i j) && hitAt st orb move tol (λ q. eq q d) i) (scans st orb)
+      go true h = absurd (let z : _≡_ {A = ℕ} 0 1 = cc (answer-short h, e) in omega arith)
+      go false h = others-told e h ∙ others-other st orb move tol d k s o j b
