@@ -2,19 +2,21 @@
 -- collision is what the check's theorem demands, and its counts are those of the pairs. Assumes nothing.
 use Prim.Native.Nat.{ℕ}
 use native.Mathlib.Omega.{arith}
-use mathlib.Core.Path.{_≡_, refl, sym, ap, _∙_}
+use mathlib.Core.Path.{_≡_, refl, sym, ap, subst, _∙_}
+use mathlib.Core.Logic.{inl, ⊎-elim}
 use mathlib.Core.Bool.{Bool, true, false, not, _&&_, cond}
 use mathlib.Core.List.{List}
 use lib.Dec.{eqb}
 use lib.Ieee.{Float, lt, eq}
 use Rattle.plane.specs.Vector.{lengthOf}
 use Rattle.laws.specs.Turns.{tally}
+use Rattle.laws.proofs.Both.{both}
 use Rattle.plane.specs.declared.Point.{Point}
 use Rattle.refusals.specs.Refusals.{passed}
 use Rattle.refusals.specs.Rows.{ofMoving}
 use Rattle.refusals.specs.Answers.{answers, refuses}
 use Rattle.collision.specs.Check.{sweepOf}
-use Rattle.collision.specs.Nearest.{scans, Blocks, Told}
+use Rattle.collision.specs.Nearest.{scans, Blocks, Told, nothing, hit}
 use Rattle.collision.specs.declared.Collision.{Collision}
 use Rattle.collision.specs.declared.Collision.the-variants as collision-is
 use Rattle.collision.proofs.Nearest.{collision-told}
@@ -29,8 +31,9 @@ use Rattle.grounds.specs.declared.Ground.the-variants.{Hit, Short, Never
 use Rattle.grounds.specs.declared.Explanation.{Explanation}
 use Rattle.grounds.specs.declared.answer.Explained.{Explained}
 use Rattle.grounds.specs.declared.answer.Explained.the-variants.{Is, Refused}
+use Rattle.grounds.proofs.Classes.{no-bool}
 use Rattle.grounds.proofs.Others.{others-other}
-use Rattle.grounds.proofs.Grounds.{ground-says, same-collision}
+use Rattle.grounds.proofs.Grounds.{ground-says, ground-only, same-collision}
 
 -- ---- no two answers say the same
 
@@ -121,3 +124,32 @@ module _ (st orb : List Float) (move : Point) (tol : Float) (x : Explanation) (k
           → x .tally .others ≡ tally (λ i. not (eqb i j) && hitAt st orb move tol (λ q. eq q d) i) (scans st orb)
       go true h = absurd (let z : _≡_ {A = ℕ} 0 1 = cc (answer-short h, e) in omega arith)
       go false h = others-told e h ∙ others-other st orb move tol d k s o j b
+
+  -- a hit is told with ground 0, and with no other
+  hit-by : (c : Collision) → Told st orb move tol c → {d : Float} {k s o : ℕ} → c ≡ collision-is.Hit d k s o → Says st orb move tol Hit
+  unfolding sweepOf
+  hit-by c (nothing q) e = absurd (let z : _≡_ {A = ℕ} 0 1 = cc in omega arith)
+  hit-by c (hit q n) e = (
+    long (lt (lengthOf move) tol) refl,
+    record { number = n .number; distance = _; meets = n .blocks .meets; does = rw (n .blocks .above, n .blocks .below) },
+  )
+    where
+      long : (short : Bool) → lt (lengthOf move) tol ≡ short → short ≡ false
+      long true h = absurd (q (inl h))
+      long false h = refl
+
+  pub hit-named : {d : Float} {k s o : ℕ} → x .tally .best ≡ collision-is.Hit d k s o → x .ground ≡ Hit
+  hit-named e = ground-only st orb move tol (x .ground) Hit answer-says (hit-by _ answer-told e)
+
+  none-by : (c : Collision) → Told st orb move tol c → c ≡ collision-is.Nothing → Says st orb move tol Hit → ⊥
+  unfolding sweepOf
+  none-by c (hit q n) e w = absurd (let z : _≡_ {A = ℕ} 0 1 = cc in omega arith)
+  none-by c (nothing q) e (long, s) =
+      let b = both _ _ (s .does) in
+      ⊎-elim
+      (λ short. no-bool (sym short ∙ long))
+      (λ free. free (s .number) (s .distance) (record { meets = s .meets; above = b .0; below = b .1 }))
+      q
+
+  pub nothing-named : x .tally .best ≡ collision-is.Nothing → x .ground ≡ Hit → ⊥
+  nothing-named e g = none-by _ answer-told e (subst (Says st orb move tol) g answer-says)
