@@ -1,1 +1,4 @@
 -- The modules that belong to no one function.
+pub mod Counts
+pub mod Scanned
+pub mod Others

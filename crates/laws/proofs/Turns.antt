@@ -51,3 +51,11 @@ module _ {S : Type 0} (step : S → ℕ → ℕ → S) where
       ∙ turns-ext (λ s k. step s o k) (λ s k. flatTurns n s (o * n + k)) (turns (flatTurns n) r (o * n)) n (λ s k l. rw (in-row n o k l .0, in-row n o k l .1))
       ∙ sym (turns-split (flatTurns n) r (o * n) n)
       ∙ ap (turns (flatTurns n) r) (sym (suc-mul o n))
+
+-- ---- counts
+
+-- none passes
+pub tally-none : (passes : ℕ → Bool) (n : ℕ) → ((k : ℕ) → k < n → passes k ≡ false) → tally passes n ≡ 0
+unfolding tally
+tally-none passes zero h = refl
+tally-none passes (suc n) h = rw (tally-none passes n (λ k l. h k (omega arith)), h n (omega arith))

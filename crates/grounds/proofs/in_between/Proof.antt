@@ -1,18 +1,12 @@
-use Prim.Native.Nat.{ℕ, _+_, _*_, _-_, _/_, _%_, _≤_, _<_}
-use mathlib.Core.Path.{_≡_, refl, sym, ap, _∙_}
-use native.Mathlib.Omega.{arith}
-use lib.ListN.{length, getD}
-use borrow.Author.Needs.{needs}
+-- `grounds::in_between` meets its contract: one comparison after the other. Assumes nothing.
 use Rattle.grounds.proofs.in_between.Statement.{statement}
 use Rattle.grounds.proofs.in_between.Tie as tie
-use Rattle.grounds.proofs.in_between.Reads as reads
-use Rattle.grounds.proofs.in_between.Lts as lts
 
 returns : tie.Need-returns
-returns c = ?
+returns c = rw (c .before .if1 .taken)
 
 returns-2 : tie.Need-returns-2
-returns-2 c = ?
+returns-2 c = rw (c .if1 .left)
 
 pub in-between-spec : {M : Type 1} → statement M
 in-between-spec = tie.close (tie.spec returns returns-2)

@@ -1,18 +1,12 @@
-use Prim.Native.Nat.{ℕ, _+_, _*_, _-_, _/_, _%_, _≤_, _<_}
-use mathlib.Core.Path.{_≡_, refl, sym, ap, _∙_}
-use native.Mathlib.Omega.{arith}
-use lib.ListN.{length, getD}
-use borrow.Author.Needs.{needs}
+-- `grounds::too_far` meets its contract: one comparison after the other. Assumes nothing.
 use Rattle.grounds.proofs.too_far.Statement.{statement}
 use Rattle.grounds.proofs.too_far.Tie as tie
-use Rattle.grounds.proofs.too_far.Reads as reads
-use Rattle.grounds.proofs.too_far.Lts as lts
 
 returns : tie.Need-returns
-returns c = ?
+returns c = rw (c .if1 .taken)
 
 returns-2 : tie.Need-returns-2
-returns-2 c = ?
+returns-2 c = rw (c .before .if1 .left)
 
 pub too-far-spec : {M : Type 1} → statement M
 too-far-spec = tie.close (tie.spec returns returns-2)
