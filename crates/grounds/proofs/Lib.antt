@@ -2,3 +2,4 @@
 pub mod Counts
 pub mod Scanned
 pub mod Others
+pub mod Explained
