@@ -1,5 +1,5 @@
--- Squares that are far apart tell which of a root and a tolerance is the larger. In units of the smallest value, a root that is not below the tolerance is that of
--- a quarter of the tolerance's square at least, and one that is not above it that of four times the square at most; rounding keeps both orders. Assumes nothing.
+-- A vector whose square is far above a tolerance's is longer than the tolerance. In units of the smallest value, a root that is not above the tolerance is that of
+-- four times the tolerance's square at most, and rounding keeps that order. Assumes nothing.
 use Prim.Native.Nat.{ℕ, _+_, _-_, _*_, _/_, _%_, _^_, _≤_, _<_}
 use native.Mathlib.Omega.{arith}
 use native.Mathlib.Nat.{mul-le-mul, mul-le-mul-right, mul-pos}
@@ -9,10 +9,10 @@ use mathlib.Core.Bool.{Bool, true, false, true≢false}
 use lib.IntN.{ℤ, pos, negsuc}
 use lib.Dec.{T}
 use lib.Pow.{pow-pos}
-use lib.Ieee.{Float, nan, inf, fin, binary64, fits, round, ofBits, toBits, lt, le, add, mul}
+use lib.Ieee.{Float, nan, fin, binary64, fits, round, ofBits, toBits, lt, le, add, mul}
 use lib.Ieee.Fits.{add-fits, down-pos}
 use lib.Ieee.Order.{round-mono}
-use lib.Ieee.Positive.{positive, above, positive-of-value, mul-at}
+use lib.Ieee.Positive.{positive, mul-at}
 use lib.Ieee.Scale.{round-same}
 use borrow.Author.Tests.{ltb-false}
 use Rattle.laws.proofs.Order.{lt-infinity, lt-of-infinity, lt-nan, not-less}
@@ -20,17 +20,13 @@ use Rattle.laws.proofs.Plain.{squares-not-below}
 use Rattle.square_root.specs.Root.{sqrtOf}
 use Rattle.square_root.specs.Nearest.{val, Nearest}
 use Rattle.square_root.proofs.Values.{val-low, val-high, val-at, val-mono, val-le-back, val-pos}
-use Rattle.square_root.proofs.Compare.{lt-units, number-or-infinite, above-zero, sqrt-zero, sqrt-infinity, zero-lt, kind, Kind, a-zero, a-number, infinite, nan-or-not-less}
+use Rattle.square_root.proofs.Compare.{lt-units, number-or-infinite, above-zero, sqrt-infinity, kind, Kind, a-zero, a-number, infinite, nan-or-not-less}
 use Rattle.square_root.proofs.Above.{bits-pos, value-is}
 use Rattle.square_root.proofs.Order.{root-is, nearest-value}
 use Rattle.square_root.proofs.Numbers.{lt-or-le}
 use Rattle.near.proofs.Below.{unit, not-below, square-not-below}
 
 -- ---- whole numbers
-
--- a root that is not below t is that of a quarter of t squared at least
-square-above : (n t c : ℕ) → (val (c - 1) + val c) * (val (c - 1) + val c) < 4 * n → t ≤ val c → t * t ≤ 4 * n
-square-above n t c low l = let s : t ≤ val (c - 1) + val c = omega arith in omega (arith, mul-le-mul s s, low)
 
 -- the next value is twice a value at most
 next-most : (b : ℕ) → 0 < b → val (b + 1) ≤ 2 * val b
@@ -61,23 +57,13 @@ square-under n c b h high l =
     omega (arith, mul-le-mul s s, high)
 
 -- both sides by the unit
-quarter-units : (n t u : ℕ) → t * t ≤ 4 * (n * u) → t * t * (u * 1) ≤ n * 4 * (u * u)
-quarter-units n t u h = let z = mul-le-mul-right u h in omega arith
-
 four-units : (n t u : ℕ) → n * u ≤ 4 * (t * t) → n * 1 * (u * u) ≤ t * t * (u * 4)
 four-units n t u h = let z = mul-le-mul-right u h in omega arith
 
--- ---- the two factors, as the code has them
-
-abbrev pub four : Float
-four = ofBits binary64 0x4010_0000_0000_0000
+-- ---- the factor, as the code has it
 
 abbrev pub quarter : Float
 quarter = ofBits binary64 0x3FD0_0000_0000_0000
-
-four-is : four ≡ fin false 1 (pos 2)
-unfolding ofBits
-four-is = refl
 
 quarter-is : quarter ≡ fin false 1 (negsuc 1)
 unfolding ofBits
@@ -101,20 +87,8 @@ module _ (tol s : Float) (G : T (fits binary64 tol)) (F : T (fits binary64 s)) (
   square-is : mul binary64 tol tol ≡ round binary64 false (t * t) (unit * unit)
   square-is = mul-at binary64 tol tol t unit t unit Q Q (pow-pos 1074) (pow-pos 1074) (value-is tol G Q) (value-is tol G Q)
 
-  four-times : mul binary64 s (fin false 1 (pos 2)) ≡ round binary64 false (n * 4) (unit * 1)
-  four-times = mul-at binary64 s (fin false 1 (pos 2)) n unit 4 1 P tt (pow-pos 1074) (omega arith) (value-is s F P) (refl, refl)
-
   a-quarter : mul binary64 s (fin false 1 (negsuc 1)) ≡ round binary64 false (n * 1) (unit * 4)
   a-quarter = mul-at binary64 s (fin false 1 (negsuc 1)) n unit 1 4 P tt (pow-pos 1074) (omega arith) (value-is s F P) (refl, refl)
-
-  not-under : lt r tol ≡ false → T (le (mul binary64 tol tol) (mul binary64 s (fin false 1 (pos 2))))
-  not-under k =
-      let e = lt-units r tol (val (N .bits)) t unit (pow-pos 1074) (nearest-value N) (value-is tol G Q) in
-      let h = square-above (n * unit) t (N .bits) (N .near .low) (ltb-false _ _ (sym e ∙ k)) in
-      subst (λ (x : Float). T (le x (mul binary64 s (fin false 1 (pos 2))))) (sym square-is)
-      (subst (λ (x : Float). T (le (round binary64 false (t * t) (unit * unit)) x)) (sym four-times)
-      (round-mono binary64 (t * t) (unit * unit) (n * 4) (unit * 1) (mul-pos (pow-pos 1074) (pow-pos 1074)) (mul-pos (pow-pos 1074) (pow-pos 0))
-      (quarter-units n t unit h)))
 
   not-over : lt tol r ≡ false → T (le (mul binary64 s (fin false 1 (negsuc 1))) (mul binary64 tol tol))
   not-over k =
@@ -125,29 +99,12 @@ module _ (tol s : Float) (G : T (fits binary64 tol)) (F : T (fits binary64 s)) (
       (round-mono binary64 (n * 1) (unit * 4) (t * t) (unit * unit) (mul-pos (pow-pos 1074) (pow-pos 2)) (mul-pos (pow-pos 1074) (pow-pos 1074))
       (four-units n t unit h)))
 
--- the root of a number is below the infinity
-root-finite : (s : Float) → T (fits binary64 s) → T (positive s) → lt (sqrtOf binary64 s) (inf false) ≡ true
-root-finite s F P =
-    let r = sqrtOf binary64 s in
-    let N = root-is s F r refl .nearest (val (toBits binary64 s)) (val-pos (bits-pos s F P)) (value-is s F P) in
-    lt-infinity r (positive-of-value r (val (N .bits)) unit (nearest-value N) (val-pos (N .some)))
-
 -- what would be the other way round, is not
 holds : (b : Bool) → (b ≡ false → ⊥) → b ≡ true
 holds true k = refl
 holds false k = absurd (k refl)
 
 -- ---- every kind of square
-
-module _ (tol : Float) (G : T (fits binary64 tol)) (A : T (above tol)) where
-  below-kind : {s : Float} → T (fits binary64 s) → Kind s → lt (mul binary64 s (fin false 1 (pos 2))) (mul binary64 tol tol) ≡ true → lt (sqrtOf binary64 s) tol ≡ true
-  below-kind F (a-zero b e) h = elim (number-or-infinite tol A) [ inl Q ↦ rw sqrt-zero (zero-lt b e tol Q) | inr i ↦ rw (i, sqrt-zero) (unfold lt in refl) ]
-  below-kind F infinite h = absurd (true≢false (sym h ∙ unfold mul in lt-of-infinity (mul binary64 tol tol)))
-  below-kind F (a-number {x = s} P) h =
-      elim (number-or-infinite tol A) [
-        | inl Q ↦ holds (lt (sqrtOf binary64 s) tol) (λ k. true≢false (sym h ∙ not-less (mul binary64 tol tol) (mul binary64 s (fin false 1 (pos 2))) (not-under tol s G F Q P k)))
-        | inr i ↦ rw i (root-finite s F P)
-      ]
 
 module _ (tol : Float) (G : T (fits binary64 tol)) (Q : T (positive tol)) where
   -- a quarter of a zero is a zero
@@ -175,14 +132,6 @@ module _ (tol a b : Float) (G : T (fits binary64 tol)) (low : lt (ofBits binary6
 
   F : T (fits binary64 square)
   F = add-fits binary64 (mul binary64 a a) (mul binary64 b b)
-
-  -- a vector is shorter than a tolerance whose square is above four times its own
-  pub far-below : lt (mul binary64 square four) (mul binary64 tol tol) ≡ true → lt (sqrtOf binary64 square) tol ≡ true
-  far-below h =
-      elim (nan-or-not-less square (squares-not-below a b)) [
-        | inl e ↦ absurd (true≢false (sym h ∙ rw (e, nan-times) (unfold lt in refl)))
-        | inr z ↦ below-kind tol G (above-zero tol low) F (kind false (pos 0) square z) (rw four-is at h)
-      ]
 
   -- a vector is longer than a tolerance whose square is below a quarter of its own
   pub far-above : lt (mul binary64 tol tol) (mul binary64 square quarter) ≡ true → lt tol (sqrtOf binary64 square) ≡ true

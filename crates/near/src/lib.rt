@@ -1,4 +1,4 @@
-// Whether a length is below a tolerance, or above it, with a root taken only where the squares are near to each other.
+// Whether a length is below a tolerance, or above it, without a root where the square is so far above the tolerance's that it tells.
 use plane::Point;
 use plane::segment::along;
 use plane::segment::project_point_to_segment;
@@ -18,9 +18,6 @@ pub fn is_shorter(v: Point, tol: f64) -> bool
     if tol > 0.0 {
         if s > tol * tol {
             return false;
-        }
-        if s * 4.0 < tol * tol {
-            return true;
         }
     }
     sqrt(s) < tol
