@@ -1,7 +1,8 @@
 //! The machine's square root against whole numbers: over every such record of
-//! the replay list.
+//! the replay list, and over seeded ones.
 
-use oracle::replay::scalars::{records, SQRT};
+use oracle::replay::scalars::{records, seeded_root, SQRT};
+use oracle::seeded::Seeded;
 
 /// The whole part of the square root.
 fn whole_root(n: u128) -> u128 {
@@ -31,19 +32,27 @@ fn root_bits(bits: u64) -> u64 {
     ((biased as u64 - 1) << 52) + digits.div_ceil(2)
 }
 
+/// Asserts that a record holds the nearest float to the root.
+fn holds(record: &[u64]) {
+    let (x, root) = (f64::from_bits(record[1]), record[4]);
+    if x.is_finite() && x > 0.0 {
+        assert_eq!(root, root_bits(record[1]), "root of {x:e}");
+    } else if x.is_nan() || x < 0.0 {
+        assert_eq!(root, 0x7ff8_0000_0000_0000);
+    } else {
+        assert_eq!(root, record[1]);
+    }
+}
+
 #[test]
 fn the_root_is_the_nearest_float() {
-    let mut tried = 0;
-    for record in records().into_iter().filter(|record| record[0] == SQRT) {
-        let (x, root) = (f64::from_bits(record[1]), record[4]);
-        if x.is_finite() && x > 0.0 {
-            assert_eq!(root, root_bits(record[1]), "root of {x:e}");
-        } else if x.is_nan() || x < 0.0 {
-            assert_eq!(root, 0x7ff8_0000_0000_0000);
-        } else {
-            assert_eq!(root, record[1]);
-        }
-        tried += 1;
-    }
-    assert!(tried >= 2_400);
+    let stored: Vec<_> = records().into_iter().filter(|record| record[0] == SQRT).collect();
+    assert!(stored.len() >= 2_400);
+    stored.iter().for_each(|record| holds(record));
+}
+
+#[test]
+fn seeded_roots_are_the_nearest_floats() {
+    let seeded = &mut Seeded::new(5);
+    (0..100_000).for_each(|_| holds(&seeded_root(seeded)));
 }

@@ -14,9 +14,9 @@ use lib.Ieee.{Float, nan, inf, fin, Format, prec, emax, low, up, down, binary64,
 use lib.Ieee.Fits.{add-fits}
 use lib.Ieee.Exact.{HasValue, round-exact}
 use lib.Ieee.Order.{le-of-values, round-mono}
-use lib.Ieee.Positive.{positive, above-of-le, positive-of-value, le-trans-positive, le→cross, mul-at}
+use lib.Ieee.Positive.{positive, above-of-le, positive-of-value, le-trans-positive, mul-at}
 use borrow.Author.Tests.{ltb-true, le-ltb}
-use Rattle.laws.proofs.Order.{le-of-lt, lt-infinity, lt-of-infinity}
+use Rattle.laws.proofs.Order.{le-of-lt, lt-infinity, lt-of-infinity, not-less}
 use Rattle.laws.proofs.Plain.{squares-not-below}
 use Rattle.square_root.specs.Root.{sqrtOf}
 use Rattle.square_root.specs.Nearest.{val}
@@ -58,20 +58,6 @@ own-round b h = elim (lt-or-le b (2 ^ 52)) [
       subst (λ (x : ℕ). HasValue (round binary64 false x unit) false x unit) e
       (own binary64 (b % 2 ^ 52 + 2 ^ 52) (b / 2 ^ 52 - 1) (omega arith) (rw e (most b h))))
 ]
-
--- what is not below x, which is above zero, is not less
-not-less : (x z : Float) → T (positive x) → T (le x z) → lt z x ≡ false
-unfolding lt
-not-less x z P h = elim (number-or-infinite z (above-of-le x z P h)) [ inl Q ↦ by x z P Q h | inr e ↦ rw e (lt-of-infinity x) ]
-  where
-    by : (x z : Float) → T (positive x) → T (positive z) → T (le x z) → lt z x ≡ false
-    by nan z P Q h = absurd P
-    by (inf s) z P Q h = absurd P
-    by (fin true m e) z P Q h = absurd P
-    by (fin false m e) nan P Q h = absurd Q
-    by (fin false m e) (inf s) P Q h = absurd Q
-    by (fin false m e) (fin true k d) P Q h = absurd Q
-    by (fin false m e) (fin false k d) P Q h = le-ltb (k * up d * down e) (m * up e * down d) (le→cross (fin false m e) (fin false k d) P Q h)
 
 module _ (tol s : Float) (G : T (fits binary64 tol)) (F : T (fits binary64 s)) (Q : T (positive tol)) (P : T (positive s)) where
   abbrev t : ℕ
@@ -115,10 +101,10 @@ module _ (tol s : Float) (G : T (fits binary64 tol)) (F : T (fits binary64 s)) (
       let r = sqrtOf binary64 s in
       let N = root-is s F r refl .nearest n (val-pos (bits-pos s F P)) (value-is s F P) in
       let l = sym (lt-units r tol (val (N .bits)) t unit (pow-pos 1074) (nearest-value N) (value-is tol G Q)) ∙ h in
-      not-less s (mul binary64 tol tol) P (in-order (square-below (n * unit) t (N .bits) (toBits binary64 tol) (N .near .high) refl (ltb-true _ _ l)))
+      not-less s (mul binary64 tol tol) (in-order (square-below (n * unit) t (N .bits) (toBits binary64 tol) (N .near .high) refl (ltb-true _ _ l)))
 
 -- what is not below zero is not less than a zero
-not-below : (b : Bool) (e : ℤ) {x : Float} → Kind x → lt x (fin b 0 e) ≡ false
+pub not-below : (b : Bool) (e : ℤ) {x : Float} → Kind x → lt x (fin b 0 e) ≡ false
 unfolding lt
 not-below false e (a-zero false d) = le-ltb (0 * up d * down e) (0 * up e * down d) (omega arith)
 not-below true e (a-zero false d) = refl
@@ -136,7 +122,7 @@ not-below b e (a-number {x = x} P) = by x P b
 
 module _ (tol : Float) (G : T (fits binary64 tol)) (Q : T (positive tol)) where
   -- the square of a tolerance is not below zero
-  square-not-below : T (le (fin false 0 (pos 0)) (mul binary64 tol tol))
+  pub square-not-below : T (le (fin false 0 (pos 0)) (mul binary64 tol tol))
   square-not-below =
       let t = val (toBits binary64 tol) in
       subst (λ (x : Float). T (le (fin false 0 (pos 0)) x))

@@ -1,4 +1,4 @@
-// Whether a length is below a tolerance, with a root taken only where the square is not above the tolerance's.
+// Whether a length is below a tolerance, or above it, without a root where the square is so far above the tolerance's that it tells.
 use plane::Point;
 use plane::segment::along;
 use plane::segment::project_point_to_segment;
@@ -23,11 +23,31 @@ pub fn is_shorter(v: Point, tol: f64) -> bool
     sqrt(s) < tol
 }
 
+// Whether a vector is longer than tol.
+pub fn is_longer(v: Point, tol: f64) -> bool
+    ensures { λ r. ⌜ r ≡ lt tol (lengthOf v) ⌝ }
+{
+    let s = dot(v, v);
+    if tol > 0.0 {
+        if s * 0.25 > tol * tol {
+            return true;
+        }
+    }
+    sqrt(s) > tol
+}
+
 // Whether two points are nearer to each other than tol.
 pub fn is_near(a: Point, b: Point, tol: f64) -> bool
     ensures { λ r. ⌜ r ≡ lt (distanceOf a b) tol ⌝ }
 {
     is_shorter(minus(b, a), tol)
+}
+
+// Whether two points are farther from each other than tol.
+pub fn is_far(a: Point, b: Point, tol: f64) -> bool
+    ensures { λ r. ⌜ r ≡ lt tol (distanceOf a b) ⌝ }
+{
+    is_longer(minus(b, a), tol)
 }
 
 // Whether a point is nearer to a segment than tol.

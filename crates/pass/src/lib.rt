@@ -6,8 +6,8 @@ use choose::Choice;
 use choose::choose;
 use contacts::has_contact;
 use interlocking::detect_interlocking_opportunity;
+use near::is_far;
 use plane::Point;
-use plane::vector::distance;
 use recovery::recover_contact;
 use refusals::answer::Found;
 use ring::moving::move_ring;
@@ -70,7 +70,7 @@ fn unstick(stationary: &[f64], orbiting: &[f64], margins: Margins, pose: Pose) -
         match detect_interlocking_opportunity(stationary, orbiting, from, tol) {
             Found::Nothing => Step::Stop(stop::NO_VECTOR),
             Found::At(position) => {
-                if distance(position, from) > margins.smallest {
+                if is_far(position, from, margins.smallest) {
                     Step::Store(Pose {
                         position,
                         previous,

@@ -5,9 +5,9 @@ use crate::Step;
 use crate::stop;
 use collision::Collision;
 use collision::check_translation_collision;
+use near::is_far;
 use near::is_near;
 use plane::Point;
-use plane::vector::distance;
 use plane::vector::plus;
 use scalar::larger;
 use scalar::smaller;
@@ -61,7 +61,7 @@ fn land(margins: Margins, start: Point, path: &[f64], pose: Pose, dir: Point, at
     if closes(path, at, start, margins.tolerance) {
         return Step::Stop(stop::CLOSED);
     }
-    if distance(at, pose.position) > margins.smallest {
+    if is_far(at, pose.position, margins.smallest) {
         Step::Store(Pose {
             position: at,
             previous: Previous::Direction(dir),

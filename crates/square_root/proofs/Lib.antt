@@ -6,7 +6,7 @@ pub mod Values
 pub mod Near
 pub mod Patterns
 pub mod Join
-pub mod Leading
+pub mod Pairs
 pub mod Normal
 pub mod Compare
 pub mod Above

@@ -8,8 +8,6 @@ use native.Mathlib.Nat.{le-of-lt, lt-of-not-le, not-le-of-lt, lt-of-le-of-lt, mu
 use native.Mathlib.Nat.{mul-lt-mul-of-pos-right, mul-mul-mul-comm, mul-pos, pow-succ'}
 use lib.Dec.{T, ltb, ltb→lt, nltb→le}
 use lib.Pow.{pow-pos}
-use mir.Syntax.{w64}
-use mir.Val.{Fits}
 
 pub lt-or-le : (a b : ℕ) → (a < b) ⊎ (b ≤ a)
 lt-or-le a b = go (ltb a b) (ltb→lt a b) (nltb→le a b)
@@ -36,7 +34,3 @@ side-lt {r} {s} h = lt-of-not-le (λ (g : s ≤ r). not-le-of-lt h (mul-le-mul g
 pub square-lt : {r s : ℕ} → r < s → r * r < s * s
 square-lt {r} {s} h =
     lt-of-le-of-lt (mul-le-mul-left r (le-of-lt h)) (mul-lt-mul-of-pos-right h (lt-of-le-of-lt zero-le h))
-
--- a word holds the square of 28 digits
-pub square-fits : (g : ℕ) → g < 2 ^ 28 → Fits w64 (g * g)
-square-fits g h = let s : g * g < 2 ^ 28 * 2 ^ 28 = square-lt h in omega arith

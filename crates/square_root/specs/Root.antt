@@ -1,6 +1,8 @@
 -- The square root of a float, rounded to the nearest value of its format and at a tie to the even one, as IEEE 754
 -- has it. Definitions only.
 use Prim.Native.Nat.{ℕ, zero, suc, _+_, _-_, _*_, _/_, _^_, _≤_, _<_, compare}
+use mathlib.Core.Path.{_≡_}
+use mathlib.Core.Logic.{_⊎_}
 use mathlib.Core.Bool.{false, cond}
 use lib.Dec.{leb}
 use lib.Ieee.{Float, nan, inf, fin, Format, prec, low, up, down, size, nearest, units}
@@ -50,8 +52,18 @@ pub record Radicand (m t : ℕ) : Type 0 where
   pub least : 54 ≤ t
   pub most : t < 4000
 
--- a is the first half of the 54 digits of the root of m * 2 ^ 54: it is the whole part of m's root, and has 27 digits
-pub record Leading (m a : ℕ) : Type 0 where
-  pub root : WholeRoot m a
-  pub long : 2 ^ 26 ≤ a
-  pub short : a < 2 ^ 27
+-- what d at the place p take, added to q: ((q + d * p) ^ 2 - q ^ 2) / p
+abbrev pub takes : (q p d : ℕ) → ℕ
+takes q p d = 2 * d * q + d * d * p
+
+-- q' is q with the largest d at the place p that takes no more than r, and t is what it takes
+pub record Pair (q r p q' t : ℕ) : Type 0 where
+  pub d : ℕ
+  pub root : q' ≡ q + d * p
+  pub taken : t ≡ takes q p d
+  pub held : t ≤ r
+  pub largest : r < takes q p (d + 1)
+
+-- of two steps, each a root and what it takes, the second where that is left, and else the first
+abbrev pub Further : (q t r q' t' next took : ℕ) → Type 0
+Further q t r q' t' next took = ((t' ≤ r) × (next ≡ q') × (took ≡ t')) ⊎ ((r < t') × (next ≡ q) × (took ≡ t))

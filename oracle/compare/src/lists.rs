@@ -2,7 +2,7 @@
 
 mod book;
 mod rings;
-mod scalars;
+pub mod scalars;
 mod sliding;
 mod traces;
 mod wkb;

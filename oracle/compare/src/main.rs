@@ -1,14 +1,16 @@
 //! Compares the static library with the oracle: `compare COUNT SEED` makes every
-//! call of the stored replay lists, and COUNT seeded ones besides, through both.
+//! call of the stored replay lists, and COUNT seeded ones besides, through both;
+//! and a million seeded roots, whatever COUNT is.
 //! The table counts cases by call, refusal, stop reason and ground; it ends in how
 //! many agree. The status is 1 unless all do, every exported call was made, and
 //! explanations of every ground, with hits of both kinds and dozens of other pairs
 //! at one distance, were among them.
 
-use compare::lists::LISTS;
+use compare::lists::{scalars, LISTS};
 use compare::tally::{Compared, Tally};
 use compare::{ffi, hold_interface, ABI_VERSION};
 use oracle::replay::list;
+use oracle::replay::scalars::seeded_root;
 use oracle::seeded::Seeded;
 use std::collections::BTreeSet;
 use std::process::ExitCode;
@@ -22,6 +24,9 @@ fn missing(tally: &Tally) -> BTreeSet<&'static str> {
     let is_name = |name: &&str| name.chars().all(|c| c.is_ascii_alphanumeric() || c == '_');
     names.filter(is_name).filter(|name| !tally.has(name)).collect()
 }
+
+/// How many roots are compared besides.
+const ROOTS: u64 = 1_000_000;
 
 /// Compares the stored records of each list, and its share of so many seeded ones.
 fn run(count: u64, seed: u64) -> Tally {
@@ -41,6 +46,11 @@ fn run(count: u64, seed: u64) -> Tally {
             let origin = || format!("{}, seed {seed}, record {place}", checked.name);
             tally.add((checked.check)(&record), origin);
         }
+    }
+    let seeded = &mut Seeded::new(seed);
+    for place in 0..ROOTS {
+        let record = seeded_root(seeded);
+        tally.add(scalars::check(&record), || format!("seed {seed}, root {place}: {record:x?}"));
     }
     tally
 }

@@ -114,15 +114,20 @@ fn midpoint_neighbours(seeded: &mut Seeded) -> Vec<u64> {
     found
 }
 
+/// The square of a seeded midpoint, rounded down.
+fn midpoint_square(seeded: &mut Seeded) -> u64 {
+    let m = (u128::from(seeded.bits()) >> 11 | 1 << 52) * 2 + 1;
+    let square = m * m;
+    let s = 128 - square.leading_zeros() - 53;
+    let biased = 2 * seeded.below(1000) as u64 + u64::from(s % 2) + 21;
+    (biased << 52) + ((square >> s) as u64 - (1 << 52))
+}
+
 /// Squares of midpoints, rounded down, and the next number up.
 fn midpoint_squares(seeded: &mut Seeded) -> Vec<u64> {
     let mut found = Vec::new();
     for _ in 0..120 {
-        let m = (u128::from(seeded.bits()) >> 11 | 1 << 52) * 2 + 1;
-        let square = m * m;
-        let s = 128 - square.leading_zeros() - 53;
-        let biased = 2 * seeded.below(1000) as u64 + u64::from(s % 2) + 21;
-        let x = (biased << 52) + ((square >> s) as u64 - (1 << 52));
+        let x = midpoint_square(seeded);
         found.extend([x, x + 1]);
     }
     found
@@ -253,6 +258,29 @@ fn operand(seeded: &mut Seeded) -> u64 {
         9 => (seeded.bits() >> 12 >> seeded.below(52)) + 1,
         _ => seeded.bits(),
     }
+}
+
+/// The record of a seeded root: of a power of two, a subnormal number, a whole
+/// square, the square of a float or of a midpoint, or a number beside one of these,
+/// and of any bits at all.
+pub fn seeded_root(seeded: &mut Seeded) -> Vec<u64> {
+    let x = match seeded.below(8) {
+        0 => power(seeded.below(2098) as i32 - 1074),
+        1 => (seeded.bits() >> 12 >> seeded.below(52)) + 1,
+        2 => {
+            let whole = (seeded.bits() >> 38 >> seeded.below(26)) + 1;
+            ((whole * whole) as f64).to_bits()
+        }
+        3 => {
+            let root = positive(seeded, -536, 511);
+            (root * root).to_bits()
+        }
+        4 => midpoint_square(seeded),
+        5 => seeded.bits(),
+        _ => seeded.bits() >> 1,
+    };
+    let beside = [x, x.saturating_sub(1), x.saturating_add(1)];
+    record((SQRT, [seeded.pick(&beside), 0, 0]))
 }
 
 /// Operands, of which a later one is at times the first, its negative, or the

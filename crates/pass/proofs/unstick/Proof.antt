@@ -16,11 +16,11 @@ enum-told c = search needs
 enum-known-position : tie.Need-enum-known-position
 enum-known-position c = search needs
 
-distance-requires : tie.Need-distance-requires
-distance-requires c κs = search needs
+is-far-requires : tie.Need-is-far-requires
+is-far-requires c κs = search needs
 
-add-t17 : tie.Need-add-t17
-add-t17 c = omega (arith, c .before .before .before .before .before .before .before .before .if1 .taken)
+add-t16 : tie.Need-add-t16
+add-t16 c = omega (arith, c .before .before .before .before .before .before .before .if1 .taken)
 
 returns : tie.Need-returns
 unfolding unstickOf interlocked
@@ -31,16 +31,16 @@ returns c =
 returns-2 : tie.Need-returns-2
 unfolding unstickOf interlocked
 returns-2 c =
-    let p = c .before .before .before .before in
+    let p = c .before .before .before in
     let d = p .before .before in
-    rw (few _ (d .before .before .if1 .taken), ← d .detect-interlocking-opportunity .ensures, p .position .given .1, ← c .before .before .distance .ensures, c .if2 .taken) refl
+    rw (few _ (d .before .before .if1 .taken), ← d .detect-interlocking-opportunity .ensures, p .position .given .1, ← c .before .is-far .ensures, c .if2 .taken) refl
 
 returns-3 : tie.Need-returns-3
 unfolding unstickOf interlocked
 returns-3 c =
-    let p = c .before .before .before .before in
+    let p = c .before .before .before in
     let d = p .before .before in
-    rw (few _ (d .before .before .if1 .taken), ← d .detect-interlocking-opportunity .ensures, p .position .given .1, ← c .before .before .distance .ensures, c .if2 .left) refl
+    rw (few _ (d .before .before .if1 .taken), ← d .detect-interlocking-opportunity .ensures, p .position .given .1, ← c .before .is-far .ensures, c .if2 .left) refl
 
 returns-4 : tie.Need-returns-4
 unfolding unstickOf
@@ -53,8 +53,8 @@ unstick-spec =
     detect-interlocking-opportunity-requires
     enum-told
     enum-known-position
-    distance-requires
-    add-t17
+    is-far-requires
+    add-t16
     returns
     returns-2
     returns-3

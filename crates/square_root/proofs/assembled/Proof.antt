@@ -1,10 +1,11 @@
 -- `square_root::assembled` meets its contract. The digits are those of the root of m * 2 ^ (t % 2), and
 -- `proofs/Join.antt` says what they make. Assumes nothing.
 use mathlib.Core.Path.{_≡_}
-use Prim.Native.Nat.{ℕ, zero, suc, _*_, _%_, _^_, _≤_, _<_}
+use Prim.Native.Nat.{ℕ, zero, suc, _+_, _-_, _*_, _/_, _%_, _^_, _≤_, _<_}
 use native.Mathlib.Omega.{arith}
+use lib.Bits.{bitAnd, and-mask}
 use borrow.Author.Needs.{needs}
-use Rattle.square_root.proofs.Join.{Joined, joined}
+use Rattle.square_root.proofs.Join.{Pattern, Joined, joined}
 use Rattle.square_root.proofs.assembled.Statement.{statement}
 use Rattle.square_root.proofs.assembled.Tie as tie
 
@@ -19,28 +20,33 @@ shifted m zero lo hi b = record { is = omega arith; long = omega arith; short = 
 shifted m (suc zero) lo hi b = record { is = omega arith; long = omega arith; short = omega arith }
 shifted m (suc (suc d)) lo hi b = absurd (omega arith)
 
+-- the mask is t's last digit
 form : (c : tie.Start) →
     let m = c .args .m in
     let d = c .args .t % 2 in
-    Shifted m d (m * 2 ^ d % 2 ^ 64)
-form c = shifted _ _ (c .pre .long) (c .pre .short) (omega arith)
+    Shifted m d (m * 2 ^ bitAnd (c .args .t) 1 % 2 ^ 64)
+form c = rw (and-mask (c .args .t) 1) (shifted _ _ (c .pre .long) (c .pre .short) (omega arith))
 
-digits-joined : (c : tie.After-whole-root) → Joined (c .before .args .m) (c .before .args .t) (c .whole-root .result)
+digits-joined : (c : tie.After-digits) → Joined (c .before .args .m) (c .before .args .t) (c .digits .result)
 digits-joined c =
     let s = c .before in
-    joined _ (s .args .t) _ (s .pre) (rw (form s .is) at (c .whole-root .ensures))
+    joined _ (s .args .t) _ (s .pre) (rw (form s .is) at (c .digits .ensures))
 
-shl-whole-root : tie.Need-shl-whole-root
-shl-whole-root c = search needs
+-- the exponent is not shifted out
+placed : (n r t : ℕ) → t < 4000 → Pattern n ((t / 2 - 26) * 2 ^ 52 + (r + 1) / 2)
+    → Pattern n ((t / 2 - 26) * 2 ^ 52 % 2 ^ 64 + (r + 1) / 2)
+placed n r t h p =
+    let e : (t / 2 - 26) * 2 ^ 52 % 2 ^ 64 ≡ (t / 2 - 26) * 2 ^ 52 = omega arith in
+    rw e p
 
-whole-root-requires : tie.Need-whole-root-requires
-whole-root-requires c κs = (form c .long, form c .short)
+shl-digits : tie.Need-shl-digits
+shl-digits c = omega (arith, and-mask (c .args .t) 1)
+
+digits-requires : tie.Need-digits-requires
+digits-requires c κs = form c .short
 
 sub-result : tie.Need-sub-result
 sub-result c = search needs
-
-mul-result : tie.Need-mul-result
-mul-result c = search needs
 
 add-result : tie.Need-add-result
 add-result c = omega (arith, digits-joined c .1)
@@ -49,9 +55,12 @@ add-result-2 : tie.Need-add-result-2
 add-result-2 c = search needs
 
 returns : tie.Need-returns
-returns c = let p = digits-joined c .0 in (p .is, p .finite)
+returns c =
+    let s = c .before in
+    let p = placed _ _ (s .args .t) (s .pre .most) (digits-joined c .0) in
+    (p .is, p .finite)
 
 pub assembled-spec : {M : Type 1} → statement M
 assembled-spec =
     tie.close
-    (tie.spec shl-whole-root whole-root-requires sub-result mul-result add-result add-result-2 returns)
+    (tie.spec shl-digits digits-requires sub-result add-result add-result-2 returns)

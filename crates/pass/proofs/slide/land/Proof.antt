@@ -12,20 +12,20 @@ returns : tie.Need-returns
 unfolding landOf
 returns c = rw (← c .before .closes .ensures, c .if1 .taken) refl
 
-distance-requires : tie.Need-distance-requires
-distance-requires c κs = search needs
+is-far-requires : tie.Need-is-far-requires
+is-far-requires c κs = search needs
 
 returns-2 : tie.Need-returns-2
 unfolding landOf
 returns-2 c =
-    let e = c .before .before .before in
-    rw (← e .before .closes .ensures, e .if1 .left, ← c .before .before .distance .ensures, c .if2 .taken) refl
+    let e = c .before .before in
+    rw (← e .before .closes .ensures, e .if1 .left, ← c .before .is-far .ensures, c .if2 .taken) refl
 
 returns-3 : tie.Need-returns-3
 unfolding landOf
 returns-3 c =
-    let e = c .before .before .before in
-    rw (← e .before .closes .ensures, e .if1 .left, ← c .before .before .distance .ensures, c .if2 .left) refl
+    let e = c .before .before in
+    rw (← e .before .closes .ensures, e .if1 .left, ← c .before .is-far .ensures, c .if2 .left) refl
 
 pub land-spec : {M : Type 1} → statement M
-land-spec = tie.close (tie.spec closes-requires returns distance-requires returns-2 returns-3)
+land-spec = tie.close (tie.spec closes-requires returns is-far-requires returns-2 returns-3)
