@@ -605,6 +605,113 @@ static void collision(void) {
     CHECK(h.found == 0 && h.place == HELD_COUNT);
 }
 
+/* The answers of a collision and its ground. */
+struct account {
+    uint32_t ground;
+    double distance;
+    uint32_t kind;
+    uint64_t stationary;
+    uint64_t orbiting;
+    uint64_t others;
+    uint64_t near;
+    uint64_t between;
+    uint64_t far;
+    uint64_t place;
+};
+
+/* What the five cells that a hit alone writes hold where there is none. */
+#define NO_HIT HELD, HELD_WORD, HELD_COUNT, HELD_COUNT, HELD_COUNT
+
+static const struct account HELD_ACCOUNT = {HELD_WORD,  NO_HIT,     HELD_COUNT,
+                                            HELD_COUNT, HELD_COUNT, HELD_COUNT};
+
+static uint32_t explained(struct account *x, const double *a, size_t an, const double *b, size_t bn, double dx,
+                          double dy, double tolerance) {
+    *x = HELD_ACCOUNT;
+    return byr_explain_collision(a, an, b, bn, dx, dy, tolerance, &x->ground, &x->distance, &x->kind,
+                                 &x->stationary, &x->orbiting, &x->others, &x->near, &x->between, &x->far,
+                                 &x->place);
+}
+
+/* Whether two accounts are the same. */
+static int same_account(const struct account *x, const struct account *y) {
+    return x->ground == y->ground && same(x->distance, y->distance) && x->kind == y->kind &&
+           x->stationary == y->stationary && x->orbiting == y->orbiting && x->others == y->others &&
+           x->near == y->near && x->between == y->between && x->far == y->far && x->place == y->place;
+}
+
+static uint32_t lend_explanation(const double *a, size_t an, const double *b, size_t bn, uint64_t *place) {
+    struct account x;
+    uint32_t number = explained(&x, a, an, b, bn, 1, 0, 0);
+
+    *place = x.place;
+    x.place = HELD_COUNT;
+    CHECK(same_account(&x, &HELD_ACCOUNT));
+    return number;
+}
+
+/* On the right of S a square that touches it and two that stand 2 and 0.75 off it; on
+ * the left of Q one that is taller. */
+static const double Q_TOUCHING[8] = {4, 0, 6, 0, 6, 2, 4, 2};
+static const double S_BESIDE[8] = {6, 0, 10, 0, 10, 4, 6, 4};
+static const double Q_CLOSE[8] = {4.75, 1, 6.75, 1, 6.75, 3, 4.75, 3};
+static const double S_BEFORE_Q[8] = {-6, -1, -2, -1, -2, 3, -6, 3};
+
+/* Two squares, a move, and its account. */
+static const struct explained_move {
+    const double *a;
+    const double *b;
+    double dx;
+    double dy;
+    double tolerance;
+    struct account account;
+} EXPLAINED[] = {
+    /* Each ground of nothing. */
+    {S, Q_BESIDE, 0, 0, 1e-6, {BYR_GROUND_SHORT, NO_HIT, 0, 0, 0, HELD_COUNT}},
+    {S, Q_BESIDE, 0.75, 0, 1, {BYR_GROUND_SHORT, NO_HIT, 0, 0, 0, HELD_COUNT}},
+    {S, Q_BESIDE, -10, 0, 1e-6, {BYR_GROUND_NEVER, NO_HIT, 0, 0, 0, HELD_COUNT}},
+    {S, Q_BESIDE, 0, 10, 1e-6, {BYR_GROUND_NEVER, NO_HIT, 0, 0, 0, HELD_COUNT}},
+    {S, Q_TOUCHING, 10, 0, 1e-6, {BYR_GROUND_NEAR, NO_HIT, 3, 0, 0, HELD_COUNT}},
+    {S, Q_BESIDE, 3, 0, 1e-6, {BYR_GROUND_FAR, NO_HIT, 0, 0, 8, HELD_COUNT}},
+    {S, Q_TOUCHING, -1, 0, 1e-6, {BYR_GROUND_BOTH_SIDES, NO_HIT, 3, 0, 9, HELD_COUNT}},
+    /* The limit is 0.5 and the tolerance 1: at 0.75 a hit is too near and too far, and counts as too near. */
+    {S, Q_CLOSE, -1.5, 0, 1, {BYR_GROUND_BOTH_SIDES, NO_HIT, 4, 0, 12, HELD_COUNT}},
+    /* At the limit of 0.75 a hit is too far, and at the tolerance of 0.75, which is the limit too, too near. */
+    {S, Q_CLOSE, -1, 0, 0.25, {BYR_GROUND_FAR, NO_HIT, 0, 0, 8, HELD_COUNT}},
+    {S, Q_CLOSE, -1.5, 0, 0.75, {BYR_GROUND_BOTH_SIDES, NO_HIT, 4, 0, 12, HELD_COUNT}},
+    /* A hit of each kind, with another pair of its kind at its distance; and with pairs of both kinds. */
+    {S, Q_BESIDE, 10, 0, 1e-6, {BYR_GROUND_HIT, 3, BYR_KIND_VERTEX_EDGE, 3, 1, 1, 0, 8, 0, HELD_COUNT}},
+    {Q, S_BEFORE_Q, 10, 0, 1e-6, {BYR_GROUND_HIT, 2, BYR_KIND_EDGE_VERTEX, 0, 1, 1, 0, 8, 0, HELD_COUNT}},
+    {S, S_BESIDE, -10, 0, 1e-6, {BYR_GROUND_HIT, 2, BYR_KIND_VERTEX_EDGE, 1, 0, 3, 0, 12, 4, HELD_COUNT}},
+};
+
+static void explanation(void) {
+    struct account x;
+    struct hit h;
+    size_t i;
+
+    begin("byr_explain_collision");
+    try_polygons(lend_explanation);
+    CHECK(explained(&x, S, 8, Q_BESIDE, 8, INFINITY, 0, 0) == BYR_REFUSED_NUMBER);
+    CHECK(same_account(&x, &HELD_ACCOUNT));
+    CHECK(explained(&x, S, 8, Q_BESIDE, 8, 10, NAN, 0) == BYR_REFUSED_NUMBER);
+    CHECK(same_account(&x, &HELD_ACCOUNT));
+    CHECK(explained(&x, S, 8, Q_BESIDE, 8, 10, 0, 0) == BYR_REFUSED_SETTING);
+    CHECK(same_account(&x, &HELD_ACCOUNT));
+    for (i = 0; i < sizeof EXPLAINED / sizeof *EXPLAINED; i++) {
+        const struct explained_move *move = &EXPLAINED[i];
+        row = i + 1;
+        CHECK(explained(&x, move->a, 8, move->b, 8, move->dx, move->dy, move->tolerance) == 0);
+        CHECK(same_account(&x, &move->account));
+        h = HELD_HIT;
+        CHECK(byr_check_translation_collision(move->a, 8, move->b, 8, move->dx, move->dy, move->tolerance, &h.found,
+                                              &h.distance, &h.kind, &h.stationary, &h.orbiting, &h.place) == 0);
+        CHECK(h.found == (x.ground == BYR_GROUND_HIT) && same(h.distance, x.distance) && h.kind == x.kind);
+        CHECK(h.stationary == x.stationary && h.orbiting == x.orbiting);
+    }
+    row = 0;
+}
+
 static uint32_t lend_interlocking(const double *a, size_t an, const double *b, size_t bn, uint64_t *place) {
     uint32_t found = HELD_WORD;
     double x = HELD;
@@ -1311,6 +1418,7 @@ int main(void) {
     perfect_fit();
     selection();
     collision();
+    explanation();
     interlocking();
     recovery();
     start_and_overlaps();

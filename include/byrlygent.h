@@ -103,6 +103,19 @@ enum {
     BYR_KIND_EDGE_EDGE = 2
 };
 
+/* Why byr_explain_collision answers what it does. A pair is a vertex of one polygon
+ * and an edge of the other, and is hit at a distance or never. A hit is too near if its
+ * distance is at most the tolerance; else too far if it is at least the move's length
+ * less the tolerance, as that difference is rounded; else between. */
+enum {
+    BYR_GROUND_HIT = 0,       /* a hit lies between: the move is not clear */
+    BYR_GROUND_SHORT = 1,     /* the move is shorter than the tolerance, and no pair is scanned */
+    BYR_GROUND_NEVER = 2,     /* no pair is ever hit */
+    BYR_GROUND_NEAR = 3,      /* there are hits, and all are too near */
+    BYR_GROUND_FAR = 4,       /* there are hits, and all are too far */
+    BYR_GROUND_BOTH_SIDES = 5 /* there are hits too near and too far, and none between */
+};
+
 /* ---- Scalars: every bit pattern is taken, and nothing refused. ---- */
 
 /* The same number without its sign. */
@@ -235,6 +248,17 @@ uint32_t byr_check_translation_collision(const double *stationary, size_t sn, co
                                          double dx, double dy, double tolerance, uint32_t *found,
                                          double *distance, uint32_t *kind, uint64_t *stationary_i,
                                          uint64_t *orbiting_i, uint64_t *place);
+
+/* The same answer and its ground, a BYR_GROUND_. With BYR_GROUND_HIT distance, kind
+ * and both indices are written as byr_check_translation_collision writes them, and
+ * others: how many other pairs, of either kind, are hit at that very distance. With
+ * grounds 1 to 5, which are those of nothing, these five are as they were. too_near,
+ * between and too_far, the pairs with such a hit, are written with every ground; all
+ * are 0 with BYR_GROUND_SHORT. Refusals: 1, 8, 9, 2, 3. */
+uint32_t byr_explain_collision(const double *stationary, size_t sn, const double *orbiting, size_t on, double dx,
+                               double dy, double tolerance, uint32_t *ground, double *distance, uint32_t *kind,
+                               uint64_t *stationary_i, uint64_t *orbiting_i, uint64_t *others,
+                               uint64_t *too_near, uint64_t *between, uint64_t *too_far, uint64_t *place);
 
 /* A position one tolerance nearer to a concave vertex, from (x,y), at which the
  * polygons do not overlap: found is 0 for none, else 1, and then (to_x,to_y).

@@ -5,15 +5,17 @@
 //! helpers that docs/SCOPE.md fixes, `repository` those of the repository's own
 //! text and of Rust's library, `swapped` the fixed ones with the two zeros in the
 //! other order. `calls` gives docs/SCOPE.md's answers over `fixed`; `book` is no
-//! text of theirs, but the outline book written down from docs/SCOPE.md, and
-//! `wkb` the well-known binary.
+//! text of theirs, but the outline book written down from docs/SCOPE.md, `wkb` the
+//! well-known binary, and `grounds` why a move is clear or not.
 
 #![allow(clippy::duplicate_mod)] // The text is compiled three times on purpose.
 
 pub mod answers;
 pub mod book;
 pub mod calls;
+pub mod explain;
 pub mod fixed;
+pub mod grounds;
 pub mod printer;
 pub mod refusals;
 pub mod replay;

@@ -72,7 +72,7 @@ impl Met {
             _ => [Some(POLYGON), Some(POLYGON), None],
         };
         let lent = [0, 1, 2].map(|i| (record[i + 1], bounds[i]));
-        Self::new(record, sliding::HEADER, &lent, [7, 13])
+        Self::new(record, sliding::HEADER, &lent, [7, sliding::PLACE_AT])
     }
 
     /// A record of the list `rings`.
@@ -149,7 +149,8 @@ fn pairs<T: Copy>(of: &[T]) -> Vec<Vec<T>> {
 /// ways that each can meet.
 fn calls_with_two_lists() -> Vec<(&'static str, u64, &'static [Way])> {
     let polygons: &[Way] = &[Fine, Odd, Short, Long];
-    let sliding = (0..=9).filter(|&call| call != sliding::SELECT && call != sliding::PERFECT_FIT);
+    let others = [sliding::SELECT, sliding::PERFECT_FIT, sliding::SIMPLIFY];
+    let sliding = (0..=sliding::EXPLAIN).filter(|call| !others.contains(call));
     let mut calls: Vec<_> = sliding.map(|call| ("sliding", call, polygons)).collect();
     calls.extend([("traces", 0, polygons), ("rings", rings::RING_DISTANCE, &[Fine, Odd, Long])]);
     calls
@@ -172,7 +173,7 @@ fn every_record_tells_its_first_wrong_list() {
 fn every_two_ways_are_met_by_every_call() {
     let records = ["rings", "sliding", "traces"].map(|name| (name, stored(name), long(name)));
     let calls = calls_with_two_lists();
-    assert_eq!(calls.len(), 10);
+    assert_eq!(calls.len(), 11);
     for (name, call, ways) in calls {
         let (_, stored, long) = records.iter().find(|list| list.0 == name).expect("its list");
         let met = all(stored, call, |record| record.ways.clone());
@@ -242,7 +243,8 @@ fn selections_are_met_of_no_to_seven_numbers() {
     let records = sliding::records();
     for n in 0..8 {
         let of = |r: &&Vec<u64>| r[0] == sliding::SELECT && r[3] == n;
-        let told: BTreeSet<_> = records.iter().filter(of).map(|r| (r[7], r[13])).collect();
+        let told: BTreeSet<_> =
+            records.iter().filter(of).map(|r| (r[7], r[sliding::PLACE_AT])).collect();
         assert!(told.into_iter().eq([(u64::from(n % 3 != 0), 0)]), "{n}");
     }
 }

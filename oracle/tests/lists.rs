@@ -110,7 +110,6 @@ fn sliding_records_keep_their_bounds() {
         assert!(a <= 600 && b <= 600 && list <= 20_100 && extra <= 8);
         assert!(one <= sliding::MOST_ROOM && two <= sliding::MOST_ROOM);
         assert_eq!(record.len(), sliding::HEADER + a + b + list + extra + 2 * (one + two));
-        assert_eq!(record[14..sliding::HEADER], [0; 2]);
     }
 }
 
@@ -198,7 +197,7 @@ fn each_sliding_call_is_refused_and_answers() {
             _ => &[0, 1, 2, 3, 8, 9],
         }
     };
-    for call in 0..=10 {
+    for call in 0..=11 {
         let of_call = met.iter().filter(|pair| pair.0 == call).map(|pair| &pair.1);
         assert!(of_call.eq(numbers(call)), "call {call}");
         let found = |some: bool| {
@@ -242,6 +241,59 @@ fn contacts_and_hits_are_of_every_kind() {
     }
     assert!(contacts.into_iter().eq([0, 1, 2]));
     assert!(hits.into_iter().eq([0, 1]));
+}
+
+/// What the explanations among these records reach: the grounds, the kinds of hits,
+/// and the most other pairs at a hit's distance.
+fn explained(records: &[Vec<u64>]) -> (BTreeSet<u64>, BTreeSet<u64>, u64) {
+    let (mut grounds, mut kinds, mut most) = (BTreeSet::new(), BTreeSet::new(), 0);
+    for record in records.iter().filter(|r| r[0] == sliding::EXPLAIN && r[7] == 0) {
+        let [ground, _, kind, _, _, others, near, between, far] =
+            record[sliding::VALUES_AT..sliding::PLACE_AT]
+        else {
+            unreachable!("nine values")
+        };
+        grounds.insert(ground);
+        if ground == 0 {
+            assert!(others < between);
+            kinds.insert(kind);
+            most = most.max(others);
+        } else {
+            assert!(between == 0 && others == 0);
+            assert_eq!((near > 0, far > 0), (matches!(ground, 3 | 5), matches!(ground, 4 | 5)));
+        }
+    }
+    (grounds, kinds, most)
+}
+
+#[test]
+fn explanations_reach_every_ground() {
+    for records in [sliding::records(), long("sliding", 20_000)] {
+        let (grounds, kinds, most) = explained(&records);
+        assert!(grounds.into_iter().eq(0..=5));
+        assert!(kinds.into_iter().eq([0, 1]));
+        assert!(most >= 60, "{most}");
+    }
+}
+
+/// Whether a record explains a move that is not shorter than the tolerance, and
+/// shorter than two of them.
+fn within_two_tolerances(record: &[u64]) -> bool {
+    let extra = sliding::HEADER + (record[1] + record[2] + record[3]) as usize;
+    let number = |place: usize| f64::from_bits(record[extra + place]);
+    record[0] == sliding::EXPLAIN && record[7] == 0 && {
+        let length = (number(0) * number(0) + number(1) * number(1)).sqrt();
+        number(2) <= length && length < 2.0 * number(2)
+    }
+}
+
+#[test]
+fn moves_within_two_tolerances_have_no_hit_and_every_other_ground() {
+    for records in [sliding::records(), long("sliding", 20_000)] {
+        let within = records.iter().filter(|record| within_two_tolerances(record));
+        let grounds: BTreeSet<_> = within.map(|record| record[sliding::VALUES_AT]).collect();
+        assert!(grounds.into_iter().eq(2..=5));
+    }
 }
 
 #[test]

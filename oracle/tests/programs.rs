@@ -27,6 +27,11 @@ fn slide_trace_is_as_written() {
 }
 
 #[test]
+fn explain_move_is_as_written() {
+    as_written("explain_move", &oracle::explain::PROGRAM);
+}
+
+#[test]
 fn ring_printer_is_as_written() {
     as_written("ring_printer", &oracle::printer::PROGRAM);
 }

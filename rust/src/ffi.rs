@@ -213,6 +213,25 @@ functions! {
         orbiting_i: *mut u64,
         place: *mut u64,
     ) -> u32;
+    fn byr_explain_collision(
+        stationary: *const f64,
+        sn: usize,
+        orbiting: *const f64,
+        on: usize,
+        dx: f64,
+        dy: f64,
+        tolerance: f64,
+        ground: *mut u32,
+        distance: *mut f64,
+        kind: *mut u32,
+        stationary_i: *mut u64,
+        orbiting_i: *mut u64,
+        others: *mut u64,
+        too_near: *mut u64,
+        between: *mut u64,
+        too_far: *mut u64,
+        place: *mut u64,
+    ) -> u32;
     fn byr_detect_interlocking_opportunity(
         stationary: *const f64,
         sn: usize,

@@ -6,6 +6,7 @@
 //! used, the reference position: the group's contacts are those found there.
 
 mod contacts;
+mod grounds;
 mod moves;
 mod segments;
 mod trace;
@@ -14,6 +15,7 @@ pub use contacts::{
     compute_translation_vectors, find_contacts, handle_perfect_fit, select_translation_vector,
     Contact, ContactType, TranslationVector,
 };
+pub use grounds::{explain_collision, Explanation, Ground};
 pub use moves::{
     check_translation_collision, detect_interlocking_opportunity, polygons_overlap,
     polygons_overlap_with_tolerance, recover_contact, CollisionEvent,

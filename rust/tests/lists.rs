@@ -31,7 +31,7 @@ fn many(list: List, has: usize, least: usize, most: usize) -> Option<Refusal> {
 }
 
 /// What the calls with a stationary and an orbiting polygon refuse these with.
-fn sliding(stationary: &[Point], orbiting: &[Point]) -> [Option<Refusal>; 8] {
+fn sliding(stationary: &[Point], orbiting: &[Point]) -> [Option<Refusal>; 9] {
     let (s, o, at) = (stationary, orbiting, NOWHERE);
     let none: [Point; 0] = [];
     [
@@ -39,6 +39,7 @@ fn sliding(stationary: &[Point], orbiting: &[Point]) -> [Option<Refusal>; 8] {
         nfp_sliding::compute_translation_vectors(s, o, TOLERANCE).err(),
         nfp_sliding::handle_perfect_fit(s, o, at, &none, TOLERANCE).err(),
         nfp_sliding::check_translation_collision(s, o, at, TOLERANCE).err(),
+        nfp_sliding::explain_collision(s, o, at, TOLERANCE).err(),
         nfp_sliding::detect_interlocking_opportunity(s, o, at, TOLERANCE).err(),
         nfp_sliding::recover_contact(s, o, at, TOLERANCE).err(),
         nfp_sliding::find_start_position(s, o).err(),
@@ -93,12 +94,12 @@ fn polygons_of_the_sliding_have_3_to_256_vertices() {
     let four = points(4);
     for has in [0, 1, 2] {
         let short = points(has);
-        assert_eq!(sliding(&short, &four), [few(List::Stationary, has as usize); 8]);
-        assert_eq!(sliding(&four, &short), [few(List::Orbiting, has as usize); 8]);
+        assert_eq!(sliding(&short, &four), [few(List::Stationary, has as usize); 9]);
+        assert_eq!(sliding(&four, &short), [few(List::Orbiting, has as usize); 9]);
     }
     let long = points(257);
-    assert_eq!(sliding(&long, &four), [many(List::Stationary, 257, 3, 256); 8]);
-    assert_eq!(sliding(&four, &long), [many(List::Orbiting, 257, 3, 256); 8]);
+    assert_eq!(sliding(&long, &four), [many(List::Stationary, 257, 3, 256); 9]);
+    assert_eq!(sliding(&four, &long), [many(List::Orbiting, 257, 3, 256); 9]);
     for (stationary, orbiting) in [(3, 256), (256, 3)] {
         let start = nfp_sliding::find_start_position(&points(stationary), &points(orbiting));
         assert!(start.is_ok());
@@ -171,10 +172,10 @@ fn place_0_of_a_book_is_the_book_or_its_first_ring() {
 
 #[test]
 fn the_first_list_speaks_and_all_of_them_before_any_number() {
-    assert_eq!(sliding(&points(257), &points(2)), [many(List::Stationary, 257, 3, 256); 8]);
-    assert_eq!(sliding(&points(2), &points(257)), [few(List::Stationary, 2); 8]);
-    assert_eq!(sliding(&wrong(4), &points(2)), [few(List::Orbiting, 2); 8]);
-    assert_eq!(sliding(&wrong(4), &points(4)), [Some(Refusal::Number); 8]);
+    assert_eq!(sliding(&points(257), &points(2)), [many(List::Stationary, 257, 3, 256); 9]);
+    assert_eq!(sliding(&points(2), &points(257)), [few(List::Stationary, 2); 9]);
+    assert_eq!(sliding(&wrong(4), &points(2)), [few(List::Orbiting, 2); 9]);
+    assert_eq!(sliding(&wrong(4), &points(4)), [Some(Refusal::Number); 9]);
     let (list, at) = (points(10_002), NOWHERE);
     let fit = |o: &[Point]| nfp_sliding::handle_perfect_fit(&wrong(4), o, at, &list, 0.0).err();
     assert_eq!(fit(&points(2)), few(List::Orbiting, 2));

@@ -1,7 +1,9 @@
 //! Compares the static library with the oracle: `compare COUNT SEED` makes every
 //! call of the stored replay lists, and COUNT seeded ones besides, through both.
-//! The table counts cases by call, refusal and stop reason; it ends in how many
-//! agree. The status is 1 unless all do and every exported call was made.
+//! The table counts cases by call, refusal, stop reason and ground; it ends in how
+//! many agree. The status is 1 unless all do, every exported call was made, and
+//! explanations of every ground, with hits of both kinds and dozens of other pairs
+//! at one distance, were among them.
 
 use compare::lists::LISTS;
 use compare::tally::{Compared, Tally};
@@ -61,8 +63,10 @@ fn main() -> ExitCode {
     println!("{tally}");
     let missing = missing(&tally);
     missing.iter().for_each(|name| println!("{name} was not compared"));
+    let unreached = tally.unreached();
+    unreached.iter().for_each(|told| println!("{told}"));
     let (cases, agree) = tally.totals();
-    if agree == cases && missing.is_empty() {
+    if agree == cases && missing.is_empty() && unreached.is_empty() {
         ExitCode::SUCCESS
     } else {
         ExitCode::FAILURE

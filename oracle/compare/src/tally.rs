@@ -13,12 +13,23 @@ pub struct Compared {
     pub number: u32,
     /// Why the trace stopped, where that is answered.
     pub stop: Option<u64>,
+    /// The ground of an explanation, where that is answered.
+    pub explained: Option<Explained>,
     /// What differs, if anything does.
     pub difference: Option<String>,
 }
 
+/// The ground of an explanation, and of a hit its kind and the other pairs at its
+/// distance.
+#[derive(Clone, Copy)]
+pub struct Explained {
+    pub ground: u64,
+    pub kind: u64,
+    pub others: u64,
+}
+
 impl Compared {
-    /// The comparison of a call that is no trace.
+    /// The comparison of a call that is no trace and no explanation.
     pub fn of<T: PartialEq + fmt::Debug>(
         call: &'static str,
         number: u64,
@@ -30,7 +41,7 @@ impl Compared {
             let [oracle, library] = [format!("{oracle:x?}"), format!("{library:x?}")];
             format!("{call}: the oracle has {oracle:.MOST$}, the library {library:.MOST$}")
         });
-        Self { call, number, stop: None, difference }
+        Self { call, number, stop: None, explained: None, difference }
     }
 }
 
@@ -38,6 +49,12 @@ impl Compared {
 const NUMBERS: usize = 11;
 /// How many stop reasons there are, from 1 on.
 const STOPS: usize = 5;
+/// How many grounds there are, from 0 on.
+const GROUNDS: usize = 6;
+/// How many kinds of hit there are.
+const KINDS: usize = 2;
+/// How many other pairs at a hit's distance a comparison must reach.
+const OTHERS: u64 = 24;
 /// How many differences are told in full.
 const TOLD: usize = 5;
 
@@ -48,11 +65,56 @@ struct Row {
     numbers: [u64; NUMBERS],
 }
 
+/// The counts of the explanations.
+#[derive(Default)]
+struct Explanations {
+    grounds: [u64; GROUNDS],
+    kinds: [u64; KINDS],
+    most_others: u64,
+}
+
+impl Explanations {
+    /// Counts an explanation.
+    fn add(&mut self, explained: Explained) {
+        self.grounds[explained.ground as usize] += 1;
+        if explained.ground == 0 {
+            self.kinds[explained.kind as usize] += 1;
+            self.most_others = self.most_others.max(explained.others);
+        }
+    }
+
+    /// What no explanation had, of what some must have.
+    fn unreached(&self) -> Vec<String> {
+        let none = |counts: &[u64], what: &str| -> Vec<String> {
+            let missing = (0..counts.len()).filter(|&place| counts[place] == 0);
+            missing.map(|place| format!("no explanation has {what} {place}")).collect()
+        };
+        let mut all = [none(&self.grounds, "ground"), none(&self.kinds, "a hit of kind")].concat();
+        if self.most_others < OTHERS {
+            all.push(format!("no hit has {OTHERS} other pairs at its distance"));
+        }
+        all
+    }
+}
+
+impl fmt::Display for Explanations {
+    fn fmt(&self, f: &mut fmt::Formatter<'_>) -> fmt::Result {
+        let Self { grounds, kinds, most_others } = self;
+        write!(f, "grounds of explanations:")?;
+        for (place, count) in grounds.iter().enumerate() {
+            write!(f, " {place}: {count}{}", if place + 1 < GROUNDS { "," } else { "\n" })?;
+        }
+        let [vertex_edge, edge_vertex] = kinds;
+        writeln!(f, "hits explained: kind 0: {vertex_edge}, kind 1: {edge_vertex}; others at most {most_others}")
+    }
+}
+
 /// The counts of all calls.
 #[derive(Default)]
 pub struct Tally {
     rows: Vec<Row>,
     stops: [u64; STOPS],
+    explanations: Explanations,
     differences: Vec<String>,
 }
 
@@ -67,6 +129,9 @@ impl Tally {
         self.rows[place].numbers[compared.number as usize] += 1;
         if let Some(stop) = compared.stop {
             self.stops[stop as usize - 1] += 1;
+        }
+        if let Some(explained) = compared.explained {
+            self.explanations.add(explained);
         }
         match compared.difference {
             None => self.rows[place].agree += 1,
@@ -91,6 +156,11 @@ impl Tally {
         (all.numbers.iter().sum(), all.agree)
     }
 
+    /// What no explanation had, of what some must have.
+    pub fn unreached(&self) -> Vec<String> {
+        self.explanations.unreached()
+    }
+
     /// Whether this call was compared.
     pub fn has(&self, call: &str) -> bool {
         self.rows.iter().any(|row| row.call == call)
@@ -111,6 +181,7 @@ impl fmt::Display for Tally {
         for (place, count) in self.stops.iter().enumerate() {
             write!(f, " {}: {count}{}", place + 1, if place + 1 < STOPS { "," } else { "\n" })?;
         }
+        write!(f, "{}", self.explanations)?;
         self.differences.iter().try_for_each(|told| writeln!(f, "DIFFERENCE {told}"))?;
         let (cases, agree) = self.totals();
         write!(f, "{} calls, {cases} cases, {agree} agree", self.rows.len())

@@ -76,7 +76,7 @@ pub fn bounds() -> Vec<Lengths<2>> {
     lengths().into_iter().filter(|pair| pair.of.contains(&FINE)).collect()
 }
 
-/// What is stored of the ways and of the bounds for one of nine calls: all that is
+/// What is stored of the ways and of the bounds for one of ten calls: all that is
 /// short, and of what is long this call's share.
 pub fn share(call: usize) -> Vec<Lengths<2>> {
     let of = |pairs: Vec<Lengths<2>>, calls: usize| {
@@ -84,5 +84,5 @@ pub fn share(call: usize) -> Vec<Lengths<2>> {
             |(i, pair): &(usize, Lengths<2>)| pair.is_short() || (i + call).is_multiple_of(calls);
         pairs.into_iter().enumerate().filter(taken).map(|(_, pair)| pair).collect::<Vec<_>>()
     };
-    [of(ways(), 3), of(bounds(), 9)].concat()
+    [of(ways(), 3), of(bounds(), 10)].concat()
 }

@@ -1,8 +1,8 @@
-//! The list `sliding`. A record is sixteen words of header: the call, the lengths
+//! The list `sliding`. A record is eighteen words of header: the call, the lengths
 //! of the stationary polygon, the orbiting polygon, the list, the extra numbers,
-//! room 1 and room 2, the refusal number, five values, the place that the refusal
-//! tells and two zeros; then the two polygons, the list, the extra numbers, both
-//! rooms at entry and both rooms at exit. Words are the bits of floats unless said
+//! room 1 and room 2, the refusal number, nine values and the place that the
+//! refusal tells; then the two polygons, the list, the extra numbers, both rooms at
+//! entry and both rooms at exit. Words are the bits of floats unless said
 //! otherwise; values are 0 where refused or not found, the place 0 where none is
 //! told.
 //!
@@ -19,8 +19,10 @@
 //! | 8 polygons_overlap_with_tolerance | b | | tolerance | | overlap |
 //! | 9 find_start_position | as drawn | | | | x, y |
 //! | 10 simplify_polygon | | list | tolerance | room | points |
+//! | 11 explain_collision | moved | | dx, dy, tolerance | | ground, distance, kind, stationary, orbiting, others, too near, between, too far |
 
 mod faults;
+mod grounds;
 mod lengths;
 mod lists;
 mod moves;
@@ -32,6 +34,7 @@ use super::{answer_bits, bits, float_room, once, refused, List};
 use crate::answers::Point;
 use crate::calls::{self, points_of};
 use crate::fixed::nfp_sliding as text;
+use crate::grounds::{explain_collision, Explanation};
 use crate::refusals::Answer;
 use crate::seeded::Seeded;
 
@@ -46,9 +49,10 @@ pub const OVERLAP: u64 = 7;
 pub const OVERLAP_WITH_TOLERANCE: u64 = 8;
 pub const START: u64 = 9;
 pub const SIMPLIFY: u64 = 10;
+pub const EXPLAIN: u64 = 11;
 
 /// The names of the calls, by their number.
-const NAMES: [&str; 11] = [
+const NAMES: [&str; 12] = [
     "find_contacts",
     "compute_translation_vectors",
     "handle_perfect_fit",
@@ -60,15 +64,24 @@ const NAMES: [&str; 11] = [
     "polygons_overlap_with_tolerance",
     "find_start_position",
     "simplify_polygon",
+    "explain_collision",
 ];
 
 /// Words of the header.
-pub const HEADER: usize = 16;
+pub const HEADER: usize = 18;
+/// Where the values begin in it, and how many there are.
+pub const VALUES_AT: usize = 8;
+pub const VALUES: usize = 9;
+/// Where the place stands in it.
+pub const PLACE_AT: usize = 17;
 /// Most words of a room in the list.
 pub const MOST_ROOM: usize = 4096;
 
 /// The list with both its forms.
 pub const LIST: List = List { stored: records, long, counted };
+
+/// The values of a record.
+type Values = [u64; VALUES];
 
 /// A call with what is lent to it, rooms and extra numbers as words.
 #[derive(Clone, Default)]
@@ -172,7 +185,7 @@ impl Case {
     }
 
     /// What the call answers, as the values of a record, and the rooms after it.
-    fn answer(&self) -> (Answer<[u64; 5]>, [Vec<u64>; 2]) {
+    fn answer(&self) -> (Answer<Values>, [Vec<u64>; 2]) {
         let (a, b, list) = (&self.stationary[..], &self.orbiting[..], &self.list[..]);
         let mut rooms = self.rooms.clone();
         let [one, two] = &mut rooms;
@@ -190,7 +203,7 @@ impl Case {
             SELECT => {
                 let previous = (self.extra[0] != 0).then(|| self.point(1));
                 calls::select_translation_vector(list, previous, self.point(3), self.point(5))
-                    .map(|found| found.map_or([0; 5], |index| [1, index, 0, 0, 0]))
+                    .map(|found| found.map_or([0; VALUES], |index| values([1, index])))
             }
             COLLISION => {
                 calls::check_translation_collision(a, b, self.point(0), self.number(2)).map(hit)
@@ -205,11 +218,12 @@ impl Case {
                 calls::polygons_overlap_with_tolerance(a, b, self.number(0)).map(truth)
             }
             START => calls::find_start_position(a, b)
-                .map(|start| [answer_bits(start.0), answer_bits(start.1), 0, 0, 0]),
+                .map(|start| values([answer_bits(start.0), answer_bits(start.1)])),
             SIMPLIFY => in_floats(one, |room| {
                 calls::simplify_polygon(list, self.number(0), room).map(count)
             }),
-            _ => unreachable!("there are eleven calls"),
+            EXPLAIN => explain_collision(a, b, self.point(0), self.number(2)).map(explanation),
+            _ => unreachable!("there are twelve calls"),
         };
         (answer, rooms)
     }
@@ -228,26 +242,47 @@ fn in_floats<T>(room: &mut Vec<u64>, answer: impl FnOnce(&mut [f64]) -> T) -> T 
     answered
 }
 
+/// These values, and 0 for the rest.
+fn values<const N: usize>(first: [u64; N]) -> Values {
+    let mut all = [0; VALUES];
+    all[..N].copy_from_slice(&first);
+    all
+}
+
 /// A count of entries as values.
-fn count(entries: usize) -> [u64; 5] {
-    [entries as u64, 0, 0, 0, 0]
+fn count(entries: usize) -> Values {
+    values([entries as u64])
 }
 
 /// A yes or no as values.
-fn truth(holds: bool) -> [u64; 5] {
-    [u64::from(holds), 0, 0, 0, 0]
+fn truth(holds: bool) -> Values {
+    values([u64::from(holds)])
 }
 
 /// A place, or none, as values.
-fn place(found: Option<Point>) -> [u64; 5] {
-    found.map_or([0; 5], |(x, y)| [1, answer_bits(x), answer_bits(y), 0, 0])
+fn place(found: Option<Point>) -> Values {
+    found.map_or([0; VALUES], |(x, y)| values([1, answer_bits(x), answer_bits(y)]))
+}
+
+/// Distance, kind and the two indices of a hit, or 0 for each.
+fn parts(found: Option<calls::Hit>) -> [u64; 4] {
+    let all =
+        |h: calls::Hit| [answer_bits(h.distance), u64::from(h.kind), h.stationary, h.orbiting];
+    found.map_or([0; 4], all)
 }
 
 /// A hit, or none, as values.
-fn hit(found: Option<calls::Hit>) -> [u64; 5] {
-    let values =
-        |h: calls::Hit| [1, answer_bits(h.distance), u64::from(h.kind), h.stationary, h.orbiting];
-    found.map_or([0; 5], values)
+fn hit(found: Option<calls::Hit>) -> Values {
+    let [distance, kind, stationary, orbiting] = parts(found);
+    values([u64::from(found.is_some()), distance, kind, stationary, orbiting])
+}
+
+/// An explanation as values.
+fn explanation(x: Explanation) -> Values {
+    let [distance, kind, stationary, orbiting] = parts(x.hit);
+    let ground = u64::from(x.ground);
+    let (near, between, far) = (x.too_near, x.between, x.too_far);
+    [ground, distance, kind, stationary, orbiting, x.others, near, between, far]
 }
 
 /// The record of a case.
@@ -259,8 +294,8 @@ fn record(case: &Case) -> Vec<u64> {
     words.extend(floats.map(|list| list.len() as u64));
     words.extend([&case.extra, &case.rooms[0], &case.rooms[1]].map(|list| list.len() as u64));
     words.push(number);
-    words.extend(answer.unwrap_or([0; 5]));
-    words.extend([place, 0, 0]);
+    words.extend(answer.unwrap_or([0; VALUES]));
+    words.push(place);
     floats.iter().for_each(|list| words.extend(bits(list)));
     words.extend(&case.extra);
     case.rooms.iter().chain(&after).for_each(|room| words.extend(room));
@@ -272,6 +307,7 @@ pub fn records() -> Vec<Vec<u64>> {
     let mut cases = scenes::cases();
     cases.extend(rooms::cases());
     cases.extend(moves::cases());
+    cases.extend(grounds::cases());
     cases.extend(lists::cases());
     cases.extend(faults::cases());
     cases.extend(lengths::cases());
@@ -282,14 +318,15 @@ pub fn records() -> Vec<Vec<u64>> {
 /// any, and a seeded case, of these the calls by turns.
 fn long(seeded: &mut Seeded, place: u64) -> Vec<u64> {
     let bounds = if place.is_multiple_of(2) { lengths::swept(place / 2) } else { None };
-    record(&bounds.unwrap_or_else(|| sample::case(seeded, place % NAMES.len() as u64)))
+    record(&bounds.unwrap_or_else(|| sample::case(seeded, place / 2 % NAMES.len() as u64)))
 }
 
-/// The call, with its refusal number, or whether something was found.
+/// The call, with its refusal number, its ground, or whether something was found.
 fn counted(record: &[u64]) -> Vec<String> {
     let name = NAMES[record[0] as usize];
     let outcome = match record[7] {
         0 if record[0] == START => "answered".to_string(),
+        0 if record[0] == EXPLAIN => format!("ground {}", record[8]),
         0 if record[8] == 0 => "nothing found".to_string(),
         0 => "something found".to_string(),
         number => format!("refusal {number}"),

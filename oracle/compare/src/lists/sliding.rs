@@ -3,8 +3,8 @@
 use super::{on_success, told_place, Words};
 use crate::ffi;
 use crate::lent::{floats, words, Cell, Room};
-use crate::tally::Compared;
-use oracle::replay::sliding::{self, HEADER};
+use crate::tally::{Compared, Explained};
+use oracle::replay::sliding::{self, HEADER, PLACE_AT, VALUES, VALUES_AT};
 
 /// What a call is lent, the cell for the place included.
 struct Lent {
@@ -24,13 +24,13 @@ impl Lent {
     }
 }
 
-/// What a function returned and what it told through up to five pointers before
+/// What a function returned and what it told through up to nine pointers before
 /// that of the place.
-type Told = (u32, [Option<u64>; 5]);
+type Told = (u32, [Option<u64>; VALUES]);
 
 /// What was told through these pointers, and nothing through others.
 fn told<const N: usize>(number: u32, cells: [Option<u64>; N]) -> Told {
-    let mut all = [None; 5];
+    let mut all = [None; VALUES];
     all[..N].copy_from_slice(&cells);
     (number, all)
 }
@@ -128,6 +128,42 @@ fn collision(lent: &mut Lent) -> (&'static str, Told) {
     ("check_translation_collision", told(number, cells))
 }
 
+/// `explain_collision`.
+fn explanation(lent: &mut Lent) -> (&'static str, Told) {
+    let (a, an, b, bn) = (lent.a.list(), lent.a.len(), lent.b.list(), lent.b.len());
+    let [dx, dy, tolerance] = [0, 1, 2].map(|place| lent.number(place));
+    let (mut ground, mut distance, mut kind) = (u32::HELD, f64::HELD, u32::HELD);
+    let [mut stationary, mut orbiting, mut others] = [u64::HELD; 3];
+    let [mut near, mut between, mut far] = [u64::HELD; 3];
+    // SAFETY: both lists are as long as is said, and every pointer has its cell.
+    let number = unsafe {
+        ffi::byr_explain_collision(
+            a,
+            an,
+            b,
+            bn,
+            dx,
+            dy,
+            tolerance,
+            &mut ground,
+            &mut distance,
+            &mut kind,
+            &mut stationary,
+            &mut orbiting,
+            &mut others,
+            &mut near,
+            &mut between,
+            &mut far,
+            &mut lent.place,
+        )
+    };
+    let hit = [distance.told(), kind.told(), stationary.told(), orbiting.told(), others.told()];
+    let [distance, kind, stationary, orbiting, others] = hit;
+    let (ground, near, between, far) = (ground.told(), near.told(), between.told(), far.told());
+    let cells = [ground, distance, kind, stationary, orbiting, others, near, between, far];
+    ("explain_collision", told(number, cells))
+}
+
 /// A call that may find a position.
 fn position(call: u64, lent: &mut Lent) -> (&'static str, Told) {
     let (a, an, b, bn) = (lent.a.list(), lent.a.len(), lent.b.list(), lent.b.len());
@@ -199,6 +235,7 @@ fn answer(call: u64, lent: &mut Lent) -> (&'static str, Told) {
         }
         sliding::SELECT => selection(lent),
         sliding::COLLISION => collision(lent),
+        sliding::EXPLAIN => explanation(lent),
         sliding::INTERLOCKING | sliding::RECOVER => position(call, lent),
         sliding::OVERLAP | sliding::OVERLAP_WITH_TOLERANCE => overlap(call, lent),
         sliding::START => start(lent),
@@ -206,25 +243,32 @@ fn answer(call: u64, lent: &mut Lent) -> (&'static str, Told) {
     }
 }
 
+/// Whether a call that answers these values tells the one in this place: what
+/// follows `found` only where something is, the hit of an explanation only with
+/// ground 0, and as many as the call has pointers for.
+fn tells(call: u64, values: [u64; VALUES], place: usize) -> bool {
+    let found = values[0] != 0;
+    match call {
+        sliding::EXPLAIN => values[0] == 0 || !(1..=5).contains(&place),
+        sliding::SELECT if found => place < 2,
+        sliding::INTERLOCKING | sliding::RECOVER if found => place < 3,
+        sliding::COLLISION if found => place < 5,
+        sliding::START => place < 2,
+        _ => place == 0,
+    }
+}
+
 /// What the record says is told through the call's pointers before that of the
 /// place.
-fn expected(call: u64, number: u64, values: [u64; 5]) -> [Option<u64>; 5] {
+fn expected(call: u64, number: u64, values: [u64; VALUES]) -> [Option<u64>; VALUES] {
     let all = on_success(number, values);
-    let places = match call {
-        // What follows `found` is told only where something is.
-        sliding::SELECT | sliding::COLLISION | sliding::INTERLOCKING | sliding::RECOVER
-            if values[0] == 0 =>
-        {
-            1
-        }
-        sliding::SELECT | sliding::START => 2,
-        sliding::INTERLOCKING | sliding::RECOVER => 3,
-        sliding::COLLISION => 5,
-        _ => 1,
-    };
-    let mut cells = [None; 5];
-    cells[..places].copy_from_slice(&all[..places]);
-    cells
+    std::array::from_fn(|place| all[place].filter(|_| tells(call, values, place)))
+}
+
+/// What is counted of an explanation.
+fn explained(call: u64, number: u64, values: [u64; VALUES]) -> Option<Explained> {
+    let [ground, _, kind, _, _, others, ..] = values;
+    (call == sliding::EXPLAIN && number == 0).then_some(Explained { ground, kind, others })
 }
 
 /// What the rooms hold, the floats among them with every NaN alike.
@@ -239,7 +283,7 @@ fn rooms(call: u64, lent: &Lent) -> [Option<Vec<u64>>; 2] {
 /// The record's call through the library.
 pub fn check(record: &[u64]) -> Compared {
     let (call, number) = (record[0], record[7]);
-    let values = [8, 9, 10, 11, 12].map(|place| record[place]);
+    let values = std::array::from_fn(|place| record[VALUES_AT + place]);
     let mut rest = Words(&record[HEADER..]);
     let lists = [1, 2, 3].map(|place| rest.take(record[place]));
     let extra = rest.take(record[4]).to_vec();
@@ -249,8 +293,9 @@ pub fn check(record: &[u64]) -> Compared {
     let mut lent = Lent { a, b, list, extra, one, two, place: u64::HELD };
     let (name, (returned, cells)) = answer(call, &mut lent);
     let read = [lent.a.contents(), lent.b.contents(), lent.list.contents()];
-    let told = (expected(call, number, values), told_place(number, record[13]));
+    let told = (expected(call, number, values), told_place(number, record[PLACE_AT]));
     let oracle = (number, told, after, lists.map(Some));
     let library = (u64::from(returned), (cells, lent.place.told()), rooms(call, &lent), read);
-    Compared::of(name, number, oracle, library)
+    let compared = Compared::of(name, number, oracle, library);
+    Compared { explained: explained(call, number, values), ..compared }
 }

@@ -1,12 +1,12 @@
 //! Wrong numbers and tolerances in every call that takes polygons.
 
 use super::scenes::{squares, TOLERANCE};
-use super::{Case, COLLISION, INTERLOCKING, OVERLAP, OVERLAP_WITH_TOLERANCE, RECOVER, START};
-use super::{FIND_CONTACTS, PERFECT_FIT, TRANSLATION_VECTORS};
+use super::{Case, COLLISION, EXPLAIN, FIND_CONTACTS, INTERLOCKING, OVERLAP};
+use super::{OVERLAP_WITH_TOLERANCE, PERFECT_FIT, RECOVER, START, TRANSLATION_VECTORS};
 use crate::replay::{with, EDGES};
 
 /// The calls that take two polygons.
-pub const POLYGON_CALLS: [u64; 9] = [
+pub const POLYGON_CALLS: [u64; 10] = [
     FIND_CONTACTS,
     TRANSLATION_VECTORS,
     PERFECT_FIT,
@@ -16,6 +16,7 @@ pub const POLYGON_CALLS: [u64; 9] = [
     OVERLAP,
     OVERLAP_WITH_TOLERANCE,
     START,
+    EXPLAIN,
 ];
 
 /// Tolerances on their bounds and past them, and no numbers.
@@ -100,7 +101,7 @@ pub fn cases() -> Vec<Case> {
         }
     }
     for number in [f64::NAN, f64::INFINITY, f64::NEG_INFINITY, f64::MAX, -0.0] {
-        for call in [PERFECT_FIT, COLLISION, INTERLOCKING, RECOVER] {
+        for call in [PERFECT_FIT, COLLISION, INTERLOCKING, RECOVER, EXPLAIN] {
             all.push(Case::of(call, s, q, &[number, 1.0, TOLERANCE]));
             all.push(Case::of(call, s, q, &[1.0, number, 2.0]));
         }

@@ -7,12 +7,12 @@ use crate::answers::Point;
 use crate::shapes::{comb, disc, placed, reversed, square, star};
 
 /// The number and the two floats next to it.
-fn around(x: f64) -> [f64; 3] {
+pub fn around(x: f64) -> [f64; 3] {
     [x.next_down(), x, x.next_up()]
 }
 
 /// docs/SCOPE.md's squares apart: the move along x meets the wall after 3.
-fn apart() -> Scene {
+pub fn apart() -> Scene {
     Scene { at: (-5.0, 1.0), ..squares() }
 }
 
@@ -34,7 +34,7 @@ fn moves() -> Vec<Point> {
 /// Collisions: all moves of the squares apart, some with other tolerances, and
 /// moves of other polygons with ties, with vertices that meet edges, into a
 /// notch, along an edge.
-fn collisions() -> Vec<Case> {
+pub fn collisions() -> Vec<Case> {
     let scene = apart();
     let mut all: Vec<_> =
         moves().into_iter().map(|by| scene.case(COLLISION, by, TOLERANCE)).collect();

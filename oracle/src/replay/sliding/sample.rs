@@ -1,8 +1,9 @@
 //! Seeded cases of every call, for a long run.
 
+use super::grounds;
 use super::lists::selecting;
 use super::scenes::Scene;
-use super::{Case, COLLISION, PERFECT_FIT, SELECT, SIMPLIFY};
+use super::{Case, COLLISION, EXPLAIN, PERFECT_FIT, SELECT, SIMPLIFY};
 use crate::answers::Point;
 use crate::calls::{self, points_of};
 use crate::fixed::nfp_sliding::{self as text, TranslationVector};
@@ -115,7 +116,7 @@ fn sliding(seeded: &mut Seeded, call: u64) -> Case {
     let at = position(seeded, &stationary, &drawn, tolerance);
     let scene = Scene { stationary, drawn, at };
     let found = match call {
-        COLLISION | PERFECT_FIT => vectors(&scene.stationary, &scene.moved(), tolerance),
+        COLLISION | EXPLAIN | PERFECT_FIT => vectors(&scene.stationary, &scene.moved(), tolerance),
         _ => Vec::new(),
     };
     let by = moving(seeded, &found, tolerance);
@@ -228,6 +229,7 @@ pub fn case(seeded: &mut Seeded, call: u64) -> Case {
     match call {
         SELECT => selection(seeded),
         SIMPLIFY => simplification(seeded),
+        EXPLAIN if seeded.below(3) > 0 => grounds::case(seeded),
         _ => sliding(seeded, call),
     }
 }

@@ -1,7 +1,7 @@
 //! Two polygons in several places: touching, apart, overlapping, interlocking.
 
-use super::{Case, COLLISION, FIND_CONTACTS, INTERLOCKING, OVERLAP, OVERLAP_WITH_TOLERANCE};
-use super::{PERFECT_FIT, RECOVER, START, TRANSLATION_VECTORS};
+use super::{Case, COLLISION, EXPLAIN, FIND_CONTACTS, INTERLOCKING, OVERLAP};
+use super::{OVERLAP_WITH_TOLERANCE, PERFECT_FIT, RECOVER, START, TRANSLATION_VECTORS};
 use crate::answers::Point;
 use crate::calls;
 use crate::refusals::Settings;
@@ -34,7 +34,7 @@ impl Scene {
                 Case::of(call, a, moved, &[tolerance])
             }
             PERFECT_FIT => Case::fitting(a, moved, at, &[self.at.0 + by.0, self.at.1 + by.1]),
-            COLLISION => Case::of(call, a, moved, &[by.0, by.1, tolerance]),
+            COLLISION | EXPLAIN => Case::of(call, a, moved, &[by.0, by.1, tolerance]),
             RECOVER => Case::of(call, a, moved, &at),
             INTERLOCKING => Case::of(call, a, &self.drawn, &at),
             OVERLAP => Case::of(call, a, moved, &[]),

@@ -1,7 +1,8 @@
 //! Times the Rust and the library beside each other: the oracle's text over the
 //! fixed helpers, called straight, against the exported function with its
-//! refusals. `bench [PART]` measures the rows whose name has this part, all of
-//! them without it, and prints tables of them.
+//! refusals; and the library's explanation of a collision against its check.
+//! `bench [PART]` measures the rows whose name has this part, all of them without
+//! it, and prints tables of them.
 
 mod memory;
 mod plain_book;
@@ -13,17 +14,28 @@ mod traces;
 use rows::Row;
 use timing::{measured, shown};
 
+/// What the columns of both sides are called, and that of the first side's time over
+/// the second's.
+type Heads = [&'static str; 3];
+
+/// The Rust beside the library: a ratio above 1 is the library being faster.
+const RUST: Heads = ["the Rust", "the library", "Rust / library"];
+
+/// Two calls of the library: the ratio is what the explanation costs, and may be 1.25
+/// at most.
+const EXPLAINED: Heads = ["explained", "checked", "explained / checked, at most 1.25"];
+
 /// Prints a table of these rows, as they are measured.
-fn table(title: &str, rows: Vec<Row>, part: &str) {
+fn table(title: &str, [first, second, ratio]: Heads, rows: Vec<Row>, part: &str) {
     let wanted: Vec<Row> = rows.into_iter().filter(|row| row.name.contains(part)).collect();
     if wanted.is_empty() {
         return;
     }
-    println!("## {title}\n\n| call | the Rust | the library | Rust / library |\n|---|---|---|---|");
+    println!("## {title}\n\n| call | {first} | {second} | {ratio} |\n|---|---|---|---|");
     for row in wanted {
         let (mut sides, note) = (row.sides)();
-        let [rust, ours] = measured(&mut sides);
-        println!("| {}{note} | {} | {} | {:.3} |", row.name, shown(rust), shown(ours), rust / ours);
+        let [one, other] = measured(&mut sides);
+        println!("| {}{note} | {} | {} | {:.3} |", row.name, shown(one), shown(other), one / other);
     }
     println!();
 }
@@ -38,10 +50,11 @@ fn main() {
     }
     let part = words.first().copied().unwrap_or("");
     println!("Median of {} runs by turns, one process, time of one call.\n", timing::RUNS);
-    table("Calls", rows::calls(), part);
-    table("Traces", traces::traces(), part);
-    table("Growth of a trace with vertices, 50 passes", traces::by_vertices(), part);
-    table("Growth of a trace with passes, a point stored in each", traces::by_passes(), part);
+    table("Calls", RUST, rows::calls(), part);
+    table("Explain against the collision call", EXPLAINED, rows::explanations(), part);
+    table("Traces", RUST, traces::traces(), part);
+    table("Growth of a trace with vertices, 50 passes", RUST, traces::by_vertices(), part);
+    table("Growth of a trace with passes, a point stored in each", RUST, traces::by_passes(), part);
     if "memory".contains(part) {
         memory::table();
     }

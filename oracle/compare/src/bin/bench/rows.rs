@@ -78,37 +78,80 @@ fn contacts(n: usize) -> Sides {
     [side(rust), side(ours)]
 }
 
+/// The move of the discs that `check_translation_collision` is lent.
+const BY: Point = (3.0, 9.0);
+
+/// Checks the move of these two, as the library does: the number, whether there is a
+/// hit, and its distance.
+fn checked(a: &Lent, b: &Lent) -> (u32, u32, f64) {
+    let (mut found, mut distance, mut kind) = (0, 0.0, 0);
+    let (mut stationary, mut orbiting, mut place) = (0, 0, 0);
+    // SAFETY: both lists are as long as is said, and every pointer has its cell.
+    let number = unsafe {
+        ffi::byr_check_translation_collision(
+            a.list.as_ptr(),
+            a.list.len(),
+            b.list.as_ptr(),
+            b.list.len(),
+            BY.0,
+            BY.1,
+            black_box(TOLERANCE),
+            &mut found,
+            &mut distance,
+            &mut kind,
+            &mut stationary,
+            &mut orbiting,
+            &mut place,
+        )
+    };
+    (number, found, distance)
+}
+
+/// Explains the move of these two: the number, the ground, and a hit's distance.
+fn explained(a: &Lent, b: &Lent) -> (u32, u32, f64) {
+    let (mut ground, mut distance, mut kind) = (0, 0.0, 0);
+    let (mut stationary, mut orbiting, mut others) = (0, 0, 0);
+    let (mut too_near, mut between, mut too_far, mut place) = (0, 0, 0, 0);
+    // SAFETY: both lists are as long as is said, and every pointer has its cell.
+    let number = unsafe {
+        ffi::byr_explain_collision(
+            a.list.as_ptr(),
+            a.list.len(),
+            b.list.as_ptr(),
+            b.list.len(),
+            BY.0,
+            BY.1,
+            black_box(TOLERANCE),
+            &mut ground,
+            &mut distance,
+            &mut kind,
+            &mut stationary,
+            &mut orbiting,
+            &mut others,
+            &mut too_near,
+            &mut between,
+            &mut too_far,
+            &mut place,
+        )
+    };
+    (number, ground, distance)
+}
+
 /// `check_translation_collision` of two discs of n vertices.
 fn collision(n: usize) -> Sides {
     let [a, b] = touching(n);
     let (an, bn) = (a.points.clone(), b.points.clone());
-    let by = (3.0, 9.0);
-    let ours = move || {
-        let (mut found, mut distance, mut kind) = (0, 0.0, 0);
-        let (mut stationary, mut orbiting, mut place) = (0, 0, 0);
-        // SAFETY: both lists are as long as is said, and every pointer has its cell.
-        let number = unsafe {
-            ffi::byr_check_translation_collision(
-                a.list.as_ptr(),
-                a.list.len(),
-                b.list.as_ptr(),
-                b.list.len(),
-                by.0,
-                by.1,
-                black_box(TOLERANCE),
-                &mut found,
-                &mut distance,
-                &mut kind,
-                &mut stationary,
-                &mut orbiting,
-                &mut place,
-            )
-        };
-        (number, found, distance)
-    };
-    let rust = move || text::check_translation_collision(&an, &bn, by, black_box(TOLERANCE));
-    assert_eq!(ours(), (0, 1, rust().expect("the discs collide").distance));
-    [side(rust), side(ours)]
+    let rust = move || text::check_translation_collision(&an, &bn, BY, black_box(TOLERANCE));
+    assert_eq!(checked(&a, &b), (0, 1, rust().expect("the discs collide").distance));
+    [side(rust), side(move || checked(&a, &b))]
+}
+
+/// `explain_collision` of the same discs and move, with the check as its other side.
+fn explanation(n: usize) -> Sides {
+    let ([a, b], [c, d]) = (touching(n), touching(n));
+    let (_, found, distance) = checked(&a, &b);
+    assert_eq!((found, explained(&c, &d)), (1, (0, 0, distance)));
+    [side(move || explained(&c, &d)), side(move || checked(&a, &b))]
 }
 
 /// `is_simple_polygon` of a disc of n vertices.
@@ -286,5 +329,13 @@ pub fn calls() -> Vec<Row> {
         Row::new("write_wkb, 256 vertices", writing_wkb),
         Row::new("read_wkb, 256 vertices, little-endian", || reading_wkb(Order::Little)),
         Row::new("read_wkb, 256 vertices, big-endian", || reading_wkb(Order::Big)),
+    ]
+}
+
+/// The call that explains a collision, beside the call that only checks.
+pub fn explanations() -> Vec<Row> {
+    vec![
+        Row::new("explain_collision, discs 64 x 64", || explanation(64)),
+        Row::new("explain_collision, discs 256 x 256", || explanation(256)),
     ]
 }

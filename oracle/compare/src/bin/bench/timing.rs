@@ -9,7 +9,7 @@ pub const RUNS: usize = 11;
 /// Seconds that one measurement takes at least, unless one call takes longer.
 const LEAST: f64 = 0.005;
 
-/// The two sides of a row, the Rust first; each makes one call.
+/// The two sides of a row; each makes one call.
 pub type Sides = [Box<dyn FnMut()>; 2];
 
 /// A side that makes this call, whatever it answers.
@@ -43,12 +43,12 @@ fn median(mut times: Vec<f64>) -> f64 {
 
 /// The median seconds of one call of each side.
 pub fn measured(sides: &mut Sides) -> [f64; 2] {
-    let [rust, ours] = sides;
-    let calls = [calls_of(rust), calls_of(ours)];
+    let [one, other] = sides;
+    let calls = [calls_of(one), calls_of(other)];
     let mut times = [Vec::new(), Vec::new()];
     for _ in 0..RUNS {
-        times[0].push(seconds(rust, calls[0]) / f64::from(calls[0]));
-        times[1].push(seconds(ours, calls[1]) / f64::from(calls[1]));
+        times[0].push(seconds(one, calls[0]) / f64::from(calls[0]));
+        times[1].push(seconds(other, calls[1]) / f64::from(calls[1]));
     }
     times.map(median)
 }
