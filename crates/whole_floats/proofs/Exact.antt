@@ -100,3 +100,17 @@ product-whole (fin s m e) (fin t n d) p q r u h k a b =
 pub product : (x y : Float) (p q r s : ℕ) → Whole x p q → Whole y r s
     → p * r + q * s ≤ p * s + q * r + 2 ^ 53 → p * s + q * r ≤ p * r + q * s + 2 ^ 53 → Whole (x ⊗ y) (p * r + q * s) (p * s + q * r)
 product x y p q r s h k a b = of-one (x ⊗ y) (p * r + q * s) (p * s + q * r) (product-whole x y p q r s (at-one x p q h) (at-one y r s k) a b)
+
+-- ---- the float of an integer
+
+pub of-natural : (n : ℕ) → n ≤ 2 ^ 53 → Whole (ofInt binary64 (pos n)) n 0
+unfolding ofInt
+of-natural n l =
+    of-one (round binary64 false n 1) n 0
+    (rounds-at 1 (2 ^ 53) wholes-kept n 0 (lit< tt) (upward n 0 1 n (omega arith)) (omega arith) (omega arith) (omega arith))
+
+pub of-negative : (n : ℕ) → suc n ≤ 2 ^ 53 → Whole (ofInt binary64 (negsuc n)) 0 (suc n)
+unfolding ofInt
+of-negative n l =
+    of-one (round binary64 true (suc n) 1) 0 (suc n)
+    (rounds-at 1 (2 ^ 53) wholes-kept 0 (suc n) (lit< tt) (downward 0 (suc n) 1 (suc n) (omega arith)) (omega arith) (omega arith) (omega arith))

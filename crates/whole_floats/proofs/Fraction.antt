@@ -42,7 +42,7 @@ of-one (fin true m e) p q h = omega (arith, h)
 
 -- ---- the order
 
-same-ltb : {a b c d : ℕ} → a ≡ c → b ≡ d → ltb a b ≡ ltb c d
+pub same-ltb : {a b c d : ℕ} → a ≡ c → b ≡ d → ltb a b ≡ ltb c d
 same-ltb h k = rw (h, k)
 
 lt-parts : (s : Bool) (m : ℕ) (e : ℤ) (t : Bool) (n : ℕ) (d : ℤ) →
