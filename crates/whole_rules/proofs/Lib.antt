@@ -1,0 +1,2 @@
+-- The modules of laws.
+pub mod Segments

@@ -1,0 +1,23 @@
+-- Points with whole coordinates within a million, and the same points in natural numbers. Definitions only.
+use Prim.Native.Nat.{ℕ, _≤_, _<_}
+use mathlib.Core.List.{List}
+use lib.Ieee.{Float}
+use Rattle.plane.specs.declared.Point.{Point}
+use Rattle.ring.specs.Ring.{count, pointAt}
+use Rattle.whole_floats.specs.Whole.{Whole}
+
+-- a point as natural numbers: each coordinate plus a million
+pub record Spot : Type 0 where
+  pub x : ℕ
+  pub y : ℕ
+
+-- the coordinates of the point a are whole numbers within a million, and A has them plus a million
+pub record Placed (a : Point) (A : Spot) : Type 0 where
+  pub across : Whole (a .x) (A .x) 1000000
+  pub upward : Whole (a .y) (A .y) 1000000
+  pub width : A .x ≤ 2000000
+  pub height : A .y ≤ 2000000
+
+-- so is each vertex of a ring
+abbrev pub PlacedRing : List Float → (ℕ → Spot) → Type 0
+PlacedRing r at = (i : ℕ) → i < count r → Placed (pointAt r i) (at i)
