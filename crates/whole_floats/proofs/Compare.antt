@@ -8,16 +8,16 @@ use mathlib.Core.Logic.{_⊎_, inl, inr}
 use mathlib.Core.Bool.{Bool, true, false, _&&_, _||_, cond, and-true}
 use lib.IntN.{ℤ}
 use lib.Dec.{T, ltb, leb, eqb, lit<}
-use lib.Ieee.{Float, nan, inf, fin, Format, up, down, neg, lt, le, eq, fits}
+use lib.Ieee.{Float, nan, inf, fin, Format, up, down, neg, lt, le, eq, fits, ofBits}
 use lib.Ieee.Fits.{down-pos, up-pos}
 use lib.Ieee.Exact.{HasValue}
 use lib.Ieee.Positive.{den}
 use lib.Ieee.Back.{whole-unique}
 use borrow.Author.Tests.{ltb-true, ltb-false, eqb-true, eqb-false, eq-eqb, ne-eqb}
 use Rattle.laws.proofs.Parts.{plus, less}
-use Rattle.scalar.specs.Scalar.{absOf, minusZero, ahead, orNumber, smallerOf, largerOf}
+use Rattle.scalar.specs.Float.{f0}
 use Rattle.whole_floats.specs.Whole.{Whole}
-use Rattle.whole_floats.proofs.Fraction.{At, at-one, lt-at, le-at}
+use Rattle.whole_floats.proofs.Fraction.{At, at-one, same-ltb, lt-at, le-at}
 use Rattle.whole_floats.proofs.Exact.{whole-same}
 
 pub is-less : (x y : Float) (p q r s : ℕ) → Whole x p q → Whole y r s → lt x y ≡ ltb (p + s) (r + q)
@@ -31,6 +31,15 @@ is-at-most x y p q r s h k =
     let a : p * 1 + s * 1 ≡ p + s = omega arith in
     let b : r * 1 + q * 1 ≡ r + q = omega arith in
     le-at x y p q 1 r s 1 (lit< tt) (lit< tt) (at-one x p q h) (at-one y r s k) ∙ rw (a, b)
+
+-- with 0.0
+pub above-zero : (x : Float) (p q : ℕ) → Whole x p q → lt f0 x ≡ ltb q p
+unfolding ofBits
+above-zero x p q h = is-less f0 x 0 0 p q refl h ∙ same-ltb {a = 0 + q} {b = p + 0} {c = q} {d = p} (omega arith) (omega arith)
+
+pub below-zero : (x : Float) (p q : ℕ) → Whole x p q → lt x f0 ≡ ltb p q
+unfolding ofBits
+below-zero x p q h = is-less x f0 p q 0 0 h refl ∙ same-ltb {a = p + 0} {b = 0 + q} {c = p} {d = q} (omega arith) (omega arith)
 
 -- ---- equality
 

@@ -1,5 +1,5 @@
--- Sums, differences and products of whole numbers are exact up to 2^53, and so are the float of an integer, a negative
--- and an absolute value. Assumes nothing.
+-- Sums, differences and products of whole numbers are exact up to 2^53, and so are a negative and the float of an
+-- integer. Assumes nothing.
 use Prim.Native.Nat.{ℕ, suc, _+_, _*_, _^_, _≤_, _<_, min, max}
 use native.Mathlib.Omega.{arith}
 use native.Mathlib.Nat.{mul-pos, le-of-mul-le-mul-right}
@@ -14,7 +14,7 @@ use Rattle.laws.proofs.Parts.{plus, less}
 use Rattle.laws.proofs.Rounding.{Rounds, upward, downward, finite-sum}
 use Rattle.scalar.specs.Float.{_⊕_, _⊖_, _⊗_}
 use Rattle.scalar.specs.Scalar.{absOf}
-use Rattle.whole_floats.specs.Whole.{Whole}
+use Rattle.whole_floats.specs.Whole.{Whole, Difference}
 use Rattle.whole_floats.proofs.Fraction.{At, at-one, of-one, wholes-kept, rounds-at}
 
 -- p - q is r - s
@@ -103,14 +103,9 @@ product x y p q r s h k a b = of-one (x ⊗ y) (p * r + q * s) (p * s + q * r) (
 
 -- ---- the float of an integer
 
-pub of-natural : (n : ℕ) → n ≤ 2 ^ 53 → Whole (ofInt binary64 (pos n)) n 0
+pub of-integer : (z : ℤ) (p q : ℕ) → Difference z p q → p ≤ q + 2 ^ 53 → q ≤ p + 2 ^ 53 → Whole (ofInt binary64 z) p q
 unfolding ofInt
-of-natural n l =
-    of-one (round binary64 false n 1) n 0
-    (rounds-at 1 (2 ^ 53) wholes-kept n 0 (lit< tt) (upward n 0 1 n (omega arith)) (omega arith) (omega arith) (omega arith))
-
-pub of-negative : (n : ℕ) → suc n ≤ 2 ^ 53 → Whole (ofInt binary64 (negsuc n)) 0 (suc n)
-unfolding ofInt
-of-negative n l =
-    of-one (round binary64 true (suc n) 1) 0 (suc n)
-    (rounds-at 1 (2 ^ 53) wholes-kept 0 (suc n) (lit< tt) (downward 0 (suc n) 1 (suc n) (omega arith)) (omega arith) (omega arith) (omega arith))
+of-integer (pos n) p q h a b =
+    of-one (round binary64 false n 1) p q (rounds-at 1 (2 ^ 53) wholes-kept p q (lit< tt) (upward p q 1 n h) (omega arith) a b)
+of-integer (negsuc n) p q h a b =
+    of-one (round binary64 true (suc n) 1) p q (rounds-at 1 (2 ^ 53) wholes-kept p q (lit< tt) (downward p q 1 (suc n) h) (omega arith) a b)
