@@ -2,13 +2,15 @@
 -- number is the float sum, bit for bit but for a zero's sign. Assumes nothing.
 use Prim.Native.Nat.{ℕ, zero, suc, _+_, _*_, _^_, _≤_, _<_}
 use native.Mathlib.Omega.{arith}
-use native.Mathlib.Nat.{mod-lt, mul-le-mul}
-use mathlib.Core.Path.{_≡_, refl}
+use native.Mathlib.Nat.{mul-le-mul}
+use mathlib.Core.Path.{_≡_, refl, ap}
 use mathlib.Core.Bool.{true}
 use mathlib.Core.List.{List}
-use lib.IntN.{ℤ, pos}
-use lib.Ieee.{Float, binary64, ofBits, ofInt, eq}
+use lib.IntN.{ℤ, pos, negsuc}
+use lib.Dec.{T}
+use lib.Ieee.{Float, binary64, ofBits, ofInt, eq, fits}
 use lib.Ieee.Fits.{ofInt-fits, add-fits}
+use lib.Ieee.Bits.{ofBits-fits}
 use Rattle.scalar.specs.Float.{_⊕_, _⊖_, _⊗_, f0}
 use Rattle.plane.specs.declared.Point.{Point}
 use Rattle.ring.specs.Ring.{count, pointAt, nextOf}
@@ -18,6 +20,7 @@ use Rattle.whole_floats.proofs.Exact.{whole-same, sum, of-integer}
 use Rattle.whole_floats.proofs.Compare.{same-number, same-bits}
 use Rattle.whole_rules.specs.Spots.{Spot, Placed, PlacedRing}
 use Rattle.whole_rules.specs.Area.{termLeft, termRight, leftTo, rightTo}
+use Rattle.whole_rules.proofs.Placed.{next-placed}
 use Rattle.whole_rules.proofs.Segments.{times, sum-bound, less}
 
 -- ---- a term
@@ -46,19 +49,21 @@ right-bound P Q = let x = mul-le-mul (Q .width) (P .height) in let y = P .width 
 
 -- ---- the sum of 256 terms
 
-module _ (r : List Float) (at : ℕ → Spot) (P : PlacedRing r at) (few : count r ≤ 256) where
-  next : (i : ℕ) → i < count r → Placed (pointAt r (nextOf i (count r))) (at (nextOf i (count r)))
-  next i h = P (nextOf i (count r)) (mod-lt (i + 1) (omega arith))
+-- an integer that is no difference is 0
+none : (z : ℤ) (p q : ℕ) → Difference z p q → p ≡ q → z ≡ pos 0
+none (pos n) p q h e = ap pos (omega arith)
+none (negsuc n) p q h e = absurd (omega arith)
 
+module _ (r : List Float) (at : ℕ → Spot) (P : PlacedRing r at) (few : count r ≤ 256) where
   left-sum : (k : ℕ) → k ≤ count r → leftTo at (count r) k ≤ k * 8000000000000
   unfolding leftTo
   left-sum zero h = omega arith
-  left-sum (suc k) h = let s = left-sum k (omega arith) in let t = left-bound (P k (omega arith)) (next k (omega arith)) in omega arith
+  left-sum (suc k) h = let s = left-sum k (omega arith) in let t = left-bound (P k (omega arith)) (next-placed r at P k (omega arith)) in omega arith
 
   right-sum : (k : ℕ) → k ≤ count r → rightTo at (count r) k ≤ k * 8000000000000
   unfolding rightTo
   right-sum zero h = omega arith
-  right-sum (suc k) h = let s = right-sum k (omega arith) in let t = right-bound (P k (omega arith)) (next k (omega arith)) in omega arith
+  right-sum (suc k) h = let s = right-sum k (omega arith) in let t = right-bound (P k (omega arith)) (next-placed r at P k (omega arith)) in omega arith
 
   pub sums : (k : ℕ) → k ≤ count r → Whole (sumTo r k) (leftTo at (count r) k) (rightTo at (count r) k)
   unfolding sumTo leftTo rightTo termOf
@@ -69,9 +74,34 @@ module _ (r : List Float) (at : ℕ → Spot) (P : PlacedRing r at) (few : count
       let l = left-sum (suc k) h in
       let m = right-sum (suc k) h in
       sum (sumTo r k) (termOf r k) (leftTo at n k) (rightTo at n k) (termLeft (at k) (at (nextOf k n))) (termRight (at k) (at (nextOf k n)))
-      (sums k (omega arith)) (term (pointAt r k) (pointAt r (nextOf k n)) (at k) (at (nextOf k n)) (P k i) (next k i))
+      (sums k (omega arith)) (term (pointAt r k) (pointAt r (nextOf k n)) (at k) (at (nextOf k n)) (P k i) (next-placed r at P k i))
       (omega arith) (omega arith)
 
   pub area : Whole (area2Of r) (leftTo at (count r) (count r)) (rightTo at (count r) (count r))
   unfolding area2Of
   area = sums (count r) (omega arith)
+
+  -- ---- an integer that is twice the area
+
+  integer : (z : ℤ) → Difference z (leftTo at (count r) (count r)) (rightTo at (count r) (count r))
+      → Whole (ofInt binary64 z) (leftTo at (count r) (count r)) (rightTo at (count r) (count r))
+  integer z h =
+      let n = count r in
+      let l = left-sum n (omega arith) in
+      let m = right-sum n (omega arith) in
+      of-integer z (leftTo at n n) (rightTo at n n) h (omega arith) (omega arith)
+
+  pub area-number : (z : ℤ) → Difference z (leftTo at (count r) (count r)) (rightTo at (count r) (count r)) → eq (ofInt binary64 z) (area2Of r) ≡ true
+  area-number z h = same-number (ofInt binary64 z) (area2Of r) (leftTo at (count r) (count r)) (rightTo at (count r) (count r)) (integer z h) area
+
+  sum-fits : (k : ℕ) → T (fits binary64 (sumTo r k))
+  unfolding sumTo
+  sum-fits zero = ofBits-fits binary64 0
+  sum-fits (suc k) = add-fits binary64 (sumTo r k) (termOf r k)
+
+  pub area-bits : (z : ℤ) → Difference z (leftTo at (count r) (count r)) (rightTo at (count r) (count r)) → (z ≡ pos 0 → ⊥)
+      → ofInt binary64 z ≡ area2Of r
+  unfolding area2Of
+  area-bits z h n =
+      same-bits binary64 (ofInt binary64 z) (area2Of r) (leftTo at (count r) (count r)) (rightTo at (count r) (count r))
+      (ofInt-fits binary64 z) (sum-fits (count r)) (integer z h) area (λ e. n (none z (leftTo at (count r) (count r)) (rightTo at (count r) (count r)) h e))

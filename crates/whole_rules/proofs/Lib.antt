@@ -1,4 +1,5 @@
 -- The modules of laws.
+pub mod Placed
 pub mod Segments
 pub mod Simple
 pub mod Area

@@ -8,13 +8,14 @@ use lib.Dec.{ltb, leb, lit<, lit≤}
 use lib.IntN.{ℤ, pos, negsuc}
 use lib.Ieee.{Float, fin, ofBits, lt, le, neg}
 use borrow.Author.Tests.{leb-true, leb-false, le-leb, lt-leb}
-use Rattle.scalar.specs.Float.{_⊕_, _⊖_, _⊗_}
+use Rattle.scalar.specs.Float.{_⊖_, _⊗_, f0}
 use Rattle.scalar.specs.Scalar.{smallerOf, largerOf}
 use Rattle.plane.specs.Vector.{minusOf, crossOf, turnOf}
 use Rattle.plane.specs.declared.Point.{Point}
 use Rattle.segments.specs.Segments.{eps, signOf, orientationOf, betweenOf, onSegmentOf, touchesOf, intersectOf}
 use Rattle.whole_floats.specs.Whole.{Whole}
 use Rattle.whole_floats.proofs.Exact.{whole-same, difference, product}
+use Rattle.whole_floats.proofs.Compare.{above-zero, below-zero}
 use Rattle.whole_floats.proofs.Picked.{smaller, larger}
 use Rattle.whole_floats.proofs.Margin.{Slight, above-margin, below-margin, less-margin, more-margin}
 use Rattle.whole_rules.specs.Spots.{Spot, Placed}
@@ -63,6 +64,13 @@ turn a b c A B C P Q R =
     (less ((b .x ⊖ a .x) ⊗ (c .y ⊖ a .y)) ((b .y ⊖ a .y) ⊗ (c .x ⊖ a .x)) _ _ _ _ l r
     (sum-bound (Q .width) (R .height) (P .width) (P .height)) (sum-bound (Q .width) (P .height) (P .width) (R .height))
     (sum-bound (Q .height) (R .width) (P .height) (P .width)) (sum-bound (Q .height) (P .width) (P .height) (R .width)))
+
+-- which side of 0.0 it is
+pub turns-left : (a b c : Point) (A B C : Spot) → Placed a A → Placed b B → Placed c C → lt f0 (turnOf a b c) ≡ ltb (rightOf A B C) (leftOf A B C)
+turns-left a b c A B C P Q R = above-zero (turnOf a b c) (leftOf A B C) (rightOf A B C) (turn a b c A B C P Q R)
+
+pub turns-right : (a b c : Point) (A B C : Spot) → Placed a A → Placed b B → Placed c C → lt (turnOf a b c) f0 ≡ ltb (leftOf A B C) (rightOf A B C)
+turns-right a b c A B C P Q R = below-zero (turnOf a b c) (leftOf A B C) (rightOf A B C) (turn a b c A B C P Q R)
 
 -- ---- orientation
 

@@ -1,7 +1,6 @@
 -- A ring of whole coordinates is simple exactly if it is by whole numbers. Assumes nothing.
 use Prim.Native.Nat.{ℕ, zero, suc, _+_, _-_, _%_, _≤_, _<_}
 use native.Mathlib.Omega.{arith}
-use native.Mathlib.Nat.{mod-lt}
 use mathlib.Core.Path.{_≡_, refl, ap}
 use mathlib.Core.Bool.{Bool, _&&_}
 use mathlib.Core.List.{List}
@@ -10,8 +9,9 @@ use lib.Ieee.{Float}
 use Rattle.ring.specs.Each.{each}
 use Rattle.ring.specs.Ring.{count, pointAt, nextOf}
 use Rattle.simple_polygon.specs.Simple.{clearPair, clearRow, isSimple}
-use Rattle.whole_rules.specs.Spots.{Spot, Placed, PlacedRing}
+use Rattle.whole_rules.specs.Spots.{Spot, PlacedRing}
 use Rattle.whole_rules.specs.Simple.{wholeClearPair, wholeClearRow, wholeSimple}
+use Rattle.whole_rules.proofs.Placed.{next-placed}
 use Rattle.whole_rules.proofs.Segments.{intersect}
 
 each-same : (p q : ℕ → Bool) (k n : ℕ) → ((i : ℕ) → k ≤ i → i < k + n → p i ≡ q i) → each p k n ≡ each q k n
@@ -20,16 +20,12 @@ each-same p q k zero h = refl
 each-same p q k (suc n) h = rw (h k (omega arith) (omega arith), each-same p q (suc k) n (λ i l m. h i (omega arith) (omega arith)))
 
 module _ (r : List Float) (at : ℕ → Spot) (P : PlacedRing r at) where
-  -- the vertex after i
-  next : (i : ℕ) → i < count r → Placed (pointAt r (nextOf i (count r))) (at (nextOf i (count r)))
-  next i h = P (nextOf i (count r)) (mod-lt (i + 1) (omega arith))
-
   pair : (i j : ℕ) → i < count r → j < count r → clearPair r i j ≡ wholeClearPair at (count r) i j
   unfolding clearPair wholeClearPair
   pair i j h k =
       let n = count r in
       rw (intersect (pointAt r i) (pointAt r (nextOf i n)) (pointAt r j) (pointAt r (nextOf j n))
-      (at i) (at (nextOf i n)) (at j) (at (nextOf j n)) (P i h) (next i h) (P j k) (next j k))
+      (at i) (at (nextOf i n)) (at j) (at (nextOf j n)) (P i h) (next-placed r at P i h) (P j k) (next-placed r at P j k))
 
   row : (i : ℕ) → i < count r → clearRow r i ≡ wholeClearRow at (count r) i
   unfolding clearRow wholeClearRow
