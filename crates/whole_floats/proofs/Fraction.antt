@@ -125,7 +125,7 @@ not-less s m e t n d = by (lt y x) (le x y) refl refl
     by false true g h = refl
     by false false g h = absurd (subst T h (not-above t n d s m e g))
 
-not-ltb : (a b : ℕ) → not (ltb a b) ≡ leb b a
+pub not-ltb : (a b : ℕ) → not (ltb a b) ≡ leb b a
 not-ltb a b = by (ltb a b) refl
   where
     by : (t : Bool) → ltb a b ≡ t → not t ≡ leb b a

@@ -1,4 +1,5 @@
 -- The modules of laws.
+pub mod Bounds
 pub mod Placed
 pub mod Segments
 pub mod Simple
