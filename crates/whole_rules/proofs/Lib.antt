@@ -4,3 +4,4 @@ pub mod Placed
 pub mod Segments
 pub mod Simple
 pub mod Area
+pub mod Worked
