@@ -1,15 +1,14 @@
 -- Comparisons of floats that are whole numbers are those of the numbers, and two floats of one number are equal, bit for
 -- bit but for a zero's sign. Assumes nothing.
-use Prim.Native.Nat.{ℕ, zero, suc, _+_, _-_, _*_, _^_, _≤_, _<_, min, max}
+use Prim.Native.Nat.{ℕ, _+_, _-_, _*_, _<_}
 use native.Mathlib.Omega.{arith}
 use native.Mathlib.Nat.{eq-of-mul-eq-mul-right, mul-lt-mul-of-pos-right, mul-pos}
-use mathlib.Core.Path.{_≡_, refl, sym, ap, _∙_, subst}
-use mathlib.Core.Logic.{_⊎_, inl, inr}
-use mathlib.Core.Bool.{Bool, true, false, _&&_, _||_, cond, and-true}
+use mathlib.Core.Path.{_≡_, refl, sym, ap, _∙_}
+use mathlib.Core.Bool.{Bool, true, false, _&&_, and-true}
 use lib.IntN.{ℤ}
 use lib.Dec.{T, ltb, leb, eqb, lit<}
-use lib.Ieee.{Float, nan, inf, fin, Format, up, down, neg, lt, le, eq, fits, ofBits}
-use lib.Ieee.Fits.{down-pos, up-pos}
+use lib.Ieee.{Float, nan, inf, fin, Format, up, down, lt, le, eq, fits, ofBits}
+use lib.Ieee.Fits.{down-pos}
 use lib.Ieee.Exact.{HasValue}
 use lib.Ieee.Positive.{den}
 use lib.Ieee.Back.{whole-unique}
@@ -18,7 +17,6 @@ use Rattle.laws.proofs.Parts.{plus, less}
 use Rattle.scalar.specs.Float.{f0}
 use Rattle.whole_floats.specs.Whole.{Whole}
 use Rattle.whole_floats.proofs.Fraction.{At, at-one, same-ltb, lt-at, le-at}
-use Rattle.whole_floats.proofs.Exact.{whole-same}
 
 pub is-less : (x y : Float) (p q r s : ℕ) → Whole x p q → Whole y r s → lt x y ≡ ltb (p + s) (r + q)
 is-less x y p q r s h k =

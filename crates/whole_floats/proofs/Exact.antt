@@ -1,9 +1,9 @@
 -- Sums, differences and products of whole numbers are exact up to 2^53, and so are a negative and the float of an
 -- integer. Assumes nothing.
-use Prim.Native.Nat.{ℕ, suc, _+_, _*_, _^_, _≤_, _<_, min, max}
+use Prim.Native.Nat.{ℕ, suc, _+_, _*_, _^_, _≤_, _<_}
 use native.Mathlib.Omega.{arith}
-use native.Mathlib.Nat.{mul-pos, le-of-mul-le-mul-right}
-use mathlib.Core.Path.{_≡_, sym, ap, subst}
+use native.Mathlib.Nat.{mul-pos}
+use mathlib.Core.Path.{_≡_, ap}
 use mathlib.Core.Bool.{Bool, true, false}
 use lib.IntN.{ℤ, pos, negsuc}
 use lib.Dec.{lit<}
@@ -13,7 +13,6 @@ use lib.Ieee.Positive.{den}
 use Rattle.laws.proofs.Parts.{plus, less}
 use Rattle.laws.proofs.Rounding.{Rounds, upward, downward, finite-sum}
 use Rattle.scalar.specs.Float.{_⊕_, _⊖_, _⊗_}
-use Rattle.scalar.specs.Scalar.{absOf}
 use Rattle.whole_floats.specs.Whole.{Whole, Difference}
 use Rattle.whole_floats.proofs.Fraction.{At, at-one, of-one, wholes-kept, rounds-at}
 

@@ -1,15 +1,15 @@
 -- Floats as fractions of whole numbers: `At x p q c` says that x is finite and is (p - q) / c. Their order is that of the
 -- fractions, and a rounding of a fraction over 1 or 2 is that fraction as long as it has no more digits than are kept.
 -- Assumes nothing.
-use Prim.Native.Nat.{ℕ, suc, _+_, _-_, _*_, _^_, _≤_, _<_}
+use Prim.Native.Nat.{ℕ, _+_, _-_, _*_, _^_, _≤_, _<_}
 use native.Mathlib.Omega.{arith}
-use native.Mathlib.Nat.{le-of-mul-le-mul-right, mul-le-mul-right, mul-lt-mul-of-pos-right, mul-pos, mul-assoc, pow-suc, lt-of-lt-of-le}
+use native.Mathlib.Nat.{le-of-mul-le-mul-right, mul-le-mul-right, mul-lt-mul-of-pos-right, mul-assoc, pow-suc, lt-of-lt-of-le}
 use mathlib.Core.Path.{_≡_, refl, sym, ap, _∙_, subst}
-use mathlib.Core.Bool.{Bool, true, false, not, _&&_, true≢false, cond}
+use mathlib.Core.Bool.{Bool, true, false, not, true≢false}
 use lib.IntN.{ℤ}
-use lib.Dec.{T, ltb, leb, eqb, lit≤, lit<}
+use lib.Dec.{T, ltb, leb, lit≤, lit<}
 use lib.Pow.{shl-lt, pow-mono}
-use lib.Ieee.{Float, nan, inf, fin, up, down, binary64, round, lt, le, eq}
+use lib.Ieee.{Float, nan, inf, fin, up, down, binary64, round, lt, le}
 use lib.Ieee.Fits.{down-pos}
 use lib.Ieee.Exact.{HasValue, round-exact}
 use lib.Ieee.Back.{round-whole}

@@ -2,10 +2,9 @@
 -- the number and the half beside it, since rounding keeps the order. Assumes nothing.
 use Prim.Native.Nat.{ℕ, _+_, _-_, _*_, _^_, _≤_, _<_, min, max}
 use native.Mathlib.Omega.{arith}
-use native.Mathlib.Nat.{mul-pos, mul-le-mul-right, le-of-mul-le-mul-right}
+use native.Mathlib.Nat.{mul-pos, mul-le-mul-right}
 use mathlib.Core.Path.{_≡_, refl, sym, ap, _∙_, subst}
-use mathlib.Core.Bool.{Bool, true, false, not, cond}
-use lib.IntN.{ℤ}
+use mathlib.Core.Bool.{Bool, true, false, cond}
 use lib.Dec.{T, ltb, leb, eqb, lit<}
 use lib.Ieee.{Float, nan, inf, fin, up, down, binary64, round, sub, neg, lt, le}
 use lib.Ieee.Fits.{down-pos}

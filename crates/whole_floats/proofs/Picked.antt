@@ -1,13 +1,11 @@
 -- The smaller and the larger of two whole numbers, and the absolute value of one. Assumes nothing.
-use Prim.Native.Nat.{ℕ, zero, suc, _+_, _*_, _≤_, min, max}
+use Prim.Native.Nat.{ℕ, zero, suc, _+_, _≤_, min, max}
 use native.Mathlib.Omega.{arith}
 use native.Mathlib.Nat.{eq-of-mul-eq-mul-right, le-of-mul-le-mul-right}
 use mathlib.Core.Path.{_≡_, refl, sym, _∙_, subst}
 use mathlib.Core.Logic.{inl, inr}
-use mathlib.Core.Bool.{Bool, true, false, _&&_, _||_, cond, true≢false}
-use lib.IntN.{ℤ}
-use lib.Dec.{ltb}
-use lib.Ieee.{Float, nan, inf, fin, up, down, neg, lt}
+use mathlib.Core.Bool.{Bool, true, false, _&&_, cond, true≢false}
+use lib.Ieee.{Float, nan, inf, fin, down, neg, lt}
 use lib.Ieee.Fits.{down-pos}
 use borrow.Author.Tests.{ltb-true, ltb-false}
 use Rattle.laws.proofs.Both.{both, one-of}

@@ -1,6 +1,6 @@
 -- Worked examples, by computation: whole numbers and what is none, and where exactness ends.
 use Prim.Native.Nat.{_^_}
-use mathlib.Core.Path.{_≡_, refl}
+use mathlib.Core.Path.{refl}
 use native.Mathlib.Omega.{arith}
 use lib.Ieee.{Float, add, ofBits}
 use Rattle.scalar.specs.Float.{_⊕_, float, f0, f0·5, f1}

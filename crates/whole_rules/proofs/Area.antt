@@ -1,10 +1,10 @@
 -- Twice the area of a ring of whole coordinates: each term and each partial sum is exact, so that the float of the whole
 -- number is the float sum, bit for bit but for a zero's sign. Assumes nothing.
-use Prim.Native.Nat.{ℕ, zero, suc, _+_, _*_, _%_, _^_, _≤_, _<_}
+use Prim.Native.Nat.{ℕ, zero, suc, _+_, _*_, _%_, _≤_, _<_}
 use native.Mathlib.Omega.{arith}
 use native.Mathlib.Nat.{mul-le-mul, mod-self, mod-eq-of-lt}
 use native.Mathlib.Numerals.{add-one}
-use mathlib.Core.Path.{_≡_, refl, sym, ap, _∙_}
+use mathlib.Core.Path.{_≡_, refl, sym, ap}
 use mathlib.Core.Bool.{true}
 use mathlib.Core.List.{List}
 use lib.IntN.{ℤ, pos, negsuc}
@@ -12,7 +12,7 @@ use lib.Dec.{T}
 use lib.Ieee.{Float, binary64, ofBits, ofInt, eq, fits}
 use lib.Ieee.Fits.{ofInt-fits, add-fits}
 use lib.Ieee.Bits.{ofBits-fits}
-use Rattle.scalar.specs.Float.{_⊕_, _⊖_, _⊗_, f0}
+use Rattle.scalar.specs.Float.{_⊖_, _⊗_}
 use Rattle.plane.specs.declared.Point.{Point}
 use Rattle.ring.specs.Ring.{count, pointAt, nextOf}
 use Rattle.signed_area.specs.Area.{termOf, sumTo, area2Of}
