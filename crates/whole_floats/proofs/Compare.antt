@@ -1,22 +1,20 @@
 -- Comparisons of floats that are whole numbers are those of the numbers, and two floats of one number are equal, bit for
 -- bit but for a zero's sign. Assumes nothing.
-use Prim.Native.Nat.{ℕ, _+_, _-_, _*_, _<_}
+use Prim.Native.Nat.{ℕ, _+_, _-_, _*_, _≤_, _<_}
 use native.Mathlib.Omega.{arith}
-use native.Mathlib.Nat.{eq-of-mul-eq-mul-right, mul-lt-mul-of-pos-right, mul-pos}
+use native.Mathlib.Nat.{mul-lt-mul-of-pos-right}
 use mathlib.Core.Path.{_≡_, refl, sym, ap, _∙_}
-use mathlib.Core.Bool.{Bool, true, false, _&&_, and-true}
+use mathlib.Core.Bool.{Bool, true, false, _&&_, true≢false, and-true}
 use lib.IntN.{ℤ}
 use lib.Dec.{T, ltb, leb, eqb, lit<}
 use lib.Ieee.{Float, nan, inf, fin, Format, up, down, lt, le, eq, fits, ofBits}
 use lib.Ieee.Fits.{down-pos}
 use lib.Ieee.Exact.{HasValue}
-use lib.Ieee.Positive.{den}
 use lib.Ieee.Back.{whole-unique}
-use borrow.Author.Tests.{ltb-true, ltb-false, eqb-true, eqb-false, eq-eqb, ne-eqb}
-use Rattle.laws.proofs.Parts.{plus, less}
+use borrow.Author.Tests.{ltb-true, ltb-false, leb-true, leb-false, eqb-true, eq-eqb, ne-eqb}
 use Rattle.scalar.specs.Float.{f0}
 use Rattle.whole_floats.specs.Whole.{Whole}
-use Rattle.whole_floats.proofs.Fraction.{At, at-one, same-ltb, lt-at, le-at}
+use Rattle.whole_floats.proofs.Fraction.{at-one, same-ltb, lt-at, le-at}
 
 pub is-less : (x y : Float) (p q r s : ℕ) → Whole x p q → Whole y r s → lt x y ≡ ltb (p + s) (r + q)
 is-less x y p q r s h k =
@@ -41,77 +39,53 @@ below-zero x p q h = is-less x f0 p q 0 0 h refl ∙ same-ltb {a = p + 0} {b = 0
 
 -- ---- equality
 
-same-eqb : {a b c d : ℕ} → a ≡ c → b ≡ d → eqb a b ≡ eqb c d
-same-eqb h k = rw (h, k)
-
-turned : (a b : ℕ) → eqb a b ≡ eqb b a
-turned a b = by (eqb a b) refl
+-- of two numbers the larger is not above the other exactly if it is the other
+top : (a b : ℕ) → b ≤ a → leb a b ≡ eqb a b
+top a b l = by (leb a b) refl
   where
-    by : (t : Bool) → eqb a b ≡ t → t ≡ eqb b a
-    by true h = sym (eq-eqb b a (sym (eqb-true a b h)))
-    by false h = sym (ne-eqb b a (λ z. eqb-false a b h (sym z)))
+    by : (t : Bool) → leb a b ≡ t → t ≡ eqb a b
+    by true h = let g = leb-true a b h in sym (eq-eqb a b (omega arith))
+    by false h = let g = leb-false a b h in sym (ne-eqb a b (λ z. omega arith))
 
-no-sum : (a b : ℕ) → (eqb a b && eqb a 0) ≡ eqb (a + b) 0
-no-sum a b = by (eqb a b) (eqb a 0) refl refl
+-- what is less is not equal
+zeros : (a b : ℕ) → 0 < a + b → (eqb a b && eqb a 0) ≡ false
+zeros a b l = by (eqb a b) (eqb a 0) refl refl
   where
-    by : (t u : Bool) → eqb a b ≡ t → eqb a 0 ≡ u → (t && u) ≡ eqb (a + b) 0
-    by true true h k = let x = eqb-true a b h in let y = eqb-true a 0 k in sym (eq-eqb (a + b) 0 (omega arith))
-    by true false h k = sym (ne-eqb (a + b) 0 (λ z. eqb-false a 0 k (omega arith)))
-    by false u h k = sym (ne-eqb (a + b) 0 (λ z. eqb-false a b h (omega arith)))
+    by : (t u : Bool) → eqb a b ≡ t → eqb a 0 ≡ u → (t && u) ≡ false
+    by true true h k = let x = eqb-true a b h in let y = eqb-true a 0 k in absurd (omega arith)
+    by true false h k = refl
+    by false u h k = refl
 
-eq-parts : (s : Bool) (m : ℕ) (e : ℤ) (t : Bool) (n : ℕ) (d : ℤ) →
-    let x = fin s m e in
-    let y = fin t n d in
-    eq x y ≡ eqb (plus x * den y + less y * den x) (plus y * den x + less x * den y)
-unfolding eq
-eq-parts false m e false n d =
-    let h : m * up e * down d ≡ m * up e * down d + 0 * down e = omega arith in
-    let k : n * up d * down e ≡ n * up d * down e + 0 * down d = omega arith in
-    and-true (eqb (m * up e * down d) (n * up d * down e)) ∙ same-eqb h k
-eq-parts false m e true n d =
-    let h : m * up e * down d + n * up d * down e ≡ m * up e * down d + n * up d * down e = refl in
-    let k : 0 ≡ 0 * down e + 0 * down d = omega arith in
-    no-sum (m * up e * down d) (n * up d * down e) ∙ same-eqb h k
-eq-parts true m e false n d =
-    let h : m * up e * down d + n * up d * down e ≡ n * up d * down e + m * up e * down d = omega arith in
-    let k : 0 ≡ 0 * down d + 0 * down e = omega arith in
-    no-sum (m * up e * down d) (n * up d * down e) ∙ same-eqb h k ∙ turned (n * up d * down e + m * up e * down d) (0 * down d + 0 * down e)
-eq-parts true m e true n d =
-    let h : m * up e * down d ≡ 0 * down e + m * up e * down d = omega arith in
-    let k : n * up d * down e ≡ 0 * down d + n * up d * down e = omega arith in
-    and-true (eqb (m * up e * down d) (n * up d * down e)) ∙ same-eqb h k
-    ∙ turned (0 * down e + m * up e * down d) (0 * down d + n * up d * down e)
+unequal : (s : Bool) (m : ℕ) (e : ℤ) (t : Bool) (n : ℕ) (d : ℤ) → lt (fin s m e) (fin t n d) ≡ true → eq (fin s m e) (fin t n d) ≡ false
+unfolding lt eq
+unequal false m e false n d h =
+    let l = ltb-true (m * up e * down d) (n * up d * down e) h in
+    and-true (eqb (m * up e * down d) (n * up d * down e)) ∙ ne-eqb (m * up e * down d) (n * up d * down e) (λ z. omega arith)
+unequal false m e true n d h = absurd (true≢false (sym h))
+unequal true m e false n d h = zeros (m * up e * down d) (n * up d * down e) (ltb-true 0 (m * up e * down d + n * up d * down e) h)
+unequal true m e true n d h =
+    let l = ltb-true (n * up d * down e) (m * up e * down d) h in
+    and-true (eqb (m * up e * down d) (n * up d * down e)) ∙ ne-eqb (m * up e * down d) (n * up d * down e) (λ z. omega arith)
 
-crossed : (px lx dx py ly dy p q r s : ℕ) → px * 1 + q * dx ≡ lx * 1 + p * dx → py * 1 + s * dy ≡ ly * 1 + r * dy
-    → px * dy + ly * dx + (r + q) * (dx * dy) ≡ py * dx + lx * dy + (p + s) * (dx * dy)
-crossed px lx dx py ly dy p q r s h k =
-    let x = ap (λ (z : ℕ). z * dy) h in
-    let y = ap (λ (z : ℕ). z * dx) k in
-    omega arith
+less-unequal : (x y : Float) (p q r s : ℕ) → Whole x p q → Whole y r s → lt x y ≡ true → eq x y ≡ false
+less-unequal nan y p q r s h k l = absurd h
+less-unequal (inf t) y p q r s h k l = absurd h
+less-unequal (fin t m e) nan p q r s h k l = absurd k
+less-unequal (fin t m e) (inf u) p q r s h k l = absurd k
+less-unequal (fin t m e) (fin u n d) p q r s h k l = unequal t m e u n d l
 
-alike : (a b c d l : ℕ) → 0 < l → a + d * l ≡ b + c * l → eqb a b ≡ eqb c d
-alike a b c d l L h = by (eqb a b) (eqb c d) refl refl
-  where
-    by : (t u : Bool) → eqb a b ≡ t → eqb c d ≡ u → t ≡ u
-    by true true x y = refl
-    by false false x y = refl
-    by true false x y = absurd (eqb-false c d y (eq-of-mul-eq-mul-right l L c d (let z = eqb-true a b x in omega arith)))
-    by false true x y = absurd (eqb-false a b x (let z = ap (λ (i : ℕ). i * l) (eqb-true c d y) in omega arith))
-
-equal-at : (x y : Float) (p q r s : ℕ) → At x p q 1 → At y r s 1 → eq x y ≡ eqb (p + s) (r + q)
-equal-at nan y p q r s h k = absurd h
-equal-at (inf s) y p q r t h k = absurd h
-equal-at (fin s m e) nan p q r t h k = absurd k
-equal-at (fin s m e) (inf t) p q r u h k = absurd k
-equal-at (fin s m e) (fin t n d) p q r u h k =
-    let x = fin s m e in
-    let y = fin t n d in
-    eq-parts s m e t n d
-    ∙ alike (plus x * den y + less y * den x) (plus y * den x + less x * den y) (p + u) (r + q) (down e * down d) (mul-pos (down-pos e) (down-pos d))
-    (crossed (plus x) (less x) (down e) (plus y) (less y) (down d) p q r u h k)
-
+-- a value that is not less and not above another is equal to it
 pub is-equal : (x y : Float) (p q r s : ℕ) → Whole x p q → Whole y r s → eq x y ≡ eqb (p + s) (r + q)
-is-equal x y p q r s h k = equal-at x y p q r s (at-one x p q h) (at-one y r s k)
+unfolding le
+is-equal x y p q r s h k = by (lt x y) refl
+  where
+    by : (t : Bool) → lt x y ≡ t → eq x y ≡ eqb (p + s) (r + q)
+    by true l =
+        let g = ltb-true (p + s) (r + q) (sym (is-less x y p q r s h k) ∙ l) in
+        less-unequal x y p q r s h k l ∙ sym (ne-eqb (p + s) (r + q) (λ z. omega arith))
+    by false l =
+        let g = ltb-false (p + s) (r + q) (sym (is-less x y p q r s h k) ∙ l) in
+        rw l at (is-at-most x y p q r s h k) ∙ top (p + s) (r + q) g
 
 -- ---- one number
 
