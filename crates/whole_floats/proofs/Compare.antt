@@ -14,7 +14,7 @@ use lib.Ieee.Back.{whole-unique}
 use borrow.Author.Tests.{ltb-true, ltb-false, leb-true, leb-false, eqb-true, eq-eqb, ne-eqb}
 use Rattle.scalar.specs.Float.{f0}
 use Rattle.whole_floats.specs.Whole.{Whole}
-use Rattle.whole_floats.proofs.Fraction.{at-one, same-ltb, lt-at, le-at}
+use Rattle.whole_floats.proofs.Fraction.{at-one, agree, same-ltb, lt-at, le-at}
 
 pub is-less : (x y : Float) (p q r s : ℕ) → Whole x p q → Whole y r s → lt x y ≡ ltb (p + s) (r + q)
 is-less x y p q r s h k =
@@ -41,11 +41,10 @@ below-zero x p q h = is-less x f0 p q 0 0 h refl ∙ same-ltb {a = p + 0} {b = 0
 
 -- of two numbers the larger is not above the other exactly if it is the other
 top : (a b : ℕ) → b ≤ a → leb a b ≡ eqb a b
-top a b l = by (leb a b) refl
-  where
-    by : (t : Bool) → leb a b ≡ t → t ≡ eqb a b
-    by true h = let g = leb-true a b h in sym (eq-eqb a b (omega arith))
-    by false h = let g = leb-false a b h in sym (ne-eqb a b (λ z. omega arith))
+top a b l =
+    agree (leb a b) (eqb a b)
+    (λ h. let g = leb-true a b h in eq-eqb a b (omega arith))
+    (λ h. let g = leb-false a b h in ne-eqb a b (λ z. omega arith))
 
 -- what is less is not equal
 zeros : (a b : ℕ) → 0 < a + b → (eqb a b && eqb a 0) ≡ false

@@ -3,19 +3,20 @@
 -- Assumes nothing.
 use Prim.Native.Nat.{ℕ, _+_, _-_, _*_, _^_, _≤_, _<_}
 use native.Mathlib.Omega.{arith}
-use native.Mathlib.Nat.{le-of-mul-le-mul-right, mul-le-mul-right, mul-lt-mul-of-pos-right, mul-assoc, pow-suc, lt-of-lt-of-le}
+use native.Mathlib.Nat.{le-of-mul-le-mul-right, lt-of-mul-lt-mul-right, mul-le-mul-right, mul-lt-mul-of-pos-right, mul-assoc, pow-suc, lt-of-lt-of-le}
 use mathlib.Core.Path.{_≡_, refl, sym, ap, _∙_, subst}
 use mathlib.Core.Bool.{Bool, true, false, not, true≢false}
 use lib.IntN.{ℤ}
-use lib.Dec.{T, ltb, leb, lit≤, lit<}
+use lib.Dec.{ltb, leb, not-T, lit≤, lit<}
 use lib.Pow.{shl-lt, pow-mono}
 use lib.Ieee.{Float, nan, inf, fin, up, down, binary64, round, lt, le}
 use lib.Ieee.Fits.{down-pos}
+use lib.Ieee.Bits.{is-true, is-false}
 use lib.Ieee.Exact.{HasValue, round-exact}
 use lib.Ieee.Back.{round-whole}
 use lib.Ieee.Scale.{round-same}
 use lib.Ieee.Positive.{den}
-use borrow.Author.Tests.{ltb-true, ltb-false, lt-leb, le-leb, le-ltb}
+use borrow.Author.Tests.{ltb-true, ltb-false, not-true, not-false, lt-ltb, le-ltb, lt-leb, le-leb}
 use Rattle.laws.proofs.Parts.{plus, less}
 use Rattle.laws.proofs.Order.{not-above, clash}
 use Rattle.laws.proofs.Rounding.{Rounds, upward, downward}
@@ -42,6 +43,11 @@ of-one (fin true m e) p q h = omega (arith, h)
 
 -- ---- the order
 
+-- two tests that pass and fail together
+pub agree : (a b : Bool) → (a ≡ true → b ≡ true) → (a ≡ false → b ≡ false) → a ≡ b
+agree true b t f = sym (t refl)
+agree false b t f = sym (f refl)
+
 pub same-ltb : {a b c d : ℕ} → a ≡ c → b ≡ d → ltb a b ≡ ltb c d
 same-ltb h k = rw (h, k)
 
@@ -65,24 +71,11 @@ lt-parts true m e true n d =
     same-ltb h k
 
 -- two differences of the same sign: (a - b) * k is (c - d) * l
-less-too : (a b c d k l : ℕ) → 0 < k → 0 < l → a * k + d * l ≡ b * k + c * l → a < b → c < d
-less-too a b c d k l K L h u = by (ltb c d) refl
-  where
-    by : (t : Bool) → ltb c d ≡ t → c < d
-    by true g = ltb-true c d g
-    by false g =
-        let x = mul-lt-mul-of-pos-right u K in
-        let y = mul-le-mul-right l (ltb-false c d g) in
-        absurd (omega arith)
-
 pub alike : (a b c d k l : ℕ) → 0 < k → 0 < l → a * k + d * l ≡ b * k + c * l → ltb a b ≡ ltb c d
-alike a b c d k l K L h = by (ltb a b) (ltb c d) refl refl
-  where
-    by : (t u : Bool) → ltb a b ≡ t → ltb c d ≡ u → t ≡ u
-    by true true x y = refl
-    by false false x y = refl
-    by true false x y = let g = less-too a b c d k l K L h (ltb-true a b x) in let z = ltb-false c d y in absurd (omega arith)
-    by false true x y = let g = less-too c d a b l k L K (omega (arith, h)) (ltb-true c d y) in let z = ltb-false a b x in absurd (omega arith)
+alike a b c d k l K L h =
+    agree (ltb a b) (ltb c d)
+    (λ t. lt-ltb c d (lt-of-mul-lt-mul-right l (let u = mul-lt-mul-of-pos-right (ltb-true a b t) K in omega arith)))
+    (λ f. le-ltb c d (le-of-mul-le-mul-right {k = l} (let u = mul-le-mul-right k (ltb-false a b f) in omega arith) L))
 
 -- one of two values by its fraction in the place of its parts
 crossed : (px lx dx p q c y z d : ℕ) → 0 < c → 0 < dx → px * c + q * dx ≡ lx * c + p * dx
@@ -110,27 +103,19 @@ lt-at (fin s m e) (fin t n i) p q c r u d C D h k =
     ∙ exchanged (plus y) (less y) (down i) r u d p q c D (down-pos i) k
 
 -- among finite values one that is not above another is what the other is not less than
-not-less : (s : Bool) (m : ℕ) (e : ℤ) (t : Bool) (n : ℕ) (d : ℤ) → le (fin s m e) (fin t n d) ≡ not (lt (fin t n d) (fin s m e))
-not-less s m e t n d = by (lt y x) (le x y) refl refl
-  where
-    x : Float
-    x = fin s m e
-
-    y : Float
-    y = fin t n d
-
-    by : (a b : Bool) → lt y x ≡ a → le x y ≡ b → b ≡ not a
-    by true true g h = absurd (clash y x g (subst T (sym h) tt))
-    by true false g h = refl
-    by false true g h = refl
-    by false false g h = absurd (subst T h (not-above t n d s m e g))
+not-less : (s : Bool) (m : ℕ) (e : ℤ) (t : Bool) (n : ℕ) (d : ℤ) → not (lt (fin t n d) (fin s m e)) ≡ le (fin s m e) (fin t n d)
+not-less s m e t n d =
+    let x = fin s m e in
+    let y = fin t n d in
+    agree (not (lt y x)) (le x y)
+    (λ h. is-true (le x y) (not-above t n d s m e (not-true (lt y x) h)))
+    (λ h. is-false (le x y) (not-T (le x y) (clash y x (not-false (lt y x) h))))
 
 pub not-ltb : (a b : ℕ) → not (ltb a b) ≡ leb b a
-not-ltb a b = by (ltb a b) refl
-  where
-    by : (t : Bool) → ltb a b ≡ t → not t ≡ leb b a
-    by true h = sym (lt-leb b a (ltb-true a b h))
-    by false h = sym (le-leb b a (ltb-false a b h))
+not-ltb a b =
+    agree (not (ltb a b)) (leb b a)
+    (λ h. le-leb b a (ltb-false a b (not-true (ltb a b) h)))
+    (λ h. lt-leb b a (ltb-true a b (not-false (ltb a b) h)))
 
 pub le-at : (x y : Float) (p q c r s d : ℕ) → 0 < c → 0 < d → At x p q c → At y r s d → le x y ≡ leb (p * d + s * c) (r * c + q * d)
 le-at nan y p q c r s d C D h k = absurd h
@@ -138,7 +123,7 @@ le-at (inf s) y p q c r t d C D h k = absurd h
 le-at (fin s m e) nan p q c r t d C D h k = absurd k
 le-at (fin s m e) (inf t) p q c r u d C D h k = absurd k
 le-at (fin s m e) (fin t n i) p q c r u d C D h k =
-    not-less s m e t n i
+    sym (not-less s m e t n i)
     ∙ ap not (lt-at (fin t n i) (fin s m e) r u d p q c D C k h)
     ∙ not-ltb (r * c + q * d) (p * d + u * c)
 
@@ -154,7 +139,8 @@ wholes-kept s u c w C h l = subst (λ (x : Float). HasValue x s w 1) (sym (round
 pub halves-kept : Kept 2 (2 ^ 52)
 halves-kept s u c w C h l =
     subst (λ (x : Float). HasValue x s w 2) (sym (round-same binary64 s u c w 2 C (lit< tt) h))
-    (round-exact binary64 s w 2 w 1073 (lit< tt) (small l) (lt-of-lt-of-le (shl-lt 53 1073 (small l)) (pow-mono {i = 53 + 1073} {j = 1074 + 1024} (lit≤ tt))) (twice w))
+    (round-exact binary64 s w 2 w 1073 (lit< tt) (small l)
+    (lt-of-lt-of-le (shl-lt 53 1073 (small l)) (pow-mono {i = 53 + 1073} {j = 1074 + 1024} (lit≤ tt))) (twice w))
   where
     small : w ≤ 2 ^ 52 → w < 2 ^ 53
     small k = omega (arith, k)

@@ -2,10 +2,11 @@
 -- the number and the half beside it, since rounding keeps the order. Assumes nothing.
 use Prim.Native.Nat.{ℕ, _+_, _-_, _*_, _^_, _≤_, _<_, min, max}
 use native.Mathlib.Omega.{arith}
-use native.Mathlib.Nat.{mul-pos, mul-le-mul-right}
+use native.Mathlib.Nat.{mul-pos, mul-le-mul-right, lt-of-not-le}
 use mathlib.Core.Path.{_≡_, refl, sym, ap, _∙_, subst}
 use mathlib.Core.Bool.{Bool, true, false, cond}
-use lib.Dec.{T, ltb, leb, eqb, lit<}
+use lib.Dec.{T, ltb, leb, eqb, not-T, lit<}
+use lib.Ieee.Bits.{is-true, is-false}
 use lib.Ieee.{Float, nan, inf, fin, up, down, binary64, round, sub, neg, lt, le}
 use lib.Ieee.Fits.{down-pos}
 use borrow.Author.Tests.{ltb-true, ltb-false, leb-true, leb-false, eqb-true, eqb-false, lt-ltb, le-ltb, le-leb}
@@ -15,7 +16,7 @@ use Rattle.laws.proofs.Rounding.{Rounds, upward, downward, rounds-mono, finite-
 use Rattle.scalar.specs.Float.{_⊕_, _⊖_}
 use Rattle.scalar.specs.Scalar.{absOf}
 use Rattle.whole_floats.specs.Whole.{Whole}
-use Rattle.whole_floats.proofs.Fraction.{At, at-one, of-one, lt-at, same-ltb, wholes-kept, halves-kept, rounds-at}
+use Rattle.whole_floats.proofs.Fraction.{At, at-one, of-one, agree, lt-at, same-ltb, wholes-kept, halves-kept, rounds-at}
 use Rattle.whole_floats.proofs.Compare.{is-at-most}
 use Rattle.whole_floats.proofs.Picked.{absolute}
 
@@ -28,12 +29,14 @@ Slight (fin false m e) = (0 < m * up e) × (2 * (m * up e) ≤ down e)
 
 -- ---- a whole number against the margin itself
 
-over : (g d p q : ℕ) → 0 < g → 2 * g ≤ d → ltb (g * 1 + q * d) (p * d + 0 * 1) ≡ ltb q p
-over g d p q G H = by (ltb q p) refl
+over : (g d p q : ℕ) → 0 < g → 2 * g ≤ d → ltb q p ≡ ltb (g * 1 + q * d) (p * d + 0 * 1)
+over g d p q G H =
+    agree (ltb q p) (ltb (g * 1 + q * d) (p * d + 0 * 1))
+    (λ h. lt-ltb (g * 1 + q * d) (p * d + 0 * 1) (let k = mul-le-mul-right d (next h) in omega arith))
+    (λ h. le-ltb (g * 1 + q * d) (p * d + 0 * 1) (let k = mul-le-mul-right d (ltb-false q p h) in omega arith))
   where
-    by : (t : Bool) → ltb q p ≡ t → ltb (g * 1 + q * d) (p * d + 0 * 1) ≡ t
-    by true l = let k : (q + 1) * d ≤ p * d = mul-le-mul-right d (let z = ltb-true q p l in omega arith) in lt-ltb (g * 1 + q * d) (p * d + 0 * 1) (omega arith)
-    by false l = let k = mul-le-mul-right d (ltb-false q p l) in le-ltb (g * 1 + q * d) (p * d + 0 * 1) (omega arith)
+    next : ltb q p ≡ true → q + 1 ≤ p
+    next h = let l = ltb-true q p h in omega arith
 
 pub above-margin : (g x : Float) (p q : ℕ) → Slight g → Whole x p q → lt g x ≡ ltb q p
 above-margin nan x p q G h = absurd G
@@ -41,7 +44,7 @@ above-margin (inf s) x p q G h = absurd G
 above-margin (fin true m e) x p q G h = absurd G
 above-margin (fin false m e) x p q G h =
     lt-at (fin false m e) x (m * up e) 0 (down e) p q 1 (down-pos e) (lit< tt) (omega arith) (at-one x p q h)
-    ∙ over (m * up e) (down e) p q (G .0) (G .1)
+    ∙ sym (over (m * up e) (down e) p q (G .0) (G .1))
 
 pub below-margin : (g x : Float) (p q : ℕ) → Slight g → Whole x p q → lt x (neg g) ≡ ltb p q
 unfolding neg
@@ -53,28 +56,20 @@ below-margin (fin false m e) x p q G h =
     let b : 0 * 1 + q * down e ≡ q * down e + 0 * 1 = omega arith in
     lt-at x (fin true m e) p q 1 0 (m * up e) (down e) (lit< tt) (down-pos e) (at-one x p q h) (omega arith)
     ∙ same-ltb a b
-    ∙ over (m * up e) (down e) q p (G .0) (G .1)
-
-apart : (p q : ℕ) → (p ≡ q → ⊥) → min p q + 1 ≤ max p q
-apart p q n = by (ltb p q) (ltb q p) refl refl
-  where
-    by : (t u : Bool) → ltb p q ≡ t → ltb q p ≡ u → min p q + 1 ≤ max p q
-    by true u a b = let l = ltb-true p q a in omega arith
-    by false true a b = let l = ltb-true q p b in omega arith
-    by false false a b = absurd (n (let l = ltb-false p q a in let g = ltb-false q p b in omega arith))
+    ∙ sym (over (m * up e) (down e) q p (G .0) (G .1))
 
 -- a magnitude below the margin is none
-within : (g d p q : ℕ) → 0 < g → 2 * g ≤ d → ltb (max p q * d + 0 * 1) (g * 1 + min p q * d) ≡ eqb p q
-within g d p q G H = by (eqb p q) refl
+apart : (p q : ℕ) → (p ≡ q → ⊥) → min p q + 1 ≤ max p q
+apart p q n = let l : min p q < max p q = lt-of-not-le (λ (g : max p q ≤ min p q). n (omega arith)) in omega arith
+
+within : (g d p q : ℕ) → 0 < g → 2 * g ≤ d → eqb p q ≡ ltb (max p q * d + 0 * 1) (g * 1 + min p q * d)
+within g d p q G H =
+    agree (eqb p q) (ltb (max p q * d + 0 * 1) (g * 1 + min p q * d))
+    (λ h. lt-ltb (max p q * d + 0 * 1) (g * 1 + min p q * d) (let k = ap (λ (z : ℕ). z * d) (level h) in omega arith))
+    (λ h. le-ltb (max p q * d + 0 * 1) (g * 1 + min p q * d) (let k = mul-le-mul-right d (apart p q (eqb-false p q h)) in omega arith))
   where
-    by : (t : Bool) → eqb p q ≡ t → ltb (max p q * d + 0 * 1) (g * 1 + min p q * d) ≡ t
-    by true e =
-        let k : max p q * d ≡ min p q * d = ap (λ (z : ℕ). z * d) (let z = eqb-true p q e in omega arith) in
-        lt-ltb (max p q * d + 0 * 1) (g * 1 + min p q * d) (omega arith)
-    by false e =
-        let l : min p q + 1 ≤ max p q = apart p q (eqb-false p q e) in
-        let k : (min p q + 1) * d ≤ max p q * d = mul-le-mul-right d l in
-        le-ltb (max p q * d + 0 * 1) (g * 1 + min p q * d) (omega arith)
+    level : eqb p q ≡ true → max p q ≡ min p q
+    level h = let z = eqb-true p q h in omega arith
 
 pub slight-magnitude : (g x : Float) (p q : ℕ) → Slight g → Whole x p q → lt (absOf x) g ≡ eqb p q
 slight-magnitude nan x p q G h = absurd G
@@ -83,7 +78,7 @@ slight-magnitude (fin true m e) x p q G h = absurd G
 slight-magnitude (fin false m e) x p q G h =
     lt-at (absOf x) (fin false m e) (max p q) (min p q) 1 (m * up e) 0 (down e) (lit< tt) (down-pos e)
     (at-one (absOf x) (max p q) (min p q) (absolute x p q h)) (omega arith)
-    ∙ within (m * up e) (down e) p q (G .0) (G .1)
+    ∙ sym (within (m * up e) (down e) p q (G .0) (G .1))
 
 -- ---- a whole number less the margin, and with the margin added
 
@@ -123,14 +118,11 @@ module _ (z y : Float) (a b c : ℕ) (C : 0 < c) (R : Rounds binary64 z a b c) (
       ∙ lt-ltb (r * 2 + (2 * q + 1) * 1) (2 * p * 1 + s * 2) (omega arith) in
       clash y z (lt-le y H z t (rounds-mono binary64 (lit< tt) C (rounded-is (2 * p) (2 * q + 1) 2) R l)) g
 
-  just-below : NotAbove a b c p q 1 → NotAbove (2 * p) (2 * q + 1) 2 a b c → le z y ≡ leb (p + s) (r + q)
-  just-below l m = by (le z y) (leb (p + s) (r + q)) refl refl
-    where
-      by : (t w : Bool) → le z y ≡ t → leb (p + s) (r + q) ≡ w → t ≡ w
-      by true true e f = refl
-      by false false e f = refl
-      by true false e f = absurd (more m (leb-false (p + s) (r + q) f) (subst T (sym e) tt))
-      by false true e f = absurd (subst T e (not-more l (leb-true (p + s) (r + q) f)))
+  just-below : NotAbove a b c p q 1 → NotAbove (2 * p) (2 * q + 1) 2 a b c → leb (p + s) (r + q) ≡ le z y
+  just-below l m =
+      agree (leb (p + s) (r + q)) (le z y)
+      (λ e. is-true (le z y) (not-more l (leb-true (p + s) (r + q) e)))
+      (λ e. is-false (le z y) (not-T (le z y) (more m (leb-false (p + s) (r + q) e))))
 
   not-less : NotAbove p q 1 a b c → r + q ≤ p + s → T (le y z)
   not-less l k =
@@ -147,14 +139,11 @@ module _ (z y : Float) (a b c : ℕ) (C : 0 < c) (R : Rounds binary64 z a b c) (
       ∙ lt-ltb ((2 * p + 1) * 1 + s * 2) (r * 2 + 2 * q * 1) (omega arith) in
       clash z y (le-lt z H y (rounds-mono binary64 C (lit< tt) R (rounded-is (2 * p + 1) (2 * q) 2) l) t) g
 
-  just-above : NotAbove p q 1 a b c → NotAbove a b c (2 * p + 1) (2 * q) 2 → le y z ≡ leb (r + q) (p + s)
-  just-above l m = by (le y z) (leb (r + q) (p + s)) refl refl
-    where
-      by : (t w : Bool) → le y z ≡ t → leb (r + q) (p + s) ≡ w → t ≡ w
-      by true true e f = refl
-      by false false e f = refl
-      by true false e f = absurd (fewer m (leb-false (r + q) (p + s) f) (subst T (sym e) tt))
-      by false true e f = absurd (subst T e (not-less l (leb-true (r + q) (p + s) f)))
+  just-above : NotAbove p q 1 a b c → NotAbove a b c (2 * p + 1) (2 * q) 2 → leb (r + q) (p + s) ≡ le y z
+  just-above l m =
+      agree (leb (r + q) (p + s)) (le y z)
+      (λ e. is-true (le y z) (not-less l (leb-true (r + q) (p + s) e)))
+      (λ e. is-false (le y z) (not-T (le y z) (fewer m (leb-false (r + q) (p + s) e))))
 
 -- the number less a margin of g / d
 taken : (px lx dx p q g d : ℕ) → px * 1 + q * dx ≡ lx * 1 + p * dx → NotAbove (px * d + 0 * dx) (lx * d + g * dx) (dx * d) p q 1
@@ -175,9 +164,10 @@ less-margin (fin false n d) (inf t) y p q r s G h k u v = absurd h
 less-margin (fin false n d) (fin t m e) y p q r s G h k u v =
     let x = fin t m e in
     let i = at-one x p q h in
-    just-below (x ⊖ fin false n d) y (plus x * down d + 0 * down e) (less x * down d + n * up d * down e) (down e * down d)
+    sym
+    (just-below (x ⊖ fin false n d) y (plus x * down d + 0 * down e) (less x * down d + n * up d * down e) (down e * down d)
     (mul-pos (down-pos e) (down-pos d)) (finite-sum binary64 t m e true n d) p q r s k u v
-    (taken (plus x) (less x) (down e) p q (n * up d) (down d) i) (taken-half (plus x) (less x) (down e) p q (n * up d) (down d) (G .1) i)
+    (taken (plus x) (less x) (down e) p q (n * up d) (down d) i) (taken-half (plus x) (less x) (down e) p q (n * up d) (down d) (G .1) i))
 
 -- the number with the margin added
 given : (px lx dx p q g d : ℕ) → px * 1 + q * dx ≡ lx * 1 + p * dx → NotAbove p q 1 (px * d + g * dx) (lx * d + 0 * dx) (dx * d)
@@ -197,6 +187,7 @@ more-margin (fin false n d) (inf t) y p q r s G h k u v = absurd h
 more-margin (fin false n d) (fin t m e) y p q r s G h k u v =
     let x = fin t m e in
     let i = at-one x p q h in
-    just-above (x ⊕ fin false n d) y (plus x * down d + n * up d * down e) (less x * down d + 0 * down e) (down e * down d)
+    sym
+    (just-above (x ⊕ fin false n d) y (plus x * down d + n * up d * down e) (less x * down d + 0 * down e) (down e * down d)
     (mul-pos (down-pos e) (down-pos d)) (finite-sum binary64 t m e false n d) p q r s k u v
-    (given (plus x) (less x) (down e) p q (n * up d) (down d) i) (given-half (plus x) (less x) (down e) p q (n * up d) (down d) (G .1) i)
+    (given (plus x) (less x) (down e) p q (n * up d) (down d) i) (given-half (plus x) (less x) (down e) p q (n * up d) (down d) (G .1) i))

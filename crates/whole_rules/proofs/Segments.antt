@@ -14,6 +14,7 @@ use Rattle.plane.specs.Vector.{minusOf, crossOf, turnOf}
 use Rattle.plane.specs.declared.Point.{Point}
 use Rattle.segments.specs.Segments.{eps, signOf, orientationOf, betweenOf, onSegmentOf, touchesOf, intersectOf}
 use Rattle.whole_floats.specs.Whole.{Whole}
+use Rattle.whole_floats.proofs.Fraction.{agree}
 use Rattle.whole_floats.proofs.Exact.{whole-same, difference, product}
 use Rattle.whole_floats.proofs.Compare.{above-zero, below-zero}
 use Rattle.whole_floats.proofs.Picked.{smaller, larger}
@@ -89,12 +90,11 @@ orientation a b c A B C P Q R = sign (turnOf a b c) (leftOf A B C) (rightOf A B 
 
 -- ---- the box
 
-shifted : (a b : ℕ) → leb (a + 1000000) (b + 1000000) ≡ leb a b
-shifted a b = by (leb a b) refl
-  where
-    by : (t : Bool) → leb a b ≡ t → leb (a + 1000000) (b + 1000000) ≡ t
-    by true h = le-leb (a + 1000000) (b + 1000000) (let l = leb-true a b h in omega arith)
-    by false h = lt-leb (a + 1000000) (b + 1000000) (let l = leb-false a b h in omega arith)
+shifted : (a b : ℕ) → leb a b ≡ leb (a + 1000000) (b + 1000000)
+shifted a b =
+    agree (leb a b) (leb (a + 1000000) (b + 1000000))
+    (λ h. le-leb (a + 1000000) (b + 1000000) (let l = leb-true a b h in omega arith))
+    (λ h. lt-leb (a + 1000000) (b + 1000000) (let l = leb-false a b h in omega arith))
 
 between : (x y z : Float) (X Y Z : ℕ) → Whole x X 1000000 → Whole y Y 1000000 → Whole z Z 1000000 → X ≤ 2000000 → Y ≤ 2000000
     → betweenOf x y z ≡ wholeBetween X Y Z
@@ -102,7 +102,7 @@ unfolding betweenOf
 between x y z X Y Z h k g a b =
     let l = less-margin eps (smallerOf x y) z (min X Y) 1000000 Z 1000000 eps-slight (smaller x y X 1000000 Y h k) g (omega arith) (omega arith) in
     let m = more-margin eps (largerOf x y) z (max X Y) 1000000 Z 1000000 eps-slight (larger x y X 1000000 Y h k) g (omega arith) (omega arith) in
-    rw (l, m, shifted (min X Y) Z, shifted Z (max X Y))
+    rw (l, m, ← shifted (min X Y) Z, ← shifted Z (max X Y))
 
 pub onSegment : (a b p : Point) (A B C : Spot) → Placed a A → Placed b B → Placed p C → onSegmentOf a b p ≡ wholeOnSegment A B C
 unfolding onSegmentOf wholeOnSegment
