@@ -41,21 +41,24 @@ sum-parts px lx dx py ly dy p q r s h k =
     let y = ap (λ (z : ℕ). z * dx) k in
     omega arith
 
-finite-whole : (x y : Float) (p q r s : ℕ) → At x p q 1 → At y r s 1 → p + r ≤ q + s + 2 ^ 53 → q + s ≤ p + r + 2 ^ 53 → At (x ⊕ y) (p + r) (q + s) 1
-finite-whole nan y p q r s h k a b = absurd h
-finite-whole (inf s) y p q r t h k a b = absurd h
-finite-whole (fin s m e) nan p q r t h k a b = absurd k
-finite-whole (fin s m e) (inf t) p q r u h k a b = absurd k
-finite-whole (fin s m e) (fin t n d) p q r u h k a b =
+sum-whole : (x y : Float) (p q r s : ℕ) → At x p q 1 → At y r s 1
+    → p + r ≤ q + s + 2 ^ 53 → q + s ≤ p + r + 2 ^ 53 → At (x ⊕ y) (p + r) (q + s) 1
+sum-whole nan y p q r s h k a b = absurd h
+sum-whole (inf s) y p q r t h k a b = absurd h
+sum-whole (fin s m e) nan p q r t h k a b = absurd k
+sum-whole (fin s m e) (inf t) p q r u h k a b = absurd k
+sum-whole (fin s m e) (fin t n d) p q r u h k a b =
     let x = fin s m e in
     let y = fin t n d in
     rounds-at 1 (2 ^ 53) wholes-kept (p + r) (q + u) (mul-pos (down-pos e) (down-pos d)) (finite-sum binary64 s m e t n d)
     (sum-parts (plus x) (less x) (down e) (plus y) (less y) (down d) p q r u h k) a b
 
-pub sum : (x y : Float) (p q r s : ℕ) → Whole x p q → Whole y r s → p + r ≤ q + s + 2 ^ 53 → q + s ≤ p + r + 2 ^ 53 → Whole (x ⊕ y) (p + r) (q + s)
-sum x y p q r s h k a b = of-one (x ⊕ y) (p + r) (q + s) (finite-whole x y p q r s (at-one x p q h) (at-one y r s k) a b)
+pub sum : (x y : Float) (p q r s : ℕ) → Whole x p q → Whole y r s
+    → p + r ≤ q + s + 2 ^ 53 → q + s ≤ p + r + 2 ^ 53 → Whole (x ⊕ y) (p + r) (q + s)
+sum x y p q r s h k a b = of-one (x ⊕ y) (p + r) (q + s) (sum-whole x y p q r s (at-one x p q h) (at-one y r s k) a b)
 
-pub difference : (x y : Float) (p q r s : ℕ) → Whole x p q → Whole y r s → p + s ≤ q + r + 2 ^ 53 → q + r ≤ p + s + 2 ^ 53 → Whole (x ⊖ y) (p + s) (q + r)
+pub difference : (x y : Float) (p q r s : ℕ) → Whole x p q → Whole y r s
+    → p + s ≤ q + r + 2 ^ 53 → q + r ≤ p + s + 2 ^ 53 → Whole (x ⊖ y) (p + s) (q + r)
 unfolding sub
 difference x y p q r s h k a b = sum x (neg y) p q s r h (negated y r s k) a b
 

@@ -134,7 +134,8 @@ abbrev pub Kept : ℕ → ℕ → Type 0
 Kept D B = (s : Bool) (u c w : ℕ) → 0 < c → u * D ≡ w * c → w ≤ B → HasValue (round binary64 s u c) s w D
 
 pub wholes-kept : Kept 1 (2 ^ 53)
-wholes-kept s u c w C h l = subst (λ (x : Float). HasValue x s w 1) (sym (round-same binary64 s u c w 1 C (lit< tt) h)) (round-whole binary64 s w l)
+wholes-kept s u c w C h l =
+    subst (λ (x : Float). HasValue x s w 1) (sym (round-same binary64 s u c w 1 C (lit< tt) h)) (round-whole binary64 s w l)
 
 pub halves-kept : Kept 2 (2 ^ 52)
 halves-kept s u c w C h l =

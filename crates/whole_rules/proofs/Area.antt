@@ -20,7 +20,7 @@ use Rattle.whole_floats.specs.Whole.{Whole, Difference}
 use Rattle.whole_floats.proofs.Exact.{whole-same, sum, of-integer}
 use Rattle.whole_floats.proofs.Compare.{same-number, same-bits}
 use Rattle.whole_rules.specs.Spots.{Spot, Placed, PlacedRing}
-use Rattle.whole_rules.specs.Area.{leftTo, rightTo}
+use Rattle.whole_rules.specs.Area.{leftTo, rightTo, WholeArea2}
 use Rattle.whole_rules.proofs.Placed.{next-placed}
 use Rattle.whole_rules.proofs.Segments.{times, sum-bound, less}
 
@@ -148,8 +148,7 @@ module _ (r : List Float) (at : ℕ → Spot) (P : PlacedRing r at) (few : count
 
   -- ---- an integer that is twice the area
 
-  integer : (z : ℤ) → Difference z (leftTo at (count r) (count r)) (rightTo at (count r) (count r))
-      → Whole (ofInt binary64 z) (leftTo at (count r) (count r)) (rightTo at (count r) (count r))
+  integer : (z : ℤ) → WholeArea2 at (count r) z → Whole (ofInt binary64 z) (leftTo at (count r) (count r)) (rightTo at (count r) (count r))
   unfolding leftSum rightSum
   integer z h =
       let n = count r in
@@ -157,17 +156,19 @@ module _ (r : List Float) (at : ℕ → Spot) (P : PlacedRing r at) (few : count
       let m = right-bound n (omega arith) in
       of-integer z (leftTo at n n) (rightTo at n n) h (omega arith) (omega arith)
 
-  pub area-number : (z : ℤ) → Difference z (leftTo at (count r) (count r)) (rightTo at (count r) (count r)) → eq (ofInt binary64 z) (area2Of r) ≡ true
-  area-number z h = same-number (ofInt binary64 z) (area2Of r) (leftTo at (count r) (count r)) (rightTo at (count r) (count r)) (integer z h) area
+  pub area-number : (z : ℤ) → WholeArea2 at (count r) z → eq (ofInt binary64 z) (area2Of r) ≡ true
+  area-number z h =
+      let n = count r in
+      same-number (ofInt binary64 z) (area2Of r) (leftTo at n n) (rightTo at n n) (integer z h) area
 
   sum-fits : (k : ℕ) → T (fits binary64 (sumTo r k))
   unfolding sumTo
   sum-fits zero = ofBits-fits binary64 0
   sum-fits (suc k) = add-fits binary64 (sumTo r k) (termOf r k)
 
-  pub area-bits : (z : ℤ) → Difference z (leftTo at (count r) (count r)) (rightTo at (count r) (count r)) → (z ≡ pos 0 → ⊥)
-      → ofInt binary64 z ≡ area2Of r
+  pub area-bits : (z : ℤ) → WholeArea2 at (count r) z → (z ≡ pos 0 → ⊥) → ofInt binary64 z ≡ area2Of r
   unfolding area2Of
-  area-bits z h n =
-      same-bits binary64 (ofInt binary64 z) (area2Of r) (leftTo at (count r) (count r)) (rightTo at (count r) (count r))
-      (ofInt-fits binary64 z) (sum-fits (count r)) (integer z h) area (λ e. n (none z (leftTo at (count r) (count r)) (rightTo at (count r) (count r)) h e))
+  area-bits z h some =
+      let n = count r in
+      same-bits binary64 (ofInt binary64 z) (area2Of r) (leftTo at n n) (rightTo at n n)
+      (ofInt-fits binary64 z) (sum-fits n) (integer z h) area (λ e. some (none z (leftTo at n n) (rightTo at n n) h e))

@@ -2,8 +2,8 @@
 use Prim.Native.Nat.{ℕ, _+_, _*_, _≤_, _<_, min, max}
 use native.Mathlib.Omega.{arith}
 use native.Mathlib.Nat.{mul-le-mul}
-use mathlib.Core.Path.{_≡_, refl}
-use mathlib.Core.Bool.{Bool, true, false, cond}
+use mathlib.Core.Path.{_≡_}
+use mathlib.Core.Bool.{cond}
 use lib.Dec.{ltb, leb, lit<, lit≤}
 use lib.IntN.{ℤ, pos, negsuc}
 use lib.Ieee.{Float, ofBits, lt}
@@ -43,12 +43,13 @@ pub sum-bound : {p q r s : ℕ} → p ≤ 2000000 → r ≤ 2000000 → q ≤ 20
 sum-bound a b c d = let x = mul-le-mul a b in let y = mul-le-mul c d in omega arith
 
 -- a difference of two such products
-pub less : (x y : Float) (p q r s : ℕ) → Whole x p q → Whole y r s → p ≤ 8000000000000 → q ≤ 8000000000000 → r ≤ 8000000000000 → s ≤ 8000000000000
-    → Whole (x ⊖ y) (p + s) (q + r)
+pub less : (x y : Float) (p q r s : ℕ) → Whole x p q → Whole y r s
+    → p ≤ 8000000000000 → q ≤ 8000000000000 → r ≤ 8000000000000 → s ≤ 8000000000000 → Whole (x ⊖ y) (p + s) (q + r)
 less x y p q r s h k a b c d = difference x y p q r s h k (omega arith) (omega arith)
 
 products : (ax ay bx bY cx cy : ℕ)
-    → bx * cy + ax * ay + (bY * ax + ay * cx) + (ax * cy + bY * cx + bx * ay) ≡ bx * cy + ay * cx + ax * bY + (bx * ay + ax * cy + (bY * cx + ay * ax))
+    → bx * cy + ax * ay + (bY * ax + ay * cx) + (ax * cy + bY * cx + bx * ay)
+    ≡ bx * cy + ay * cx + ax * bY + (bx * ay + ax * cy + (bY * cx + ay * ax))
 products ax ay bx bY cx cy = omega arith
 
 pub turn : (a b c : Point) (A B C : Spot) → Placed a A → Placed b B → Placed c C → Whole (turnOf a b c) (leftOf A B C) (rightOf A B C)
@@ -67,10 +68,12 @@ turn a b c A B C P Q R =
     (sum-bound (Q .height) (R .width) (P .height) (P .width)) (sum-bound (Q .height) (P .width) (P .height) (R .width)))
 
 -- which side of 0.0 it is
-pub turns-left : (a b c : Point) (A B C : Spot) → Placed a A → Placed b B → Placed c C → lt f0 (turnOf a b c) ≡ ltb (rightOf A B C) (leftOf A B C)
+pub turns-left : (a b c : Point) (A B C : Spot) → Placed a A → Placed b B → Placed c C
+    → lt f0 (turnOf a b c) ≡ ltb (rightOf A B C) (leftOf A B C)
 turns-left a b c A B C P Q R = above-zero (turnOf a b c) (leftOf A B C) (rightOf A B C) (turn a b c A B C P Q R)
 
-pub turns-right : (a b c : Point) (A B C : Spot) → Placed a A → Placed b B → Placed c C → lt (turnOf a b c) f0 ≡ ltb (leftOf A B C) (rightOf A B C)
+pub turns-right : (a b c : Point) (A B C : Spot) → Placed a A → Placed b B → Placed c C
+    → lt (turnOf a b c) f0 ≡ ltb (leftOf A B C) (rightOf A B C)
 turns-right a b c A B C P Q R = below-zero (turnOf a b c) (leftOf A B C) (rightOf A B C) (turn a b c A B C P Q R)
 
 -- ---- orientation
@@ -113,11 +116,13 @@ onSegment a b p A B C P Q R =
 
 -- ---- two segments
 
-touches : (d e : ℤ) (a b p : Point) (A B C : Spot) → d ≡ e → Placed a A → Placed b B → Placed p C → touchesOf d a b p ≡ wholeTouches e A B C
+touches : (d e : ℤ) (a b p : Point) (A B C : Spot) → d ≡ e → Placed a A → Placed b B → Placed p C
+    → touchesOf d a b p ≡ wholeTouches e A B C
 unfolding touchesOf wholeTouches
 touches d e a b p A B C h P Q R = rw (h, onSegment a b p A B C P Q R)
 
-pub intersect : (a b c d : Point) (A B C D : Spot) → Placed a A → Placed b B → Placed c C → Placed d D → intersectOf a b c d ≡ wholeIntersect A B C D
+pub intersect : (a b c d : Point) (A B C D : Spot) → Placed a A → Placed b B → Placed c C → Placed d D
+    → intersectOf a b c d ≡ wholeIntersect A B C D
 unfolding intersectOf wholeIntersect
 intersect a b c d A B C D P Q R S =
     let d1 = orientation c d a C D A R S P in

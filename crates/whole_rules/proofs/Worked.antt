@@ -1,6 +1,6 @@
 -- Worked examples, by computation: a corner of the bounds, turns by one unit, segments that touch or lie apart on a line,
--- a square and a figure eight, and twice an area.
-use Prim.Native.Nat.{ℕ, _+_}
+-- a square and a figure eight, and twice an area with its sign.
+use Prim.Native.Nat.{ℕ}
 use mathlib.Core.Path.{_≡_, refl}
 use mathlib.Core.Bool.{true, false}
 use mathlib.Core.List.{List, [], _∷_}
@@ -16,7 +16,7 @@ use Rattle.simple_polygon.specs.Simple.{adjacentOf}
 use Rattle.whole_rules.specs.Spots.{Spot, Placed}
 use Rattle.whole_rules.specs.Segments.{wholeOrientation, wholeOnSegment, wholeTouches, wholeIntersect}
 use Rattle.whole_rules.specs.Simple.{wholeClearPair, wholeClearRow, wholeSimple}
-use Rattle.whole_rules.specs.Area.{leftTo, rightTo}
+use Rattle.whole_rules.specs.Area.{leftTo, rightTo, WholeArea2}
 
 abbrev spot : ℕ → ℕ → Spot
 spot a b = record { x = a; y = b }
@@ -67,6 +67,10 @@ is-not : wholeSimple (along eight) 4 ≡ false
 unfolding wholeSimple wholeClearRow wholeClearPair wholeIntersect wholeTouches wholeOnSegment wholeOrientation crossesOf straddlesOf adjacentOf each
 is-not = refl
 
-twice : leftTo (along square) 4 4 ≡ rightTo (along square) 4 4 + 32
+twice : WholeArea2 (along square) 4 (pos 32)
 unfolding leftTo rightTo
 twice = refl
+
+clockwise : WholeArea2 (along (spot 0 0 ∷ spot 0 3 ∷ spot 4 0 ∷ [])) 3 (negsuc 11)
+unfolding leftTo rightTo
+clockwise = refl

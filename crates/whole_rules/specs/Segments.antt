@@ -15,7 +15,10 @@ rightOf a b c = a .x * c .y + b .y * c .x + b .x * a .y
 
 -- `orientation`
 unfoldable pub wholeOrientation : Spot → Spot → Spot → ℤ
-wholeOrientation a b c = cond (ltb (rightOf a b c) (leftOf a b c)) (pos 1) (cond (ltb (leftOf a b c) (rightOf a b c)) (negsuc 0) (pos 0))
+wholeOrientation a b c =
+    let l = leftOf a b c in
+    let r = rightOf a b c in
+    cond (ltb r l) (pos 1) (cond (ltb l r) (negsuc 0) (pos 0))
 
 abbrev pub wholeBetween : ℕ → ℕ → ℕ → Bool
 wholeBetween a b p = leb (min a b) p && leb p (max a b)
