@@ -1,4 +1,5 @@
 // Sliding one polygon around another: the calls of `nfp_sliding.rs`.
+use handed::explained::hand_explained;
 use handed::found::hand_checked;
 use handed::found::hand_position;
 use handed::found::hand_selected;
@@ -20,6 +21,8 @@ ghost use Rattle.contacts_call.specs.Calls.{findCall, findWhich, findPoints};
 ghost use Rattle.vectors_call.specs.Calls.{vectorsCall, vectorsRoom, sourcesRoom, fitCall, fitRoom, fitSources};
 ghost use Rattle.selection.specs.Calls.{selectCall};
 ghost use Rattle.collision.specs.Calls.{collisionCall};
+ghost use Rattle.grounds.specs.Calls.{explainCall};
+ghost use Rattle.handed.specs.Explanations.{hitIn, othersTold, groundIn, nearIn, betweenIn, farIn};
 ghost use Rattle.interlocking.specs.Calls.{interlockCall};
 ghost use Rattle.recovery.specs.Calls.{recoverCall};
 ghost use Rattle.overlap.specs.Calls.{overlapCall, overlapWithCall};
@@ -326,6 +329,75 @@ pub extern "C" fn byr_check_translation_collision(
         tolerance,
     );
     let no = hand_checked(answer, found, distance, kind, si, oi);
+    hand_refusal(no, place)
+}
+
+// What orbiting, moved by (dx, dy), runs into first, or why into nothing: ground 0 and the hit with the other pairs at its distance, or ground
+// 1 to 5; and how many hits are too near, between and too far.
+#[no_mangle]
+pub extern "C" fn byr_explain_collision(
+    stationary: &[f64],
+    orbiting: &[f64],
+    dx: f64,
+    dy: f64,
+    tolerance: f64,
+    ground: &mut u32,
+    distance: &mut f64,
+    kind: &mut u32,
+    stationary_i: &mut u64,
+    orbiting_i: &mut u64,
+    others: &mut u64,
+    too_near: &mut u64,
+    between: &mut u64,
+    too_far: &mut u64,
+    place: &mut u64,
+) -> u32
+    ensures { λ r. ⌜ r ≡ returned (explainCall (now (stationary .entry)) (now (orbiting .entry)) (point dx dy) tolerance) ⌝ }
+    ensures { λ _.
+        ⌜ now (ground .exit) ≡ told groundIn (explainCall (now (stationary .entry)) (now (orbiting .entry)) (point dx dy) tolerance)
+        (now (ground .entry)) ⌝ }
+    ensures { λ _.
+        ⌜ now (distance .exit) ≡ toldFound hitDistance
+        (hitIn (explainCall (now (stationary .entry)) (now (orbiting .entry)) (point dx dy) tolerance)) (now (distance .entry)) ⌝ }
+    ensures { λ _.
+        ⌜ now (kind .exit) ≡ toldFound hitKind
+        (hitIn (explainCall (now (stationary .entry)) (now (orbiting .entry)) (point dx dy) tolerance)) (now (kind .entry)) ⌝ }
+    ensures { λ _.
+        ⌜ now (stationary_i .exit) ≡ toldFound hitStationary
+        (hitIn (explainCall (now (stationary .entry)) (now (orbiting .entry)) (point dx dy) tolerance)) (now (stationary_i .entry)) ⌝ }
+    ensures { λ _.
+        ⌜ now (orbiting_i .exit) ≡ toldFound hitOrbiting
+        (hitIn (explainCall (now (stationary .entry)) (now (orbiting .entry)) (point dx dy) tolerance)) (now (orbiting_i .entry)) ⌝ }
+    ensures { λ _.
+        ⌜ now (others .exit) ≡ othersTold (explainCall (now (stationary .entry)) (now (orbiting .entry)) (point dx dy) tolerance)
+        (now (others .entry)) ⌝ }
+    ensures { λ _.
+        ⌜ now (too_near .exit) ≡ told nearIn (explainCall (now (stationary .entry)) (now (orbiting .entry)) (point dx dy) tolerance)
+        (now (too_near .entry)) ⌝ }
+    ensures { λ _.
+        ⌜ now (between .exit) ≡ told betweenIn (explainCall (now (stationary .entry)) (now (orbiting .entry)) (point dx dy) tolerance)
+        (now (between .entry)) ⌝ }
+    ensures { λ _.
+        ⌜ now (too_far .exit) ≡ told farIn (explainCall (now (stationary .entry)) (now (orbiting .entry)) (point dx dy) tolerance)
+        (now (too_far .entry)) ⌝ }
+    ensures { λ _.
+        ⌜ now (place .exit) ≡ toldPlace (explainCall (now (stationary .entry)) (now (orbiting .entry)) (point dx dy) tolerance)
+        (now (place .entry)) ⌝ }
+{
+    let translation = Point { x: dx, y: dy };
+    let answer = grounds::calls::explain_collision(stationary, orbiting, translation, tolerance);
+    let no = hand_explained(
+        answer,
+        ground,
+        distance,
+        kind,
+        stationary_i,
+        orbiting_i,
+        others,
+        too_near,
+        between,
+        too_far,
+    );
     hand_refusal(no, place)
 }
 

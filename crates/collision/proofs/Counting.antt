@@ -12,7 +12,7 @@ use Rattle.collision.specs.declared.Ray.the-variants.{Miss, At}
 use Rattle.collision.specs.declared.Collision.the-variants.{Nothing, Hit}
 
 -- what is above a number is no NaN
-above-real : (a d : Float) → lt a d ≡ true → isNan d ≡ false
+pub above-real : (a d : Float) → lt a d ≡ true → isNan d ≡ false
 unfolding lt isNan
 above-real a (inf s) h = refl
 above-real a (fin s m e) h = refl

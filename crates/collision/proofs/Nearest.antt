@@ -10,7 +10,7 @@ use native.Mathlib.Omega.{arith}
 use lib.Ieee.{Float, lt}
 use Rattle.plane.specs.Vector.{lengthOf}
 use Rattle.plane.specs.declared.Point.{Point}
-use Rattle.laws.specs.FirstBest.{First, none, some}
+use Rattle.laws.specs.FirstBest.{over, First, none, some}
 use Rattle.laws.proofs.FirstBest.{over-first}
 use Rattle.pairs.specs.Pairs.{pair}
 use Rattle.pairs.specs.declared.Pair.{Pair}
@@ -31,12 +31,12 @@ same-pair p k s o a b c = rw (← a, ← b, ← c)
 
 module _ (st orb : List Float) (move : Point) (tol : Float) where
   -- the number of a pair that blocks, and what it comes to
-  hits : (k : ℕ) (d : Float) → Blocks st orb move tol k d
+  pub hits : (k : ℕ) (d : Float) → Blocks st orb move tol k d
       → found st orb move tol k ≡ Hit d (pairNo st orb k .kind) (pairNo st orb k .stationary) (pairNo st orb k .orbiting)
   unfolding found sweepOf
   hits k d b = counts (sweepOf move tol) _ _ _ _ d (b .meets .at) (b .above) (b .below)
 
-  carried : (k : ℕ) (d : Float) (l s o : ℕ) → found st orb move tol k ≡ Hit d l s o
+  pub carried : (k : ℕ) (d : Float) (l s o : ℕ) → found st orb move tol k ≡ Hit d l s o
       → Carries (rayAt st orb move tol (pairNo st orb k)) (sweepOf move tol) (pairNo st orb k .kind) (pairNo st orb k .stationary) (pairNo st orb k .orbiting) d l s o
   unfolding found
   carried k d l s o e = carries (sweepOf move tol) _ _ _ _ d l s o e
@@ -47,12 +47,14 @@ module _ (st orb : List Float) (move : Point) (tol : Float) where
       let c = carried k d l s o e in
       record { meets = record { scanned = h; at = c .meets }; above = c .above; below = c .below }
 
-  -- the scan answers the first of the nearest
-  scanned-first : First nearer (found st orb move tol) Nothing (scans st orb) (bothOf st orb (sweepOf move tol))
+  -- of the first n pairs the scan keeps the first of the nearest
+  pub found-first : (n : ℕ) → First nearer (found st orb move tol) Nothing n (over nearer (found st orb move tol) Nothing n)
   unfolding found
-  scanned-first =
-      rw numbered
-      (over-first nearer (found st orb move tol) Nothing (λ x y j. weave x y (found st orb move tol j) (λ d k s o e. real (sweepOf move tol) _ _ _ _ d k s o e)) irrefl asym behind _)
+  found-first n =
+      over-first nearer (found st orb move tol) Nothing (λ x y j. weave x y (found st orb move tol j) (λ d k s o e. real (sweepOf move tol) _ _ _ _ d k s o e)) irrefl asym behind n
+
+  scanned-first : First nearer (found st orb move tol) Nothing (scans st orb) (bothOf st orb (sweepOf move tol))
+  scanned-first = rw numbered (found-first (scans st orb))
 
   told : (r : Collision) → lt (lengthOf move) tol ≡ false → First nearer (found st orb move tol) Nothing (scans st orb) r → Told st orb move tol r
   unfolding nearer

@@ -37,11 +37,12 @@ backOf w = record { dir = point (neg (w .dir .x)) (neg (w .dir .y)); limit = w .
 unfoldable pub bothOf : List Float → List Float → Sweep → Collision
 bothOf st orb w = scanOf st orb (backOf w) 1 (scanOf orb st w 0 Nothing)
 
--- the rays of a move: its direction, and the limit, its length less the tolerance
+-- the rays of a move with its length: its direction, and the limit, its length less the tolerance
+abbrev pub raysBy : Point → Float → Float → Sweep
+raysBy move len tol = record { dir = point (move .x ⊘ len) (move .y ⊘ len); limit = len ⊖ tol; tolerance = tol }
+
 unfoldable pub sweepOf : Point → Float → Sweep
-sweepOf move tol =
-    let len = lengthOf move in
-    record { dir = point (move .x ⊘ len) (move .y ⊘ len); limit = len ⊖ tol; tolerance = tol }
+sweepOf move tol = raysBy move (lengthOf move) tol
 
 -- `check_translation_collision`: nothing where the move is shorter than the tolerance
 unfoldable pub collisionOf : List Float → List Float → Point → Float → Collision

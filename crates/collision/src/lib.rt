@@ -15,7 +15,7 @@ ghost use Rattle.ring.specs.Ring.{count};
 ghost use Rattle.collision.specs.Ray.{rayOf, edgeRay};
 ghost use Rattle.collision.specs.Parts.{withinSegment, inFront, pairBy};
 ghost use Rattle.collision.specs.Hit.{countedOf, keptHit};
-ghost use Rattle.collision.specs.Check.{rowOf, scanOf, backOf, bothOf, collisionOf};
+ghost use Rattle.collision.specs.Check.{rowOf, scanOf, backOf, bothOf, raysBy, collisionOf};
 
 // A ray against a segment: it misses, or it meets the segment at a distance.
 pub enum Ray {
@@ -87,7 +87,7 @@ pub fn ray_segment_intersection(
 }
 
 // The ray from origin against the edge e of a ring.
-fn edge_ray(origin: Point, dir: Point, ring: &[f64], e: usize, tolerance: f64) -> Ray
+pub fn edge_ray(origin: Point, dir: Point, ring: &[f64], e: usize, tolerance: f64) -> Ray
     requires { ⌜ e < count (now ring) ⌝ }
     ensures { λ r. ⌜ r ≡ edgeRay origin dir (now (ring .entry)) e tolerance ⌝ }
 {
@@ -117,7 +117,7 @@ fn counted(ray: Ray, sweep: Sweep, kind: u8, stationary: usize, orbiting: usize)
 }
 
 // Of what was found so far and a new one: only a strictly smaller distance replaces.
-fn keep(best: Collision, new: Collision) -> Collision
+pub fn keep(best: Collision, new: Collision) -> Collision
     ensures { λ r. ⌜ r ≡ keptHit best new ⌝ }
 {
     let Collision::Hit {
@@ -142,7 +142,7 @@ fn keep(best: Collision, new: Collision) -> Collision
 }
 
 // What a ray of the vertex v of one ring makes of the edge e of the other.
-fn pair(ray: Ray, sweep: Sweep, kind: u8, v: usize, e: usize) -> Collision
+pub fn pair(ray: Ray, sweep: Sweep, kind: u8, v: usize, e: usize) -> Collision
     ensures { λ r. ⌜ r ≡ pairBy ray sweep kind v e ⌝ }
 {
     if kind == 0 {
@@ -195,7 +195,7 @@ fn scan(vertices: &[f64], edges: &[f64], sweep: Sweep, kind: u8, before: Collisi
 }
 
 // The same sweep the other way.
-fn back(sweep: Sweep) -> Sweep
+pub fn back(sweep: Sweep) -> Sweep
     ensures { λ r. ⌜ r ≡ backOf sweep ⌝ }
 {
     let dir = Point {
@@ -218,6 +218,21 @@ fn both(stationary: &[f64], orbiting: &[f64], sweep: Sweep) -> Collision
     scan(stationary, orbiting, against, 1, best)
 }
 
+// The rays of a move with its length: its direction, and the limit, its length less the tolerance.
+pub fn rays(translation: Point, len: f64, tolerance: f64) -> Sweep
+    ensures { λ r. ⌜ r ≡ raysBy translation len tolerance ⌝ }
+{
+    let dir = Point {
+        x: translation.x / len,
+        y: translation.y / len,
+    };
+    Sweep {
+        dir,
+        limit: len - tolerance,
+        tolerance,
+    }
+}
+
 // What orbiting, moved by translation, runs into first.
 pub fn check_translation_collision(
     stationary: &[f64],
@@ -231,14 +246,5 @@ pub fn check_translation_collision(
     if len < tolerance {
         return Collision::Nothing;
     }
-    let dir = Point {
-        x: translation.x / len,
-        y: translation.y / len,
-    };
-    let sweep = Sweep {
-        dir,
-        limit: len - tolerance,
-        tolerance,
-    };
-    both(stationary, orbiting, sweep)
+    both(stationary, orbiting, rays(translation, len, tolerance))
 }

@@ -1,3 +1,4 @@
 -- The definitions that the contracts of the exported functions cite.
 pub mod Handed
+pub mod Explanations
 pub mod Traces

@@ -1,11 +1,13 @@
 -- `over` answers the first of the best, and rows of candidates are scanned like one row. Assumes nothing.
-use Prim.Native.Nat.{ℕ, zero, suc, _+_, _*_, _/_, _%_, _<_}
-use native.Mathlib.Nat.{lt-suc-self, add-zero, add-suc, zero-mul, suc-mul, mul-add-div-right, mul-add-mod-self-right, div-eq-of-lt, mod-eq-of-lt}
+use Prim.Native.Nat.{ℕ, zero, suc, _+_, _*_, _<_}
+use native.Mathlib.Nat.{lt-suc-self}
 use native.Mathlib.Numerals.{add-one}
 use native.Mathlib.Omega.{arith}
 use mathlib.Core.Path.{_≡_, refl, sym, ap, _∙_}
 use mathlib.Core.Bool.{Bool, true, false, cond}
 use borrow.Author.Count.{below-more, below-none}
+use Rattle.laws.specs.Turns.{turns, turnRows}
+use Rattle.laws.proofs.Turns.{turns-split, turns-ext, rows-flat}
 use Rattle.laws.specs.FirstBest.{better, over, nest, flatRows, First, none, some}
 
 -- what holds of each number below i, and of i, holds of each below suc i
@@ -24,33 +26,31 @@ module _ {C : Type 0} (ahead : C → C → Bool) where
   unfolding nest
   nest-turn g n from i h e = rw (e, h, add-one i)
 
+  -- the candidates in turn are turns
+  over-turns : (f : ℕ → C) (r : C) (n : ℕ) → over ahead f r n ≡ turns (λ s k. better ahead s (f k)) r n
+  unfolding over turns
+  over-turns f r zero = refl
+  over-turns f r (suc n) = rw (over-turns f r n)
+
+  nest-rows : (g : ℕ → ℕ → C) (n : ℕ) (r : C) (m : ℕ) → nest ahead g n r m ≡ turnRows (λ s o k. better ahead s (g o k)) n r m
+  unfolding nest turnRows
+  nest-rows g n r zero = refl
+  nest-rows g n r (suc m) = over-turns (g m) (nest ahead g n r m) n ∙ (rw (nest-rows g n r m))
+
   -- the scan goes on where it stood
   pub over-split : (f : ℕ → C) (r : C) (a b : ℕ) → over ahead f r (a + b) ≡ over ahead (λ (k : ℕ). f (a + k)) (over ahead f r a) b
-  unfolding over
-  over-split f r a zero = rw add-zero
-  over-split f r a (suc b) = rw (add-suc, over-split f r a b)
+  over-split f r a b =
+      over-turns f r (a + b)
+      ∙ turns-split _ r a b
+      ∙ ap (λ (q : C). turns (λ s k. better ahead s (f (a + k))) q b) (sym (over-turns f r a))
+      ∙ sym (over-turns (λ (k : ℕ). f (a + k)) _ b)
 
   pub over-ext : (f g : ℕ → C) (r : C) (n : ℕ) → ((k : ℕ) → k < n → f k ≡ g k) → over ahead f r n ≡ over ahead g r n
-  unfolding over
-  over-ext f g r zero h = refl
-  over-ext f g r (suc n) h = rw (over-ext f g r n (λ k l. h k (omega arith)), h n (omega arith))
-
-  in-row : (g : ℕ → ℕ → C) (n o k : ℕ) → k < n → flatRows g n (o * n + k) ≡ g o k
-  in-row g n o k l =
-      let h : 0 < n = omega arith in
-      let a : (o * n + k) / n ≡ o = mul-add-div-right h o k ∙ (rw (div-eq-of-lt l) (add-zero o)) in
-      let b : (o * n + k) % n ≡ k = mul-add-mod-self-right o n k ∙ mod-eq-of-lt l in
-      rw (a, b)
+  over-ext f g r n h = over-turns f r n ∙ turns-ext _ _ r n (λ s k l. ap (better ahead s) (h k l)) ∙ sym (over-turns g r n)
 
   -- m rows of n candidates are m * n candidates in one row
   pub nest-flat : (g : ℕ → ℕ → C) (n : ℕ) (r : C) (m : ℕ) → nest ahead g n r m ≡ over ahead (flatRows g n) r (m * n)
-  unfolding nest over
-  nest-flat g n r zero = rw zero-mul
-  nest-flat g n r (suc o) =
-      ap (λ (q : C). over ahead (g o) q n) (nest-flat g n r o)
-      ∙ over-ext (g o) (λ (k : ℕ). flatRows g n (o * n + k)) (over ahead (flatRows g n) r (o * n)) n (λ k l. sym (in-row g n o k l))
-      ∙ sym (over-split (flatRows g n) r (o * n) n)
-      ∙ ap (over ahead (flatRows g n) r) (sym (suc-mul o n))
+  nest-flat g n r m = nest-rows g n r m ∙ rows-flat _ n r m ∙ sym (over-turns (flatRows g n) r (m * n))
 
 -- ---- the first of the best
 

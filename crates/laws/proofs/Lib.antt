@@ -4,4 +4,5 @@ pub mod Parts
 pub mod Order
 pub mod Plain
 pub mod Rounding
+pub mod Turns
 pub mod FirstBest

@@ -3,15 +3,16 @@
 use Prim.Native.Nat.{ℕ, _+_, _*_, _<_}
 use native.Mathlib.Omega.{arith}
 use native.Mathlib.Nat.{mul-le-mul-right, le-of-mul-le-mul-right}
-use mathlib.Core.Path.{_≡_, refl, sym, _∙_}
+use mathlib.Core.Path.{_≡_, refl, sym, subst, _∙_}
 use mathlib.Core.Logic.{_⊎_, inl, inr}
-use mathlib.Core.Bool.{Bool, true, false, true≢false}
-use borrow.Author.Tests.{ltb-true, ltb-false}
+use mathlib.Core.Bool.{Bool, true, false, _||_, true≢false}
+use borrow.Author.Tests.{ltb-true, ltb-false, eqb-true, eq-eqb}
 use lib.IntN.{ℤ}
-use lib.Dec.{T}
-use lib.Ieee.{Float, nan, inf, fin, up, down, isNan, lt, le}
+use lib.Dec.{T, eqb}
+use lib.Ieee.{Float, nan, inf, fin, up, down, level, isNan, lt, le, eq}
 use lib.Ieee.Fits.{down-pos}
 use lib.Ieee.Positive.{positive, den}
+use Rattle.laws.proofs.Both.{both}
 use Rattle.laws.proofs.Parts.{plus, less, NotAbove, parts-of-le, le-of-parts}
 
 -- ---- of two values one is not above the other
@@ -176,6 +177,48 @@ lt-weave x y z n h k =
       | inl e ↦ absurd (true≢false (sym is-nan ∙ rw e at n))
       | inr g ↦ elim g [ inl e ↦ absurd (true≢false (sym h ∙ rw e (lt-nan x))) | inr l ↦ lt-le x y z h l ]
     ]
+
+-- ---- what is equal
+
+pub le-of-eq : (x y : Float) → eq x y ≡ true → T (le x y)
+unfolding le
+le-of-eq x y h = by (lt x y)
+  where
+    by : (b : Bool) → T (b || eq x y)
+    by true = tt
+    by false = rw h tt
+
+level-turned : (s t : Bool) (a : ℕ) → level s a t a ≡ true → level t a s a ≡ true
+level-turned true true a h = h
+level-turned true false a h = h
+level-turned false true a h = h
+level-turned false false a h = h
+
+level-back : (s t : Bool) (a b : ℕ) → level s a t b ≡ true → level t b s a ≡ true
+level-back s t a b h =
+    let e : a ≡ b = eqb-true a b (both (eqb a b) _ h .0) in
+    subst (λ (x : ℕ). level t x s a ≡ true) e (level-turned s t a (subst (λ (x : ℕ). level s a t x ≡ true) (sym e) h))
+
+pub eq-back : (x y : Float) → eq x y ≡ true → eq y x ≡ true
+unfolding eq
+eq-back nan y h = absurd (true≢false (sym h))
+eq-back (inf s) nan h = absurd (true≢false (sym h))
+eq-back (inf true) (inf true) h = refl
+eq-back (inf true) (inf false) h = absurd (true≢false (sym h))
+eq-back (inf false) (inf true) h = absurd (true≢false (sym h))
+eq-back (inf false) (inf false) h = refl
+eq-back (inf s) (fin t n d) h = absurd (true≢false (sym h))
+eq-back (fin s m e) nan h = absurd (true≢false (sym h))
+eq-back (fin s m e) (inf t) h = absurd (true≢false (sym h))
+eq-back (fin s m e) (fin t n d) h = level-back s t (m * up e * down d) (n * up d * down e) h
+
+pub eq-self : (x : Float) → isNan x ≡ false → eq x x ≡ true
+unfolding eq isNan
+eq-self nan h = absurd (true≢false h)
+eq-self (inf true) h = refl
+eq-self (inf false) h = refl
+eq-self (fin true m e) h = rw (eq-eqb (m * up e * down e) _ refl)
+eq-self (fin false m e) h = rw (eq-eqb (m * up e * down e) _ refl)
 
 -- ---- the infinity
 

@@ -1,0 +1,6 @@
+-- The definitions that the contracts of grounds cite.
+pub mod Classes
+pub mod Grounds
+pub mod Scan
+pub mod Explanation
+pub mod Calls

@@ -1,0 +1,244 @@
+// Why a move is clear, or what it runs into: the collision check's answer with its ground, and the counts of all computed hits. One scan of
+// the rule's pairs.
+pub mod answer;
+pub mod calls;
+
+use collision::Collision;
+use collision::Ray;
+use collision::Sweep;
+use collision::back;
+use collision::edge_ray;
+use collision::keep;
+use collision::pair;
+use collision::rays;
+use plane::Point;
+use plane::vector::length;
+use ring::point_at;
+ghost use mathlib.Core.Path.{_≡_};
+ghost use Prim.Native.Nat.{_+_, _*_, _<_, _≤_};
+ghost use mathlib.Core.Bool.{cond};
+ghost use Rattle.ring.specs.Ring.{count};
+ghost use Rattle.refusals.specs.Rings.{verticesMost};
+ghost use Rattle.grounds.specs.Classes.{inBetween, tooFar};
+ghost use Rattle.grounds.specs.Grounds.{groundBy, groundNumber};
+ghost use Rattle.collision.specs.declared.Ray.the-variants.{At};
+ghost use Rattle.grounds.specs.Scan.{kindMost, pairsMost, AtMost, noTally, othersAfter, notedOf, rowNoted, scanNoted, bothNoted};
+ghost use Rattle.grounds.specs.Explanation.{explanationOf};
+
+// Why the answer is what it is: a hit; or the move is shorter than the tolerance, no pair is ever hit, all hits are too near, all are too
+// far, or there are hits on both sides and none between.
+pub enum Ground {
+    Hit,
+    Short,
+    Never,
+    Near,
+    Far,
+    BothSides,
+}
+
+// What is known of the pairs scanned: the nearest hit that counts, how many other pairs have its very distance, and how many hits are too
+// near, between and too far.
+pub struct Tally {
+    pub best: Collision,
+    pub others: u64,
+    pub near: u64,
+    pub between: u64,
+    pub far: u64,
+}
+
+// The ground, and what is known of all pairs.
+pub struct Explanation {
+    pub ground: Ground,
+    pub tally: Tally,
+}
+
+impl Ground {
+    // 0 for a hit, and 1 to 5 for the grounds of nothing.
+    pub fn number(self) -> u32
+        ensures { λ r. ⌜ r ≡ groundNumber self ⌝ }
+    {
+        match self {
+            Ground::Hit => 0,
+            Ground::Short => 1,
+            Ground::Never => 2,
+            Ground::Near => 3,
+            Ground::Far => 4,
+            Ground::BothSides => 5,
+        }
+    }
+}
+
+// What is known before the first pair.
+fn no_tally() -> Tally
+    ensures { λ r. ⌜ r ≡ noTally ⌝ }
+{
+    Tally {
+        best: Collision::Nothing,
+        others: 0,
+        near: 0,
+        between: 0,
+        far: 0,
+    }
+}
+
+// Whether a distance lies strictly between the tolerance and the limit.
+fn in_between(distance: f64, sweep: Sweep) -> bool
+    ensures { λ r. ⌜ r ≡ inBetween sweep distance ⌝ }
+{
+    if distance > sweep.tolerance {
+        distance < sweep.limit
+    } else {
+        false
+    }
+}
+
+// Whether a distance is not too near and at least the limit.
+fn too_far(distance: f64, sweep: Sweep) -> bool
+    ensures { λ r. ⌜ r ≡ tooFar sweep distance ⌝ }
+{
+    if distance <= sweep.tolerance {
+        false
+    } else {
+        distance >= sweep.limit
+    }
+}
+
+// One more, where a test passed.
+fn one_more(count: u64, passes: bool) -> u64
+    requires { ⌜ count ≤ 2 * pairsMost ⌝ }
+    ensures { λ r. ⌜ r ≡ count + cond passes 1 0 ⌝ }
+{
+    if passes { count + 1 } else { count }
+}
+
+// The others at the nearest distance, after a new one.
+fn others_after(others: u64, best: Collision, new: Collision) -> u64
+    requires { ⌜ others ≤ 2 * pairsMost ⌝ }
+    ensures { λ r. ⌜ r ≡ othersAfter others best new ⌝ }
+{
+    let Collision::Hit {
+        distance: e,
+        kind: _,
+        stationary: _,
+        orbiting: _,
+    } = new
+    else {
+        return others;
+    };
+    let Collision::Hit {
+        distance: d,
+        kind: _,
+        stationary: _,
+        orbiting: _,
+    } = best
+    else {
+        return 0;
+    };
+    if e < d { 0 } else { one_more(others, e == d) }
+}
+
+// What is known after a hit at d of the vertex v on the edge e.
+fn noted(sweep: Sweep, kind: u8, tally: Tally, v: usize, e: usize, d: f64) -> Tally
+    requires { ⌜ AtMost tally (2 * pairsMost) ⌝ }
+    ensures { λ r. ⌜ r ≡ notedOf sweep kind tally v e (At d) ⌝ }
+{
+    let best = tally.best;
+    let new = pair(Ray::At(d), sweep, kind, v, e);
+    Tally {
+        best: keep(best, new),
+        others: others_after(tally.others, best, new),
+        near: one_more(tally.near, d <= sweep.tolerance),
+        between: one_more(tally.between, in_between(d, sweep)),
+        far: one_more(tally.far, too_far(d, sweep)),
+    }
+}
+
+// The vertex v against each edge, from what was known before.
+fn row(vertices: &[f64], edges: &[f64], sweep: Sweep, kind: u8, v: usize, before: Tally) -> Tally
+    requires { ⌜ v < count (now vertices) ⌝ }
+    requires { ⌜ (count (now edges) ≤ verticesMost) × AtMost before pairsMost ⌝ }
+    ensures { λ r. ⌜ r ≡ rowNoted (now (vertices .entry)) (now (edges .entry)) sweep kind v before ⌝ }
+{
+    let n = edges.len() / 2;
+    let origin = point_at(vertices, v);
+    let mut tally = before;
+    let mut e = 0;
+    while e < n {
+        let ray = edge_ray(origin, sweep.dir, edges, e, sweep.tolerance);
+        if let Ray::At(d) = ray {
+            tally = noted(sweep, kind, tally, v, e, d);
+            e += 1;
+        } else {
+            e += 1;
+        }
+    }
+    tally
+}
+
+// Each vertex of one ring against each edge of the other, from what was known before.
+fn scan(vertices: &[f64], edges: &[f64], sweep: Sweep, kind: u8, before: Tally) -> Tally
+    requires { ⌜ (count (now vertices) ≤ verticesMost) × (count (now edges) ≤ verticesMost) × AtMost before kindMost ⌝ }
+    ensures { λ r. ⌜ r ≡ scanNoted (now (vertices .entry)) (now (edges .entry)) sweep kind before ⌝ }
+{
+    let n = vertices.len() / 2;
+    let mut tally = before;
+    let mut v = 0;
+    while v < n {
+        tally = row(vertices, edges, sweep, kind, v, tally);
+        v += 1;
+    }
+    tally
+}
+
+// Both kinds of pair: orbiting vertices first, and then stationary vertices, which come the other way.
+fn both(stationary: &[f64], orbiting: &[f64], sweep: Sweep) -> Tally
+    requires { ⌜ (count (now stationary) ≤ verticesMost) × (count (now orbiting) ≤ verticesMost) ⌝ }
+    ensures { λ r. ⌜ r ≡ bothNoted (now (stationary .entry)) (now (orbiting .entry)) sweep ⌝ }
+{
+    let against = back(sweep);
+    let tally = scan(orbiting, stationary, sweep, 0, no_tally());
+    scan(stationary, orbiting, against, 1, tally)
+}
+
+// The ground of a move that is scanned, by the hits too near, between and too far.
+fn ground_by(near: u64, between: u64, far: u64) -> Ground
+    ensures { λ r. ⌜ r ≡ groundBy near between far ⌝ }
+{
+    if between == 0 {
+        if near == 0 {
+            if far == 0 { Ground::Never } else { Ground::Far }
+        } else {
+            if far == 0 {
+                Ground::Near
+            } else {
+                Ground::BothSides
+            }
+        }
+    } else {
+        Ground::Hit
+    }
+}
+
+// What orbiting, moved by translation, runs into first, or why into nothing, with the counts of all hits.
+pub fn explain_collision(
+    stationary: &[f64],
+    orbiting: &[f64],
+    translation: Point,
+    tolerance: f64,
+) -> Explanation
+    requires { ⌜ (count (now stationary) ≤ verticesMost) × (count (now orbiting) ≤ verticesMost) ⌝ }
+    ensures { λ r. ⌜ r ≡ explanationOf (now (stationary .entry)) (now (orbiting .entry)) translation tolerance ⌝ }
+{
+    let len = length(translation);
+    if len < tolerance {
+        return Explanation {
+            ground: Ground::Short,
+            tally: no_tally(),
+        };
+    }
+    let tally = both(stationary, orbiting, rays(translation, len, tolerance));
+    Explanation {
+        ground: ground_by(tally.near, tally.between, tally.far),
+        tally,
+    }
+}

@@ -1,0 +1,2 @@
+-- The definitions that the programs cite that take a pair.
+pub mod Input
