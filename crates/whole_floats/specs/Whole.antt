@@ -1,8 +1,9 @@
 -- When a float is a whole number, and when an integer is: both are written as a difference of two natural numbers.
 -- Definitions only.
-use Prim.Native.Nat.{ℕ, suc, _+_, _*_}
+use Prim.Native.Nat.{ℕ, suc, _+_, _-_, _*_}
 use mathlib.Core.Path.{_≡_}
-use mathlib.Core.Bool.{true, false}
+use mathlib.Core.Bool.{true, false, cond}
+use lib.Dec.{ltb}
 use lib.IntN.{ℤ, pos, negsuc}
 use lib.Ieee.{Float, nan, inf, fin, up, down}
 
@@ -17,3 +18,7 @@ Whole (fin true m e) p q = m * up e + p * down e ≡ q * down e
 abbrev pub Difference : ℤ → ℕ → ℕ → Type 0
 Difference (pos n) p q = p ≡ q + n
 Difference (negsuc n) p q = q ≡ p + suc n
+
+-- p - q as an integer
+abbrev pub differenceOf : ℕ → ℕ → ℤ
+differenceOf p q = cond (ltb p q) (negsuc (q - suc p)) (pos (p - q))

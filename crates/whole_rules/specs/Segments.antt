@@ -4,7 +4,7 @@ use mathlib.Core.Bool.{Bool, _&&_, _||_, cond}
 use lib.Dec.{ltb, leb}
 use lib.IntN.{ℤ, pos, negsuc}
 use Rattle.segments.specs.Segments.{collinear, crossesOf}
-use Rattle.whole_rules.specs.Spots.{Spot}
+use Rattle.shifted.specs.declared.Spot.{Spot}
 
 -- twice the area of a, b and c is what counts for the left less what counts for the right
 abbrev pub leftOf : Spot → Spot → Spot → ℕ
@@ -13,12 +13,16 @@ leftOf a b c = b .x * c .y + a .y * c .x + a .x * b .y
 abbrev pub rightOf : Spot → Spot → Spot → ℕ
 rightOf a b c = a .x * c .y + b .y * c .x + b .x * a .y
 
--- `orientation`
-unfoldable pub wholeOrientation : Spot → Spot → Spot → ℤ
-wholeOrientation a b c =
+-- the turn: 1 counter-clockwise, -1 clockwise, 0 collinear
+unfoldable pub wholeTurn : Spot → Spot → Spot → ℤ
+wholeTurn a b c =
     let l = leftOf a b c in
     let r = rightOf a b c in
     cond (ltb r l) (pos 1) (cond (ltb l r) (negsuc 0) (pos 0))
+
+-- `orientation`: where no margin is left, the turn
+abbrev pub wholeOrientation : Spot → Spot → Spot → ℤ
+wholeOrientation a b c = wholeTurn a b c
 
 abbrev pub wholeBetween : ℕ → ℕ → ℕ → Bool
 wholeBetween a b p = leb (min a b) p && leb p (max a b)

@@ -5,7 +5,7 @@ use lib.Dec.{leb}
 use Rattle.ring.specs.Each.{each}
 use Rattle.ring.specs.Ring.{nextOf}
 use Rattle.simple_polygon.specs.Simple.{adjacentOf}
-use Rattle.whole_rules.specs.Spots.{Spot}
+use Rattle.shifted.specs.declared.Spot.{Spot}
 use Rattle.whole_rules.specs.Segments.{wholeIntersect}
 
 -- the edges i and j of n share a vertex, or they do not meet

@@ -7,12 +7,8 @@ use lib.IntN.{ℤ, pos}
 use lib.Ieee.{Float}
 use Rattle.plane.specs.declared.Point.{Point}
 use Rattle.ring.specs.Ring.{count, pointAt}
+use Rattle.shifted.specs.declared.Spot.{Spot}
 use Rattle.whole_floats.specs.Whole.{Whole, Difference}
-
--- a point as natural numbers: each coordinate plus a million
-pub record Spot : Type 0 where
-  pub x : ℕ
-  pub y : ℕ
 
 -- the coordinates of the point a are whole numbers within a million, and A has them plus a million
 pub record Placed (a : Point) (A : Spot) : Type 0 where
