@@ -1,0 +1,7 @@
+-- The modules of laws.
+pub mod Bounds
+pub mod Placed
+pub mod Segments
+pub mod Simple
+pub mod Area
+pub mod Worked
