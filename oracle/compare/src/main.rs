@@ -1,14 +1,15 @@
 //! Compares the static library with the oracle: `compare COUNT SEED` makes every
-//! call of the stored replay lists, and COUNT seeded ones besides, through both.
+//! call of the stored replay lists, every small case in whole numbers, and COUNT
+//! seeded ones besides, through both.
 //! The table counts cases by call, refusal, stop reason and ground; it ends in how
 //! many agree. The status is 1 unless all do, every exported call was made, and
 //! explanations of every ground, with hits of both kinds and dozens of other pairs
 //! at one distance, were among them.
 
-use compare::lists::LISTS;
+use compare::lists::{check_whole, LISTS};
 use compare::tally::{Compared, Tally};
 use compare::{ffi, hold_interface, ABI_VERSION};
-use oracle::replay::list;
+use oracle::replay::{list, whole};
 use oracle::seeded::Seeded;
 use std::collections::BTreeSet;
 use std::process::ExitCode;
@@ -23,7 +24,8 @@ fn missing(tally: &Tally) -> BTreeSet<&'static str> {
     names.filter(is_name).filter(|name| !tally.has(name)).collect()
 }
 
-/// Compares the stored records of each list, and its share of so many seeded ones.
+/// Compares the stored records of each list, and its share of so many seeded ones; and
+/// every small case in whole numbers.
 fn run(count: u64, seed: u64) -> Tally {
     let mut tally = Tally::default();
     // SAFETY: the function takes nothing.
@@ -41,6 +43,9 @@ fn run(count: u64, seed: u64) -> Tally {
             let origin = || format!("{}, seed {seed}, record {place}", checked.name);
             tally.add((checked.check)(&record), origin);
         }
+    }
+    for (place, record) in whole::every().enumerate() {
+        tally.add(check_whole(&record), || format!("whole, small case {place}"));
     }
     tally
 }
