@@ -1,9 +1,9 @@
 -- A whole coordinate moved up by a million, so that no number is below zero, and the points of a lent list. Definitions only.
-use Prim.Native.Nat.{ℕ, _+_, _-_, _*_, _≤_}
+use Prim.Native.Nat.{ℕ, _+_, _-_, _*_, _/_, _≤_, _<_}
 use mathlib.Core.Bool.{Bool, cond}
 use mathlib.Core.List.{List}
 use lib.Dec.{leb, ltb}
-use lib.ListN.{getD}
+use lib.ListN.{length, getD}
 use lib.IntN.{ℤ, pos, negsuc}
 use Rattle.shifted.specs.declared.Spot.{Spot}
 
@@ -33,3 +33,7 @@ spotAt ns i = record { x = getD ns (2 * i) 0; y = getD ns (2 * i + 1) 0 }
 pub record Small (a : Spot) : Type 0 where
   pub width : a .x ≤ 2000000
   pub height : a .y ≤ 2000000
+
+-- so is each point of a list
+abbrev pub SmallRing : List ℕ → Type 0
+SmallRing ns = (i : ℕ) → i < length ns / 2 → Small (spotAt ns i)

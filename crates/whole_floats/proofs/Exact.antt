@@ -1,19 +1,20 @@
 -- Sums, differences and products of whole numbers are exact up to 2^53, and so are a negative and the float of an
 -- integer. Assumes nothing.
-use Prim.Native.Nat.{ℕ, suc, _+_, _*_, _^_, _≤_, _<_}
+use Prim.Native.Nat.{ℕ, suc, _+_, _-_, _*_, _^_, _≤_, _<_}
 use native.Mathlib.Omega.{arith}
 use native.Mathlib.Nat.{mul-pos}
-use mathlib.Core.Path.{_≡_, ap}
-use mathlib.Core.Bool.{Bool, true, false}
+use mathlib.Core.Path.{_≡_, refl, ap}
+use mathlib.Core.Bool.{Bool, true, false, cond}
 use lib.IntN.{ℤ, pos, negsuc}
-use lib.Dec.{lit<}
+use lib.Dec.{ltb, lit<}
 use lib.Ieee.{Float, nan, inf, fin, Format, up, down, binary64, round, mul, sub, neg, ofInt}
 use lib.Ieee.Fits.{down-pos}
 use lib.Ieee.Positive.{den}
+use borrow.Author.Tests.{ltb-true, ltb-false}
 use Rattle.laws.proofs.Parts.{plus, less}
 use Rattle.laws.proofs.Rounding.{Rounds, upward, downward, finite-sum}
 use Rattle.scalar.specs.Float.{_⊕_, _⊖_, _⊗_}
-use Rattle.whole_floats.specs.Whole.{Whole, Difference}
+use Rattle.whole_floats.specs.Whole.{Whole, Difference, differenceOf}
 use Rattle.whole_floats.proofs.Fraction.{At, at-one, of-one, wholes-kept, rounds-at}
 
 -- p - q is r - s
@@ -111,3 +112,12 @@ of-integer (pos n) p q h a b =
     of-one (round binary64 false n 1) p q (rounds-at 1 (2 ^ 53) wholes-kept p q (lit< tt) (upward p q 1 n h) (omega arith) a b)
 of-integer (negsuc n) p q h a b =
     of-one (round binary64 true (suc n) 1) p q (rounds-at 1 (2 ^ 53) wholes-kept p q (lit< tt) (downward p q 1 (suc n) h) (omega arith) a b)
+
+-- ---- a difference as an integer
+
+pub difference-is : (p q : ℕ) → Difference (differenceOf p q) p q
+difference-is p q = go (ltb p q) refl
+  where
+    go : (t : Bool) → ltb p q ≡ t → Difference (cond t (negsuc (q - suc p)) (pos (p - q))) p q
+    go true e = omega (arith, ltb-true p q e)
+    go false e = omega (arith, ltb-false p q e)

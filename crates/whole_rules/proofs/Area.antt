@@ -17,10 +17,11 @@ use Rattle.plane.specs.declared.Point.{Point}
 use Rattle.ring.specs.Ring.{count, pointAt, nextOf}
 use Rattle.signed_area.specs.Area.{termOf, sumTo, area2Of}
 use Rattle.whole_floats.specs.Whole.{Whole, Difference}
-use Rattle.whole_floats.proofs.Exact.{whole-same, sum, of-integer}
+use Rattle.whole_floats.proofs.Exact.{whole-same, sum, of-integer, difference-is}
 use Rattle.whole_floats.proofs.Compare.{same-number, same-bits}
-use Rattle.whole_rules.specs.Spots.{Spot, Placed, PlacedRing}
-use Rattle.whole_rules.specs.Area.{leftTo, rightTo, WholeArea2}
+use Rattle.shifted.specs.declared.Spot.{Spot}
+use Rattle.whole_rules.specs.Spots.{Placed, PlacedRing}
+use Rattle.whole_rules.specs.Area.{leftTo, rightTo, WholeArea2, wholeArea2}
 use Rattle.whole_rules.proofs.Placed.{next-placed}
 use Rattle.whole_rules.proofs.Segments.{times, sum-bound, less}
 
@@ -78,6 +79,10 @@ round-the-ring f (suc n) =
 none : (z : ℤ) (p q : ℕ) → Difference z p q → p ≡ q → z ≡ pos 0
 none (pos n) p q h e = ap pos (omega arith)
 none (negsuc n) p q h e = absurd (omega arith)
+
+pub area-is : (at : ℕ → Spot) (n : ℕ) → WholeArea2 at n (wholeArea2 at n)
+unfolding wholeArea2
+area-is at n = difference-is (leftTo at n n) (rightTo at n n)
 
 -- ---- the sum of up to 256 terms
 

@@ -4,4 +4,5 @@ pub mod Placed
 pub mod Segments
 pub mod Simple
 pub mod Area
+pub mod Same
 pub mod Worked

@@ -11,7 +11,8 @@ use lib.Ieee.{Float, nan, binary64, ofInt}
 use Rattle.plane.specs.Vector.{point}
 use Rattle.ring.specs.Ring.{count, pointAt, nextOf}
 use Rattle.whole_floats.proofs.Exact.{of-integer}
-use Rattle.whole_rules.specs.Spots.{Spot, Placed, PlacedRing, Stands, StandingRing}
+use Rattle.shifted.specs.declared.Spot.{Spot}
+use Rattle.whole_rules.specs.Spots.{Placed, PlacedRing, Stands, StandingRing}
 
 pub next-placed : (r : List Float) (at : ℕ → Spot) → PlacedRing r at → (i : ℕ) → i < count r
     → Placed (pointAt r (nextOf i (count r))) (at (nextOf i (count r)))

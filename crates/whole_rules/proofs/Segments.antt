@@ -19,8 +19,9 @@ use Rattle.whole_floats.proofs.Exact.{whole-same, difference, product}
 use Rattle.whole_floats.proofs.Compare.{above-zero, below-zero}
 use Rattle.whole_floats.proofs.Picked.{smaller, larger}
 use Rattle.whole_floats.proofs.Margin.{Slight, above-margin, below-margin, less-margin, more-margin}
-use Rattle.whole_rules.specs.Spots.{Spot, Placed}
-use Rattle.whole_rules.specs.Segments.{leftOf, rightOf, wholeOrientation, wholeBetween, wholeOnSegment, wholeTouches, wholeIntersect}
+use Rattle.shifted.specs.declared.Spot.{Spot}
+use Rattle.whole_rules.specs.Spots.{Placed}
+use Rattle.whole_rules.specs.Segments.{leftOf, rightOf, wholeTurn, wholeOrientation, wholeBetween, wholeOnSegment, wholeTouches, wholeIntersect}
 
 -- ---- the turn
 
@@ -88,7 +89,7 @@ unfolding signOf
 sign d p q h = rw (above-margin eps d p q eps-slight h, below-margin eps d p q eps-slight h)
 
 pub orientation : (a b c : Point) (A B C : Spot) → Placed a A → Placed b B → Placed c C → orientationOf a b c ≡ wholeOrientation A B C
-unfolding orientationOf wholeOrientation
+unfolding orientationOf wholeTurn
 orientation a b c A B C P Q R = sign (turnOf a b c) (leftOf A B C) (rightOf A B C) (turn a b c A B C P Q R)
 
 -- ---- the box

@@ -8,12 +8,13 @@ use lib.Ieee.{Float}
 use Rattle.ring.specs.Each.{each}
 use Rattle.ring.specs.Ring.{count, pointAt, nextOf}
 use Rattle.simple_polygon.specs.Simple.{clearPair, clearRow, isSimple}
-use Rattle.whole_rules.specs.Spots.{Spot, PlacedRing}
+use Rattle.shifted.specs.declared.Spot.{Spot}
+use Rattle.whole_rules.specs.Spots.{PlacedRing}
 use Rattle.whole_rules.specs.Simple.{wholeClearPair, wholeClearRow, wholeSimple}
 use Rattle.whole_rules.proofs.Placed.{next-placed}
 use Rattle.whole_rules.proofs.Segments.{intersect}
 
-each-same : (p q : ℕ → Bool) (k n : ℕ) → ((i : ℕ) → k ≤ i → i < k + n → p i ≡ q i) → each p k n ≡ each q k n
+pub each-same : (p q : ℕ → Bool) (k n : ℕ) → ((i : ℕ) → k ≤ i → i < k + n → p i ≡ q i) → each p k n ≡ each q k n
 unfolding each
 each-same p q k zero h = refl
 each-same p q k (suc n) h = rw (h k (omega arith) (omega arith), each-same p q (suc k) n (λ i l m. h i (omega arith) (omega arith)))

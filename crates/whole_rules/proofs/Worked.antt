@@ -13,8 +13,9 @@ use Rattle.plane.specs.Vector.{point}
 use Rattle.ring.specs.Each.{each}
 use Rattle.segments.specs.Segments.{straddlesOf, crossesOf}
 use Rattle.simple_polygon.specs.Simple.{adjacentOf}
-use Rattle.whole_rules.specs.Spots.{Spot, Placed}
-use Rattle.whole_rules.specs.Segments.{wholeOrientation, wholeOnSegment, wholeTouches, wholeIntersect}
+use Rattle.shifted.specs.declared.Spot.{Spot}
+use Rattle.whole_rules.specs.Spots.{Placed}
+use Rattle.whole_rules.specs.Segments.{wholeTurn, wholeOrientation, wholeOnSegment, wholeTouches, wholeIntersect}
 use Rattle.whole_rules.specs.Simple.{wholeClearPair, wholeClearRow, wholeSimple}
 use Rattle.whole_rules.specs.Area.{leftTo, rightTo, WholeArea2}
 
@@ -28,24 +29,24 @@ corner = record { across = refl; upward = refl; width = lit≤ tt; height = lit�
 
 -- from corner to corner, and one unit aside
 on-the-line : wholeOrientation (spot 0 0) (spot 2000000 2000000) (spot 1000000 1000000) ≡ pos 0
-unfolding wholeOrientation
+unfolding wholeTurn
 on-the-line = refl
 
 one-left : wholeOrientation (spot 0 0) (spot 2000000 2000000) (spot 1000000 1000001) ≡ pos 1
-unfolding wholeOrientation
+unfolding wholeTurn
 one-left = refl
 
 one-right : wholeOrientation (spot 0 0) (spot 2000000 2000000) (spot 1000001 1000000) ≡ negsuc 0
-unfolding wholeOrientation
+unfolding wholeTurn
 one-right = refl
 
 touching : wholeIntersect (spot 0 0) (spot 4 0) (spot 4 0) (spot 6 2) ≡ true
-unfolding wholeIntersect wholeTouches wholeOnSegment wholeOrientation crossesOf straddlesOf
+unfolding wholeIntersect wholeTouches wholeOnSegment wholeTurn crossesOf straddlesOf
 touching = refl
 
 -- on one line, one unit apart
 line-apart : wholeIntersect (spot 0 0) (spot 4 0) (spot 5 0) (spot 8 0) ≡ false
-unfolding wholeIntersect wholeTouches wholeOnSegment wholeOrientation crossesOf straddlesOf
+unfolding wholeIntersect wholeTouches wholeOnSegment wholeTurn crossesOf straddlesOf
 line-apart = refl
 
 -- ---- rings
@@ -60,11 +61,11 @@ abbrev eight : List Spot
 eight = spot 0 0 ∷ spot 4 4 ∷ spot 4 0 ∷ spot 0 4 ∷ []
 
 is-simple : wholeSimple (along square) 4 ≡ true
-unfolding wholeSimple wholeClearRow wholeClearPair wholeIntersect wholeTouches wholeOnSegment wholeOrientation crossesOf straddlesOf adjacentOf each
+unfolding wholeSimple wholeClearRow wholeClearPair wholeIntersect wholeTouches wholeOnSegment wholeTurn crossesOf straddlesOf adjacentOf each
 is-simple = refl
 
 is-not : wholeSimple (along eight) 4 ≡ false
-unfolding wholeSimple wholeClearRow wholeClearPair wholeIntersect wholeTouches wholeOnSegment wholeOrientation crossesOf straddlesOf adjacentOf each
+unfolding wholeSimple wholeClearRow wholeClearPair wholeIntersect wholeTouches wholeOnSegment wholeTurn crossesOf straddlesOf adjacentOf each
 is-not = refl
 
 twice : WholeArea2 (along square) 4 (pos 32)
