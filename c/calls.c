@@ -416,6 +416,9 @@ static void whole_points(void) {
     CHECK(byr_whole_turn(-M, -M, M, M, M - 1, M, &turn) == 0 && turn == 1);
     CHECK(byr_whole_turn(-M, -M, M, M, M, M - 1, &turn) == 0 && turn == -1);
     CHECK(byr_whole_turn(-M, -M, M, M, 7, 7, &turn) == 0 && turn == 0);
+    CHECK(byr_whole_turn(0, 0, 1, 0, 0, 1, &turn) == 0 && turn == 1);
+    CHECK(byr_whole_turn(0, 0, M, 0, 0, M, &turn) == 0 && turn == 1);
+    CHECK(byr_whole_turn(0, 0, M, 0, 0, -M, &turn) == 0 && turn == -1);
     begin("byr_whole_orientation");
     turn = 77;
     for (i = 0; i < 4; i++) {
@@ -449,7 +452,7 @@ static void whole_points(void) {
 static void whole_rings(void) {
     static const int32_t square[8] = {-M, -M, M, -M, M, M, -M, M};
     static const int32_t bow[8] = {0, 0, 2, 2, 2, 0, 0, 2};
-    static const int32_t closing[8] = {0, 0, 4, 0, 4, 4, 1, -1};
+    static const int32_t closing[8] = {0, 0, 4, 0, 1, 3, 4, 2};
     uint32_t simple = HELD_WORD;
     int64_t area2 = HELD_COUNT;
     uint64_t place = HELD_COUNT;

@@ -28,6 +28,8 @@ fn points_and_segments_are_judged() {
     assert_eq!(whole::turn((0, 0), (4, 0), (4, -1)), Ok(-1));
     assert_eq!(whole::orientation((-M, -M), (M, M), (0, 0)), Ok(0));
     assert_eq!(whole::orientation((-M, -M), (M, M), (1, 0)), Ok(-1));
+    assert_eq!(whole::orientation((0, 0), (1, 0), (0, 1)), Ok(1));
+    assert_eq!(whole::orientation((0, 0), (M, 0), (0, M)), Ok(1));
     assert_eq!(whole::on_segment((0, 0), (4, 0), (4, 0)), Ok(true));
     assert_eq!(whole::on_segment((0, 0), (4, 0), (5, 0)), Ok(false));
     assert_eq!(whole::segments_intersect((-M, -M), (M, M), (-M, M), (M, -M)), Ok(true));
@@ -49,7 +51,7 @@ fn rings_are_measured() {
     assert_eq!(whole::is_simple_polygon(&closed), Ok(false));
     assert_eq!(whole::is_simple_polygon(&closed[..3]), Ok(true));
     // The closing edge, from the last vertex to the first, is one of them.
-    let crossed = [(0, 0), (4, 0), (4, 4), (1, -1)];
+    let crossed = [(0, 0), (4, 0), (1, 3), (4, 2)];
     assert_eq!(whole::is_simple_polygon(&crossed), Ok(false));
 }
 
