@@ -4,13 +4,17 @@
 //! and refuse alike.
 //!
 //! ```
-//! use byrlygent::{polygon_ops, whole};
+//! use byrlygent::polygon_ops;
+//! use byrlygent::whole::{is_simple_polygon, segments_intersect, signed_area2};
 //!
-//! let plate = [(0, 0), (400, 0), (400, 300), (0, 300)];
-//! assert!(whole::is_simple_polygon(&plate)?);
-//! assert_eq!(whole::signed_area2(&plate)?, 240_000);
+//! let plate = [(0, 0), (400, 0), (400, 300), (200, 1), (0, 300)];
+//! assert!(is_simple_polygon(&plate)?);
+//! assert_eq!(signed_area2(&plate)?, 120_400);
+//! assert!(segments_intersect((0, 0), (400, 0), (200, 0), (200, 300))?);
+//! assert!(!segments_intersect((0, 0), (400, 0), (200, 1), (200, 300))?);
+//!
 //! let floats = plate.map(|(x, y)| (f64::from(x), f64::from(y)));
-//! assert_eq!(polygon_ops::signed_area2(&floats)?, 240_000.0);
+//! assert_eq!(polygon_ops::signed_area2(&floats)?, 120_400.0);
 //! # Ok::<(), byrlygent::Refusal>(())
 //! ```
 
