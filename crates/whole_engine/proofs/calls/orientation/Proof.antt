@@ -1,0 +1,13 @@
+-- `whole_engine::calls::orientation` meets its contract: it is the turn. Assumes nothing.
+use borrow.Author.Needs.{needs}
+use Rattle.whole_engine.proofs.calls.orientation.Statement.{statement}
+use Rattle.whole_engine.proofs.calls.orientation.Tie as tie
+
+turn-requires : tie.Need-turn-requires
+turn-requires c κs = search needs
+
+returns : tie.Need-returns
+returns c = c .turn .ensures
+
+pub orientation-spec : {M : Type 1} → statement M
+orientation-spec = tie.close (tie.spec turn-requires returns)
