@@ -41,12 +41,26 @@ pub fn on_segment(ax: i32, ay: i32, bx: i32, by: i32, px: i32, py: i32) -> Truth
 }
 
 // Whether the closed segments p1 p2 and p3 p4 meet.
-pub fn segments_intersect(x1: i32, y1: i32, x2: i32, y2: i32, x3: i32, y3: i32, x4: i32, y4: i32) -> Truth
+pub fn segments_intersect(
+    x1: i32,
+    y1: i32,
+    x2: i32,
+    y2: i32,
+    x3: i32,
+    y3: i32,
+    x4: i32,
+    y4: i32,
+) -> Truth
     ensures { λ r. ⌜ truth r ≡ wholeIntersectCall x1 y1 x2 y2 x3 y3 x4 y4 ⌝ }
 {
     let no = row::numbers(&[x1, y1, x2, y2, x3, y3, x4, y4]);
     if no.passed() {
-        Truth::Is(crate::segments_intersect(spot_of(x1, y1), spot_of(x2, y2), spot_of(x3, y3), spot_of(x4, y4)))
+        Truth::Is(crate::segments_intersect(
+            spot_of(x1, y1),
+            spot_of(x2, y2),
+            spot_of(x3, y3),
+            spot_of(x4, y4),
+        ))
     } else {
         Truth::Refused(no)
     }

@@ -172,7 +172,15 @@ fn adjacent(i: usize, j: usize, n: usize) -> bool
 }
 
 // Whether two edges share a vertex, as is told, or do not meet.
-fn clear_pair(shared: bool, a1: Spot, a2: Spot, b1: Spot, b2: Spot, d3: Orientation, d4: Orientation) -> bool
+fn clear_pair(
+    shared: bool,
+    a1: Spot,
+    a2: Spot,
+    b1: Spot,
+    b2: Spot,
+    d3: Orientation,
+    d4: Orientation,
+) -> bool
     requires { ⌜ Small a1 × Small a2 × Small b1 × Small b2 ⌝ }
     requires { ⌜ (turnNumber d3 ≡ wholeTurn a1 a2 b1) × (turnNumber d4 ≡ wholeTurn a1 a2 b2) ⌝ }
     ensures { λ r. ⌜ r ≡ (shared || not (wholeIntersect a1 a2 b1 b2)) ⌝ }
