@@ -1,0 +1,10 @@
+-- The modules of laws.
+pub mod Turning
+pub mod Box
+pub mod Meeting
+pub mod Edges
+pub mod Within
+pub mod Lifting
+pub mod Less
+pub mod Sums
+pub mod Passed
