@@ -8,3 +8,5 @@ pub mod Lifting
 pub mod Less
 pub mod Sums
 pub mod Passed
+pub mod Standing
+pub mod Agrees
