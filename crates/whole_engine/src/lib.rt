@@ -21,7 +21,7 @@ ghost use Rattle.whole_rules.specs.Segments.{wholeTurn, wholeBetween, wholeOnSe
 ghost use Rattle.whole_rules.specs.Simple.{wholeClearRow, wholeSimple};
 ghost use Rattle.whole_rules.specs.Area.{wholeArea2};
 ghost use Rattle.whole_engine.specs.Rows.{allInBounds};
-ghost use Rattle.whole_engine.specs.Sides.{sideOf};
+ghost use Rattle.whole_engine.specs.Sides.{sideOf, sameSide};
 
 // How far x is from a coordinate, and 4,194,304.
 fn away(x: u64, from: u64) -> u64
@@ -171,7 +171,26 @@ fn adjacent(i: usize, j: usize, n: usize) -> bool
     }
 }
 
-// Whether two edges share a vertex, as is told, or do not meet.
+// Whether two turns are both counter-clockwise or both clockwise.
+fn same_side(d: Orientation, e: Orientation) -> bool
+    ensures { λ r. ⌜ r ≡ sameSide (turnNumber d) (turnNumber e) ⌝ }
+{
+    match d {
+        Orientation::CounterClockwise => match e {
+            Orientation::CounterClockwise => true,
+            Orientation::Clockwise => false,
+            Orientation::Collinear => false,
+        },
+        Orientation::Clockwise => match e {
+            Orientation::CounterClockwise => false,
+            Orientation::Clockwise => true,
+            Orientation::Collinear => false,
+        },
+        Orientation::Collinear => false,
+    }
+}
+
+// Whether two edges share a vertex, as is told, or do not meet: an edge that lies on one side of the other does not.
 fn clear_pair(
     shared: bool,
     a1: Spot,
@@ -186,6 +205,9 @@ fn clear_pair(
     ensures { λ r. ⌜ r ≡ (shared || not (wholeIntersect a1 a2 b1 b2)) ⌝ }
 {
     if shared {
+        return true;
+    }
+    if same_side(d3, d4) {
         return true;
     }
     !meet(a1, a2, b1, b2, d3, d4)

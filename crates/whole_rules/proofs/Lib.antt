@@ -5,4 +5,5 @@ pub mod Segments
 pub mod Simple
 pub mod Area
 pub mod Same
+pub mod Apart
 pub mod Worked
