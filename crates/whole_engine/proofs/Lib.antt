@@ -10,3 +10,5 @@ pub mod Sums
 pub mod Passed
 pub mod Standing
 pub mod Agrees
+pub mod Only
+pub mod Worked
