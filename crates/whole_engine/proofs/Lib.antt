@@ -7,6 +7,9 @@ pub mod Within
 pub mod Lifting
 pub mod Less
 pub mod Sums
+pub mod Read
 pub mod Passed
 pub mod Standing
 pub mod Agrees
+pub mod Only
+pub mod Worked

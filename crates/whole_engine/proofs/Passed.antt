@@ -7,9 +7,6 @@ use mathlib.Core.List.{List, [], _∷_}
 use lib.ListN.{length}
 use lib.Dec.{lit<}
 use lib.IntN.{ℤ}
-use mir.Syntax.{w32}
-use mir.Val.{toZ, ofZ, SFits}
-use mir.ValLaws.{toZ-ofZ}
 use Rattle.refusals.specs.Refusals.{refusedNumber, passed, unless, first}
 use Rattle.refusals.specs.Lists.{listFault}
 use Rattle.refusals.specs.declared.Refusal.{Refusal}
@@ -17,8 +14,6 @@ use Rattle.refusals.proofs.Sized.{Fine, fine}
 use Rattle.shifted.specs.Shifted.{spotOf, Small}
 use Rattle.shifted.specs.declared.Spot.{Spot}
 use Rattle.whole_rules.specs.Segments.{wholeTurn, wholeOnSegment, wholeIntersect}
-use Rattle.refusals.specs.Answers.{Outcome}
-use Rattle.whole_engine.specs.Calls.{wholeTurnCall, wholeOrientationCall}
 use Rattle.whole_engine.specs.Rows.{allInBounds, wrongWhole, wholeExtent, ofWholeRing}
 use Rattle.whole_engine.proofs.Within.{small-in}
 
@@ -39,29 +34,6 @@ module _ (zs : List ℤ) {n : Refusal} {p : Bool} where
           let f = fine (wholeExtent zs) 0 q in
           (omega (arith, f .whole, f .within), all-within (e ∙ rw q) h t)
       go false q = absurd (true≢false (sym t ∙ h ∙ ap passed e ∙ rw (q, q)))
-
--- ---- coordinates that fit their type, as they are read
-
-abbrev read : ℤ → ℤ
-read x = toZ w32 (ofZ w32 x)
-
-pub spot-plain : (x y : ℤ) {s : Spot} → SFits w32 x → SFits w32 y → s ≡ spotOf (read x) (read y) → s ≡ spotOf x y
-spot-plain x y h k e = rw (toZ-ofZ w32 x h, toZ-ofZ w32 y k) at e
-
-module _ (ax ay bx by cx cy : ℤ) (h1 : SFits w32 ax) (h2 : SFits w32 ay) (h3 : SFits w32 bx) (h4 : SFits w32 by) (h5 : SFits w32 cx) (h6 : SFits w32 cy) where
-  pub plain-three : {n : Refusal} → n ≡ wrongWhole (read ax ∷ read ay ∷ read bx ∷ read by ∷ read cx ∷ read cy ∷ [])
-      → n ≡ wrongWhole (ax ∷ ay ∷ bx ∷ by ∷ cx ∷ cy ∷ [])
-  plain-three e = e ∙ rw (toZ-ofZ w32 ax h1, toZ-ofZ w32 ay h2, toZ-ofZ w32 bx h3, toZ-ofZ w32 by h4, toZ-ofZ w32 cx h5, toZ-ofZ w32 cy h6)
-
-  pub plain-turn : {o : Outcome ℤ} → o ≡ wholeTurnCall (read ax) (read ay) (read bx) (read by) (read cx) (read cy) → o ≡ wholeOrientationCall ax ay bx by cx cy
-  plain-turn e = e ∙ rw (toZ-ofZ w32 ax h1, toZ-ofZ w32 ay h2, toZ-ofZ w32 bx h3, toZ-ofZ w32 by h4, toZ-ofZ w32 cx h5, toZ-ofZ w32 cy h6)
-
-pub plain-four : (x1 y1 x2 y2 x3 y3 x4 y4 : ℤ) {n : Refusal} → SFits w32 x1 → SFits w32 y1 → SFits w32 x2 → SFits w32 y2 → SFits w32 x3 → SFits w32 y3
-    → SFits w32 x4 → SFits w32 y4
-    → n ≡ wrongWhole (read x1 ∷ read y1 ∷ read x2 ∷ read y2 ∷ read x3 ∷ read y3 ∷ read x4 ∷ read y4 ∷ [])
-    → n ≡ wrongWhole (x1 ∷ y1 ∷ x2 ∷ y2 ∷ x3 ∷ y3 ∷ x4 ∷ y4 ∷ [])
-plain-four x1 y1 x2 y2 x3 y3 x4 y4 h1 h2 h3 h4 h5 h6 h7 h8 e =
-    e ∙ rw (toZ-ofZ w32 x1 h1, toZ-ofZ w32 y1 h2, toZ-ofZ w32 x2 h3, toZ-ofZ w32 y2 h4, toZ-ofZ w32 x3 h5, toZ-ofZ w32 y3 h6, toZ-ofZ w32 x4 h7, toZ-ofZ w32 y4 h8)
 
 -- ---- points
 

@@ -5,21 +5,25 @@ use mathlib.Core.List.{[], _∷_}
 use Rattle.refusals.proofs.Calls.{goes, stops}
 use Rattle.shifted.specs.Shifted.{spotOf}
 use Rattle.whole_engine.specs.Rows.{wrongWhole}
-use Rattle.whole_engine.proofs.Passed.{plain-three, spot-plain, on-three}
+use Rattle.whole_engine.proofs.Read.{spot-read, six-read}
+use Rattle.whole_engine.proofs.Passed.{on-three}
 use Rattle.whole_engine.proofs.calls.on_segment.Statement.{statement}
 use Rattle.whole_engine.proofs.calls.on_segment.Tie as tie
 
 tested : (c : tie.After-numbers) → (let a = c .before .before .args in c .numbers .result ≡ wrongWhole (a .ax ∷ a .ay ∷ a .bx ∷ a .by ∷ a .px ∷ a .py ∷ []))
-tested c = let s = c .before .before in plain-three _ _ _ _ _ _ (s .fits .ax) (s .fits .ay) (s .fits .bx) (s .fits .by) (s .fits .px) (s .fits .py) (c .numbers .ensures)
+tested c =
+    let s = c .before .before in
+    c .numbers .ensures
+    ∙ six-read (λ ax ay bx by px py. wrongWhole (ax ∷ ay ∷ bx ∷ by ∷ px ∷ py ∷ [])) _ _ _ _ _ _ (s .fits .ax) (s .fits .ay) (s .fits .bx) (s .fits .by) (s .fits .px) (s .fits .py)
 
 point1 : (c : tie.After-spot-of3) → c .before .before .spot-of .result ≡ spotOf (c .before .before .before .before .before .before .before .args .ax) (c .before .before .before .before .before .before .before .args .ay)
-point1 c = let s = c .before .before .before .before .before .before .before in spot-plain _ _ (s .fits .ax) (s .fits .ay) (c .before .before .spot-of .ensures)
+point1 c = let s = c .before .before .before .before .before .before .before in spot-read _ _ (s .fits .ax) (s .fits .ay) (c .before .before .spot-of .ensures)
 
 point2 : (c : tie.After-spot-of3) → c .before .spot-of2 .result ≡ spotOf (c .before .before .before .before .before .before .before .args .bx) (c .before .before .before .before .before .before .before .args .by)
-point2 c = let s = c .before .before .before .before .before .before .before in spot-plain _ _ (s .fits .bx) (s .fits .by) (c .before .spot-of2 .ensures)
+point2 c = let s = c .before .before .before .before .before .before .before in spot-read _ _ (s .fits .bx) (s .fits .by) (c .before .spot-of2 .ensures)
 
 point3 : (c : tie.After-spot-of3) → c .spot-of3 .result ≡ spotOf (c .before .before .before .before .before .before .before .args .px) (c .before .before .before .before .before .before .before .args .py)
-point3 c = let s = c .before .before .before .before .before .before .before in spot-plain _ _ (s .fits .px) (s .fits .py) (c .spot-of3 .ensures)
+point3 c = let s = c .before .before .before .before .before .before .before in spot-read _ _ (s .fits .px) (s .fits .py) (c .spot-of3 .ensures)
 
 slice-aggregate-numbers : tie.Need-slice-aggregate-numbers
 slice-aggregate-numbers c = search needs
