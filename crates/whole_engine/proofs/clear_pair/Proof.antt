@@ -1,5 +1,4 @@
 -- `whole_engine::clear_pair` meets its contract: what is told, then the test. Assumes nothing.
-use borrow.Author.Needs.{needs}
 use Rattle.whole_engine.proofs.clear_pair.Statement.{statement}
 use Rattle.whole_engine.proofs.clear_pair.Tie as tie
 
