@@ -7,23 +7,22 @@ use mathlib.Core.List.{List, [], _∷_}
 use lib.ListN.{length}
 use lib.Dec.{lit<}
 use lib.IntN.{ℤ, pos, negsuc}
-use lib.Ieee.{Float, binary64, ofInt, lt, eq}
+use lib.Ieee.{Float, lt}
 use Rattle.plane.specs.Vector.{turnOf}
 use Rattle.plane.specs.declared.Point.{Point}
 use Rattle.ring.specs.Ring.{count}
 use Rattle.scalar.specs.Float.{f0}
-use Rattle.refusals.specs.Answers.{Outcome, answers, refuses, outcome}
+use Rattle.refusals.specs.Answers.{outcome}
 use Rattle.refusals.specs.Refusals.{refusedNumber, passed, unless, first}
 use Rattle.refusals.specs.Rows.{ofPoints3, ofPoints4, ofRing}
 use Rattle.refusals.specs.declared.Refusal.{Refusal}
 use Rattle.segments.specs.Calls.{orientationCall, onSegmentCall, intersectCall}
-use Rattle.simple_polygon.specs.Simple.{isSimple}
 use Rattle.simple_polygon.specs.Calls.{isSimpleCall}
 use Rattle.signed_area.specs.Area.{area2Of}
 use Rattle.signed_area.specs.Calls.{area2Call}
 use Rattle.shifted.specs.Shifted.{inBounds, spotOf, spotIn}
 use Rattle.whole_rules.specs.Spots.{Placed}
-use Rattle.whole_rules.specs.Segments.{leftOf, rightOf, wholeTurn, wholeOrientation, wholeOnSegment, wholeIntersect}
+use Rattle.whole_rules.specs.Segments.{wholeTurn}
 use Rattle.whole_rules.specs.Simple.{wholeSimple}
 use Rattle.whole_rules.specs.Area.{wholeArea2, WholeArea2}
 use Rattle.whole_rules.proofs.Segments.{turns-left, turns-right, orientation, onSegment, intersect}
@@ -59,7 +58,8 @@ three true true true true true false = refl
 three true true true true true true = refl
 
 four : (a b c d e f g h : Bool)
-    → first (unless (a && b) refusedNumber 0) (first (unless (c && d) refusedNumber 0) (first (unless (e && f) refusedNumber 0) (unless (g && h) refusedNumber 0)))
+    → first (unless (a && b) refusedNumber 0)
+    (first (unless (c && d) refusedNumber 0) (first (unless (e && f) refusedNumber 0) (unless (g && h) refusedNumber 0)))
     ≡ unless (a && (b && (c && (d && (e && (f && (g && (h && true)))))))) refusedNumber 0
 four false b c d e f g h = refl
 four true false c d e f g h = refl
@@ -75,10 +75,18 @@ module _ (a b c : Point) (ax ay bx by cx cy : ℤ) (A : DrawnPoint a ax ay) (B :
   same-refusal : ofPoints3 a b c ≡ wrongWhole (ax ∷ ay ∷ bx ∷ by ∷ cx ∷ cy ∷ [])
   unfolding ofPoints3 allInBounds
   same-refusal =
-      rw (same-bounds (a .x) ax (A .0), same-bounds (a .y) ay (A .1), same-bounds (b .x) bx (B .0), same-bounds (b .y) by (B .1), same-bounds (c .x) cx (C .0), same-bounds (c .y) cy (C .1))
+      rw (
+        same-bounds (a .x) ax (A .0),
+        same-bounds (a .y) ay (A .1),
+        same-bounds (b .x) bx (B .0),
+        same-bounds (b .y) by (B .1),
+        same-bounds (c .x) cx (C .0),
+        same-bounds (c .y) cy (C .1),
+      )
       (three (inBounds ax) (inBounds ay) (inBounds bx) (inBounds by) (inBounds cx) (inBounds cy))
 
-  placed : passed (wrongWhole (ax ∷ ay ∷ bx ∷ by ∷ cx ∷ cy ∷ [])) ≡ true → Placed a (spotOf ax ay) × Placed b (spotOf bx by) × Placed c (spotOf cx cy)
+  placed : passed (wrongWhole (ax ∷ ay ∷ bx ∷ by ∷ cx ∷ cy ∷ [])) ≡ true
+      → Placed a (spotOf ax ay) × Placed b (spotOf bx by) × Placed c (spotOf cx cy)
   placed p =
       let l = ax ∷ ay ∷ bx ∷ by ∷ cx ∷ cy ∷ [] in
       let w = all-within l {n = wrongWhole l} refl refl p in (
@@ -107,7 +115,16 @@ module _ (a b c d : Point) (x1 y1 x2 y2 x3 y3 x4 y4 : ℤ)
   same-refusal4 : ofPoints4 a b c d ≡ wrongWhole (x1 ∷ y1 ∷ x2 ∷ y2 ∷ x3 ∷ y3 ∷ x4 ∷ y4 ∷ [])
   unfolding ofPoints4 allInBounds
   same-refusal4 =
-      rw (same-bounds (a .x) x1 (A .0), same-bounds (a .y) y1 (A .1), same-bounds (b .x) x2 (B .0), same-bounds (b .y) y2 (B .1), same-bounds (c .x) x3 (C .0), same-bounds (c .y) y3 (C .1), same-bounds (d .x) x4 (D .0), same-bounds (d .y) y4 (D .1))
+      rw (
+        same-bounds (a .x) x1 (A .0),
+        same-bounds (a .y) y1 (A .1),
+        same-bounds (b .x) x2 (B .0),
+        same-bounds (b .y) y2 (B .1),
+        same-bounds (c .x) x3 (C .0),
+        same-bounds (c .y) y3 (C .1),
+        same-bounds (d .x) x4 (D .0),
+        same-bounds (d .y) y4 (D .1),
+      )
       (four (inBounds x1) (inBounds y1) (inBounds x2) (inBounds y2) (inBounds x3) (inBounds y3) (inBounds x4) (inBounds y4))
 
   pub intersect-agrees : intersectCall a b c d ≡ wholeIntersectCall x1 y1 x2 y2 x3 y3 x4 y4
@@ -140,7 +157,9 @@ module _ (r : List Float) (zs : List ℤ) (D : Drawn r zs) where
       simple r (spotIn zs) (ring-stands r zs D (w .1)) ∙ ap (wholeSimple (spotIn zs)) same-count)
 
   pub area-agrees : SameNumber (area2Call r) (wholeArea2Call zs)
-  area-agrees = subst (λ (s : Refusal). SameNumber (outcome s (area2Of r)) (wholeArea2Call zs)) (sym same-row) (go (passed (ofWholeRing zs)) refl)
+  area-agrees =
+      subst (λ (s : Refusal). SameNumber (outcome s (area2Of r)) (wholeArea2Call zs)) (sym same-row)
+      (go (passed (ofWholeRing zs)) refl)
     where
       go : (p : Bool) → passed (ofWholeRing zs) ≡ p → SameNumber (outcome (ofWholeRing zs) (area2Of r)) (wholeArea2Call zs)
       go true q =

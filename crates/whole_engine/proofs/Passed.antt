@@ -1,5 +1,5 @@
 -- What the tests let pass: points within a million, and a ring of at most 256 of them. Assumes nothing.
-use Prim.Native.Nat.{ℕ, _+_, _*_, _/_, _≤_, _<_}
+use Prim.Native.Nat.{_≤_}
 use native.Mathlib.Omega.{arith}
 use mathlib.Core.Path.{_≡_, refl, sym, ap, _∙_}
 use mathlib.Core.Bool.{Bool, true, false, true≢false}
@@ -7,10 +7,10 @@ use mathlib.Core.List.{List, [], _∷_}
 use lib.ListN.{length}
 use lib.Dec.{lit<}
 use lib.IntN.{ℤ}
-use Rattle.refusals.specs.Refusals.{refusedNumber, passed, unless, first}
+use Rattle.refusals.specs.Refusals.{refusedNumber, passed, unless}
 use Rattle.refusals.specs.Lists.{listFault}
 use Rattle.refusals.specs.declared.Refusal.{Refusal}
-use Rattle.refusals.proofs.Sized.{Fine, fine}
+use Rattle.refusals.proofs.Sized.{fine}
 use Rattle.shifted.specs.Shifted.{spotOf, Small}
 use Rattle.shifted.specs.declared.Spot.{Spot}
 use Rattle.whole_rules.specs.Segments.{wholeTurn, wholeOnSegment, wholeIntersect}

@@ -24,4 +24,13 @@ module _ {A : Type 0} where
       → SFits w32 a → SFits w32 b → SFits w32 c → SFits w32 d → SFits w32 e → SFits w32 g → SFits w32 i → SFits w32 j
       → f (read a) (read b) (read c) (read d) (read e) (read g) (read i) (read j) ≡ f a b c d e g i j
   eight-read f a b c d e g i j h1 h2 h3 h4 h5 h6 h7 h8 =
-      rw (toZ-ofZ w32 a h1, toZ-ofZ w32 b h2, toZ-ofZ w32 c h3, toZ-ofZ w32 d h4, toZ-ofZ w32 e h5, toZ-ofZ w32 g h6, toZ-ofZ w32 i h7, toZ-ofZ w32 j h8)
+      rw (
+        toZ-ofZ w32 a h1,
+        toZ-ofZ w32 b h2,
+        toZ-ofZ w32 c h3,
+        toZ-ofZ w32 d h4,
+        toZ-ofZ w32 e h5,
+        toZ-ofZ w32 g h6,
+        toZ-ofZ w32 i h7,
+        toZ-ofZ w32 j h8,
+      )

@@ -1,17 +1,17 @@
 -- Floats that are whole numbers: their bounds are those of the numbers, and within them each point stands where its integers
 -- do. Assumes nothing.
-use Prim.Native.Nat.{ℕ, zero, suc, _+_, _-_, _*_, _/_, _≤_, _<_}
+use Prim.Native.Nat.{ℕ, zero, suc, _+_, _-_, _*_, _<_}
 use native.Mathlib.Omega.{arith}
-use mathlib.Core.Path.{_≡_, refl, sym, ap, _∙_}
-use mathlib.Core.Bool.{Bool, true, false, _&&_, and-true}
+use mathlib.Core.Path.{_≡_, refl, ap, _∙_}
+use mathlib.Core.Bool.{true, and-true}
 use mathlib.Core.List.{List, [], _∷_}
 use lib.ListN.{length, getD}
-use lib.Dec.{leb, ltb}
+use lib.Dec.{leb}
 use lib.IntN.{ℤ, pos, negsuc}
 use lib.Ieee.{Float, nan}
-use borrow.Author.Tests.{le-leb, leb-true, ltb-true}
+use borrow.Author.Tests.{le-leb, ltb-true}
 use Rattle.plane.specs.declared.Point.{Point}
-use Rattle.ring.specs.Ring.{count, pointAt}
+use Rattle.ring.specs.Ring.{pointAt}
 use Rattle.refusals.specs.Bounds.{coordinate, every, coordinates}
 use Rattle.shifted.specs.Shifted.{inBounds, upOf, spotOf, spotIn}
 use Rattle.shifted.proofs.Laws.{within}

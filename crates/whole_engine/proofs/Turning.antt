@@ -1,6 +1,6 @@
 -- The turn by two products: with m added to each difference from a, what is compared stands as far apart as what the
 -- definition compares. Assumes nothing.
-use Prim.Native.Nat.{ℕ, _+_, _*_, _≤_}
+use Prim.Native.Nat.{ℕ, _+_, _*_}
 use native.Mathlib.Omega.{arith}
 use mathlib.Core.Path.{_≡_, ap}
 use lib.Dec.{lit<}
@@ -33,17 +33,19 @@ level m u v b e d c p q r s h k f g =
     let z1 = times m p u b m h in
     let z2 = times m q v e m k in
     let z =
-    replaced (p * s) (u * s) (b * s) (m * s) (u * v) (u * c) (u * m) (b * c) (b * m) (b * v) (q * r) (v * r) (e * r) (m * r) (d * e) (e * m) (u * e) (d * v) (v * m) (p * m) (m * m) (q * m)
+    replaced (p * s) (u * s) (b * s) (m * s) (u * v) (u * c) (u * m) (b * c) (b * m) (b * v) (q * r)
+    (v * r) (e * r) (m * r) (d * e) (e * m) (u * e) (d * v) (v * m) (p * m) (m * m) (q * m)
     (omega arith) (omega arith) (omega arith) (omega arith) (omega arith) (omega arith) (omega arith) (omega arith) in
     omega arith
 
-pub side-is : (a b c : Spot) (p q r s : ℕ) → p + a .x ≡ b .x + 4194304 → q + a .y ≡ b .y + 4194304 → r + a .x ≡ c .x + 4194304
-    → s + a .y ≡ c .y + 4194304 → sideOf p q r s ≡ wholeTurn a b c
+pub side-is : (a b c : Spot) (p q r s : ℕ) → p + a .x ≡ b .x + 4194304 → q + a .y ≡ b .y + 4194304
+    → r + a .x ≡ c .x + 4194304 → s + a .y ≡ c .y + 4194304 → sideOf p q r s ≡ wholeTurn a b c
 unfolding sideOf wholeTurn
 side-is a b c p q r s e f g h =
     let left = p * s + 4194304 * (q + r) in
     let right = q * r + 4194304 * (p + s) in
-    let z : left + rightOf a b c ≡ right + leftOf a b c = level 4194304 (a .x) (a .y) (b .x) (b .y) (c .x) (c .y) p q r s e f g h in
+    let z : left + rightOf a b c ≡ right + leftOf a b c =
+    level 4194304 (a .x) (a .y) (b .x) (b .y) (c .x) (c .y) p q r s e f g h in
     let l = alike right left (rightOf a b c) (leftOf a b c) 1 1 (lit< tt) (lit< tt) (omega arith) in
     let m = alike left right (leftOf a b c) (rightOf a b c) 1 1 (lit< tt) (lit< tt) (omega arith) in
     rw (l, m)

@@ -19,6 +19,14 @@ Inv-loop list i₀ i = (i ≤ length list) × (allInBounds list ≡ allInBounds 
 abbrev μ-loop : tie.MeasureT-loop
 μ-loop list i₀ i = length list - i
 
+-- the test of number i
+is : (c : tie.After-is-within Inv-loop μ-loop)
+    → (let l = c .before .before .before in c .is-within .result ≡ inBounds (getD (l .before .args .list .now) (l .loop .i) (pos 0)))
+is c =
+    let l = c .before .before .before in
+    c .is-within .ensures
+    ∙ ap inBounds (toZ-ofZ w32 (getD (l .before .args .list .now) (l .loop .i) (pos 0)) (record { sfits = c .before .is-within-arg .given }))
+
 loop-holds : tie.Need-loop-holds Inv-loop μ-loop
 loop-holds c = (omega arith, refl)
 
@@ -40,12 +48,12 @@ loop-less c = omega arith
 loop-again : tie.Need-loop-again Inv-loop μ-loop
 loop-again c =
     let l = c .before .before .before .before in
-    (omega arith, l .loop .inv .1 ∙ within-on _ _ (c .before .before .before .loop-test .taken) (sym (c .before .is-within .ensures ∙ ap inBounds (toZ-ofZ w32 (getD (l .before .args .list .now) (l .loop .i) (pos 0)) (record { sfits = c .before .before .is-within-arg .given }))) ∙ c .if1 .taken))
+    (omega arith, l .loop .inv .1 ∙ within-on _ _ (c .before .before .before .loop-test .taken) (sym (is (c .before)) ∙ c .if1 .taken))
 
 returns : tie.Need-returns Inv-loop μ-loop
 returns c =
     let l = c .before .before .before .before in
-    sym (l .loop .inv .1 ∙ within-off _ _ (c .before .before .before .loop-test .taken) (sym (c .before .is-within .ensures ∙ ap inBounds (toZ-ofZ w32 (getD (l .before .args .list .now) (l .loop .i) (pos 0)) (record { sfits = c .before .before .is-within-arg .given }))) ∙ c .if1 .left))
+    sym (l .loop .inv .1 ∙ within-off _ _ (c .before .before .before .loop-test .taken) (sym (is (c .before)) ∙ c .if1 .left))
 
 returns-2 : tie.Need-returns-2 Inv-loop μ-loop
 returns-2 c = sym (c .before .loop .inv .1 ∙ within-end _ _ (c .loop-test .left))
