@@ -1,5 +1,6 @@
-//! The answer that docs/SCOPE.md gives to each exported function but the book's
-//! two: the refusals in their order, then the text over the fixed helpers.
+//! The answer that docs/SCOPE.md gives to each exported function but those of
+//! `book`, `wkb` and `grounds`: the refusals in their order, then the text over the
+//! fixed helpers.
 //! Lists are x, y alternating; a room is written on success only, at its front.
 
 use crate::answers::{Error, Nfp, Point, Trace};

@@ -344,12 +344,12 @@ pub extern "C" fn byr_explain_collision(
     ground: &mut u32,
     distance: &mut f64,
     kind: &mut u32,
-    stationary_i: &mut u64,
-    orbiting_i: &mut u64,
+    si: &mut u64,
+    oi: &mut u64,
     others: &mut u64,
-    too_near: &mut u64,
+    near: &mut u64,
     between: &mut u64,
-    too_far: &mut u64,
+    far: &mut u64,
     place: &mut u64,
 ) -> u32
     ensures { λ r. ⌜ r ≡ returned (explainCall (now (stationary .entry)) (now (orbiting .entry)) (point dx dy) tolerance) ⌝ }
@@ -363,23 +363,23 @@ pub extern "C" fn byr_explain_collision(
         ⌜ now (kind .exit) ≡ toldFound hitKind
         (hitIn (explainCall (now (stationary .entry)) (now (orbiting .entry)) (point dx dy) tolerance)) (now (kind .entry)) ⌝ }
     ensures { λ _.
-        ⌜ now (stationary_i .exit) ≡ toldFound hitStationary
-        (hitIn (explainCall (now (stationary .entry)) (now (orbiting .entry)) (point dx dy) tolerance)) (now (stationary_i .entry)) ⌝ }
+        ⌜ now (si .exit) ≡ toldFound hitStationary
+        (hitIn (explainCall (now (stationary .entry)) (now (orbiting .entry)) (point dx dy) tolerance)) (now (si .entry)) ⌝ }
     ensures { λ _.
-        ⌜ now (orbiting_i .exit) ≡ toldFound hitOrbiting
-        (hitIn (explainCall (now (stationary .entry)) (now (orbiting .entry)) (point dx dy) tolerance)) (now (orbiting_i .entry)) ⌝ }
+        ⌜ now (oi .exit) ≡ toldFound hitOrbiting
+        (hitIn (explainCall (now (stationary .entry)) (now (orbiting .entry)) (point dx dy) tolerance)) (now (oi .entry)) ⌝ }
     ensures { λ _.
         ⌜ now (others .exit) ≡ othersTold (explainCall (now (stationary .entry)) (now (orbiting .entry)) (point dx dy) tolerance)
         (now (others .entry)) ⌝ }
     ensures { λ _.
-        ⌜ now (too_near .exit) ≡ told nearIn (explainCall (now (stationary .entry)) (now (orbiting .entry)) (point dx dy) tolerance)
-        (now (too_near .entry)) ⌝ }
+        ⌜ now (near .exit) ≡ told nearIn (explainCall (now (stationary .entry)) (now (orbiting .entry)) (point dx dy) tolerance)
+        (now (near .entry)) ⌝ }
     ensures { λ _.
         ⌜ now (between .exit) ≡ told betweenIn (explainCall (now (stationary .entry)) (now (orbiting .entry)) (point dx dy) tolerance)
         (now (between .entry)) ⌝ }
     ensures { λ _.
-        ⌜ now (too_far .exit) ≡ told farIn (explainCall (now (stationary .entry)) (now (orbiting .entry)) (point dx dy) tolerance)
-        (now (too_far .entry)) ⌝ }
+        ⌜ now (far .exit) ≡ told farIn (explainCall (now (stationary .entry)) (now (orbiting .entry)) (point dx dy) tolerance)
+        (now (far .entry)) ⌝ }
     ensures { λ _.
         ⌜ now (place .exit) ≡ toldPlace (explainCall (now (stationary .entry)) (now (orbiting .entry)) (point dx dy) tolerance)
         (now (place .entry)) ⌝ }
@@ -391,12 +391,12 @@ pub extern "C" fn byr_explain_collision(
         ground,
         distance,
         kind,
-        stationary_i,
-        orbiting_i,
+        si,
+        oi,
         others,
-        too_near,
+        near,
         between,
-        too_far,
+        far,
     );
     hand_refusal(no, place)
 }

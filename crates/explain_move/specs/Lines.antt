@@ -10,16 +10,15 @@ use Rattle.collision.specs.Calls.{Values}
 use Rattle.grounds.specs.Calls.{Account}
 use Rattle.lines.specs.Lines.{numberLine}
 
--- "hit ", the kind, the stationary index, the orbiting one, the distance's bits in 16 hex digits and the other pairs at it
+-- "hit ", the kind, the stationary index and the orbiting one, a space after each
+unfoldable pub hitFront : ℕ → ℕ → ℕ → List ℕ
+hitFront kind stationary orbiting =
+    (104 ∷ 105 ∷ 116 ∷ 32 ∷ []) ++ (decimal kind ++ (space ++ (decimal stationary ++ (space ++ (decimal orbiting ++ space)))))
+
+-- then the distance's bits in 16 hex digits and the other pairs at it
 unfoldable pub hitLine : Values → ℕ → List ℕ
 hitLine v others =
-    (104 ∷ 105 ∷ 116 ∷ 32 ∷ [])
-    ++ (decimal (v .kind)
-    ++ (space
-    ++ (decimal (v .stationary)
-    ++ (space
-    ++ (decimal (v .orbiting)
-    ++ (space ++ (hex (toBits binary64 (v .distance)) ++ (space ++ (decimal others ++ newline)))))))))
+    hitFront (v .kind) (v .stationary) (v .orbiting) ++ (hex (toBits binary64 (v .distance)) ++ (space ++ (decimal others ++ newline)))
 
 -- "clear " and the ground's number
 unfoldable pub clearLine : ℕ → List ℕ

@@ -1,5 +1,5 @@
-// Says what a move runs into, or why it is clear. Standard input has the move's x and y and the tolerance as bit patterns, eight bytes each,
-// and then a book whose first ring is the stationary polygon and whose second is the orbiting one.
+// Says what a move runs into, or why it is clear. Standard input has the move's x and y and the tolerance as bit patterns, eight bytes
+// each, and then a book whose first ring is the stationary polygon and whose second is the orbiting one.
 mod say;
 
 use book_layout::BOOK_MOST;
@@ -53,9 +53,10 @@ fn put_pair(
     tolerance: f64,
     out: &mut [u8],
 ) -> usize
-    requires { ⌜ 100 ≤ length (now out) ⌝ }
+    requires { ⌜ 120 ≤ length (now out) ⌝ }
     ensures { λ r.
-        ⌜ Put (now (out .entry)) 0 (explainedText (now (stationary .entry)) (now (orbiting .entry)) translation tolerance) (now (out .exit)) r ⌝ }
+        ⌜ Put (now (out .entry)) 0 (explainedText (now (stationary .entry)) (now (orbiting .entry)) translation tolerance)
+        (now (out .exit)) r ⌝ }
 {
     put_explained(
         explain_collision(stationary, orbiting, translation, tolerance),
@@ -73,7 +74,7 @@ fn put_rings(
     out: &mut [u8],
 ) -> usize
     requires { ⌜ (n ≤ verticesMost) × (m ≤ verticesMost) × (2 * n + 2 * m ≤ length (now xs)) ⌝ }
-    requires { ⌜ 100 ≤ length (now out) ⌝ }
+    requires { ⌜ 120 ≤ length (now out) ⌝ }
     ensures { λ r.
         ⌜ Put (now (out .entry)) 0 (explainedText (firstPart (now (xs .entry)) n) (secondPart (now (xs .entry)) n m) translation tolerance)
         (now (out .exit)) r ⌝ }
@@ -85,7 +86,7 @@ fn put_rings(
 
 // What is printed for a book. A book of one ring leaves the second count 0, and the call refuses a polygon of no vertices.
 fn put_book(book: &[u8], translation: Point, tolerance: f64, out: &mut [u8]) -> usize
-    requires { ⌜ 100 ≤ length (now out) ⌝ }
+    requires { ⌜ 120 ≤ length (now out) ⌝ }
     ensures { λ r.
         ⌜ Put (now (out .entry)) 0 (explainedBookText (now (book .entry)) translation tolerance) (now (out .exit)) r ⌝ }
 {
@@ -106,7 +107,7 @@ fn put_book(book: &[u8], translation: Point, tolerance: f64, out: &mut [u8]) -> 
 
 // What is printed for an input. What is too short for the three words is refused before any book.
 fn put_input(input: &[u8], out: &mut [u8]) -> usize
-    requires { ⌜ 100 ≤ length (now out) ⌝ }
+    requires { ⌜ 120 ≤ length (now out) ⌝ }
     ensures { λ r. ⌜ Put (now (out .entry)) 0 (explainText (now (input .entry))) (now (out .exit)) r ⌝ }
 {
     if input.len() < WORDS_BYTES {
@@ -123,7 +124,7 @@ fn put_input(input: &[u8], out: &mut [u8]) -> usize
 // One byte more than the words and the longest book is read, so that what is too long is refused like any other wrong length.
 fn main() {
     let mut input = [0u8; WORDS_BYTES + BOOK_MOST + 1];
-    let mut out = [0u8; 100];
+    let mut out = [0u8; 120];
     let n = io::read_full(STDIN_FILENO, &mut input);
     let length = put_input(&input[..n], &mut out);
     io::write_all(STDOUT_FILENO, &out[..length]);

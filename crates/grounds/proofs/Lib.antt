@@ -1,5 +1,9 @@
 -- The modules that belong to no one function.
+pub mod Classes
 pub mod Counts
 pub mod Scanned
 pub mod Others
 pub mod Explained
+pub mod Grounds
+pub mod Answers
+pub mod Worked

@@ -29,6 +29,7 @@ use Rattle.collision.proofs.Nearest.{carried, found-first}
 use Rattle.grounds.specs.Classes.{hitIs, hitAt, howMany}
 use Rattle.grounds.specs.Scan.{noTally, othersAfter}
 use Rattle.grounds.specs.Explanation.{othersAt}
+use Rattle.grounds.proofs.Classes.{no-bool}
 use Rattle.grounds.proofs.Scanned.{stepOf, best-is}
 
 module _ (st orb : List Float) (move : Point) (tol : Float) where
@@ -82,9 +83,6 @@ module _ (st orb : List Float) (move : Point) (tol : Float) where
             hits = counts (sweepOf move tol) _ _ _ _ e r (lt-le tol d e (i .above) (le-of-eq d e (eq-back e d t))) (le-lt e d _ (le-of-eq e d t) (i .below));
             same = t;
           }
-
-  no-bool : {A : Type 0} → true ≡ false → A
-  no-bool e = absurd (true≢false e)
 
   -- where no such hit is there, no pair is at the distance
   none-at : (d : Float) → Inside d → (n : ℕ) → ((k : ℕ) → k < n → Equal d k → ⊥) → tally (at d) n ≡ 0

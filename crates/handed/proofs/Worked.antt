@@ -3,9 +3,12 @@ use Prim.Native.Nat.{ℕ}
 use mathlib.Core.Path.{_≡_, refl}
 use mathlib.Core.Bool.{true, false}
 use mathlib.Core.Option.{Option, none, some}
+use lib.Ieee.{Float, binary64, ofBits, nan}
+use Rattle.grounds.specs.Calls.{Account}
 use Rattle.refusals.specs.Answers.{Outcome, answers, refuses}
-use Rattle.refusals.specs.Refusals.{refusedBook, refusedFew, tellsPlace, refuse}
-use Rattle.handed.specs.Handed.{refusalIn, returned, told, toldFound, placeOf, toldPlace, itself, flag, isFound}
+use Rattle.refusals.specs.Refusals.{refusedBook, refusedFew, refusedSetting, tellsPlace, refuse}
+use Rattle.handed.specs.Handed.{refusalIn, returned, told, toldFound, placeOf, toldPlace, itself, flag, isFound, hitDistance, hitKind, hitStationary, hitOrbiting}
+use Rattle.handed.specs.Explanations.{hitIn, withHit, othersTold, groundIn, nearIn, betweenIn, farIn}
 
 -- a book of two rings: 0, the count, and no place
 abbrev read : Outcome ℕ
@@ -94,3 +97,79 @@ true-told = refl
 false-told : told flag (answers false) 9 ≡ 0
 unfolding told
 false-told = refl
+
+-- a move that runs into an edge half a unit away, with 4 other pairs at that distance: ground 0, and each value in its own cell
+abbrev half : Float
+half = ofBits binary64 0x3FE0000000000000
+
+abbrev hit : Outcome Account
+hit =
+    answers
+    (record {
+      ground = 0;
+      hit = some (record { distance = half; kind = 1; stationary = 2; orbiting = 3 });
+      others = 4;
+      near = 5;
+      between = 6;
+      far = 7;
+    })
+
+hit-ground : (returned hit ≡ 0) × (told groundIn hit 9 ≡ 0)
+unfolding refusalIn told
+hit-ground = (refl, refl)
+
+hit-pair :
+    (toldFound hitDistance (hitIn hit) nan ≡ half)
+    × (toldFound hitKind (hitIn hit) 9 ≡ 1)
+    × (toldFound hitStationary (hitIn hit) 9 ≡ 2)
+    × (toldFound hitOrbiting (hitIn hit) 9 ≡ 3)
+unfolding toldFound
+hit-pair = (refl, refl, refl, refl)
+
+hit-counts : (othersTold hit 9 ≡ 4) × (told nearIn hit 9 ≡ 5) × (told betweenIn hit 9 ≡ 6) × (told farIn hit 9 ≡ 7)
+unfolding told othersTold withHit
+hit-counts = (refl, refl, refl, refl)
+
+-- all hits too far: 0 as well, ground 4 and the counts, and what belongs to a hit as it was
+abbrev far : Outcome Account
+far = answers (record { ground = 4; hit = none; others = 0; near = 0; between = 0; far = 7 })
+
+far-ground : (returned far ≡ 0) × (told groundIn far 9 ≡ 4)
+unfolding refusalIn told
+far-ground = (refl, refl)
+
+far-pair :
+    (toldFound hitDistance (hitIn far) half ≡ half)
+    × (toldFound hitKind (hitIn far) 9 ≡ 9)
+    × (toldFound hitStationary (hitIn far) 9 ≡ 9)
+    × (toldFound hitOrbiting (hitIn far) 9 ≡ 9)
+unfolding toldFound
+far-pair = (refl, refl, refl, refl)
+
+far-counts : (othersTold far 9 ≡ 9) × (told nearIn far 9 ≡ 0) × (told betweenIn far 9 ≡ 0) × (told farIn far 9 ≡ 7)
+unfolding told othersTold withHit
+far-counts = (refl, refl, refl, refl)
+
+-- a tolerance out of bounds: 3, and every cell as it was
+abbrev unexplained : Outcome Account
+unexplained = refuses (refuse refusedSetting 0)
+
+unexplained-ground : (returned unexplained ≡ 3) × (told groundIn unexplained 9 ≡ 9)
+unfolding refusalIn told
+unexplained-ground = (refl, refl)
+
+unexplained-pair :
+    (toldFound hitDistance (hitIn unexplained) half ≡ half)
+    × (toldFound hitKind (hitIn unexplained) 9 ≡ 9)
+    × (toldFound hitStationary (hitIn unexplained) 9 ≡ 9)
+    × (toldFound hitOrbiting (hitIn unexplained) 9 ≡ 9)
+unfolding toldFound
+unexplained-pair = (refl, refl, refl, refl)
+
+unexplained-counts :
+    (othersTold unexplained 9 ≡ 9)
+    × (told nearIn unexplained 9 ≡ 9)
+    × (told betweenIn unexplained 9 ≡ 9)
+    × (told farIn unexplained 9 ≡ 9)
+unfolding told othersTold withHit
+unexplained-counts = (refl, refl, refl, refl)

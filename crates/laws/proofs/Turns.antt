@@ -1,9 +1,10 @@
 -- Turns that go on where others stood, rows of turns as one row, and counts. Assumes nothing.
 use Prim.Native.Nat.{ℕ, zero, suc, _+_, _*_, _/_, _%_, _≤_, _<_}
-use native.Mathlib.Nat.{add-zero, add-suc, zero-mul, suc-mul, mul-add-div-right, mul-add-mod-self-right, div-eq-of-lt, mod-eq-of-lt}
+use native.Mathlib.Nat.{eq-or-lt-of-le, add-zero, add-suc, zero-mul, suc-mul, mul-add-div-right, mul-add-mod-self-right, div-eq-of-lt, mod-eq-of-lt}
 use native.Mathlib.Numerals.{add-one}
 use native.Mathlib.Omega.{arith}
 use mathlib.Core.Path.{_≡_, refl, sym, ap, _∙_}
+use mathlib.Core.Logic.{inl, inr}
 use mathlib.Core.Bool.{Bool, true, false, cond}
 use Rattle.laws.specs.Turns.{turns, turnRows, tally}
 
@@ -59,3 +60,44 @@ pub tally-none : (passes : ℕ → Bool) (n : ℕ) → ((k : ℕ) → k < n → 
 unfolding tally
 tally-none passes zero h = refl
 tally-none passes (suc n) h = rw (tally-none passes n (λ k l. h k (omega arith)), h n (omega arith))
+
+-- a number below n that passes
+pub record Passing (passes : ℕ → Bool) (n : ℕ) : Type 0 where
+  pub which : ℕ
+  pub below : which < n
+  pub does : passes which ≡ true
+
+-- where the count is 0 none passes
+pub none-passes : (passes : ℕ → Bool) (n : ℕ) → tally passes n ≡ 0 → (k : ℕ) → k < n → passes k ≡ false
+unfolding tally
+none-passes passes zero h k l = absurd (omega arith)
+none-passes passes (suc n) h k l = go (passes n) refl (λ z q. none-passes passes n z k q) h
+  where
+    go : (b : Bool) → passes n ≡ b → (tally passes n ≡ 0 → k < n → passes k ≡ false) → tally passes n + cond b 1 0 ≡ 0 → passes k ≡ false
+    go true e before z = absurd (omega arith)
+    go false e before z =
+        let m : k ≤ n = omega arith in
+        elim (eq-or-lt-of-le m) [ inl q ↦ ap passes q ∙ e | inr q ↦ before (omega arith) q ]
+
+-- and where it is not, one does
+pub one-passes : (passes : ℕ → Bool) (n : ℕ) → (tally passes n ≡ 0 → ⊥) → Passing passes n
+unfolding tally
+one-passes passes zero h = absurd (h refl)
+one-passes passes (suc n) h = go (passes n) refl (λ z. one-passes passes n z) h
+  where
+    go : (b : Bool) → passes n ≡ b → ((tally passes n ≡ 0 → ⊥) → Passing passes n) → (tally passes n + cond b 1 0 ≡ 0 → ⊥) → Passing passes (suc n)
+    go true e before z = record { which = n; below = omega arith; does = e }
+    go false e before z =
+        let s = before (λ q. z (omega arith)) in
+        record { which = s .which; below = omega (arith, s .below); does = s .does }
+
+-- three tests of which one passes wherever a fourth does count together what it counts
+pub tally-three : (p q r any : ℕ → Bool) (n : ℕ)
+    → ((k : ℕ) → k < n → _≡_ {A = ℕ} (cond (p k) 1 0 + cond (q k) 1 0 + cond (r k) 1 0) (cond (any k) 1 0))
+    → tally p n + tally q n + tally r n ≡ tally any n
+unfolding tally
+tally-three p q r any zero h = refl
+tally-three p q r any (suc n) h =
+    let a = tally-three p q r any n (λ k l. h k (omega arith)) in
+    let b = h n (omega arith) in
+    omega arith

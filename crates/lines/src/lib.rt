@@ -12,7 +12,7 @@ ghost use Rattle.print.specs.Text.{Put};
 ghost use Rattle.lines.specs.Lines.{numberLine, placeLine, refusalLine, pointLines};
 
 // A refusal's number alone.
-fn put_number(number: u32, out: &mut [u8]) -> usize
+pub fn put_number(number: u32, out: &mut [u8]) -> usize
     requires { ⌜ 100 ≤ length (now out) ⌝ }
     ensures { λ r. ⌜ Put (now (out .entry)) 0 (numberLine number) (now (out .exit)) r ⌝ }
 {

@@ -91,6 +91,7 @@ fn on_polygons(call: u64, s: &[f64], o: &[f64], v: &[f64], x: &[f64; 8]) -> Told
         6 => told::position(recovery::calls::recover_contact(s, o, p, x[2])),
         7 => told::truth(overlap::calls::polygons_overlap(s, o)),
         8 => told::truth(overlap::calls::polygons_overlap_with_tolerance(s, o, x[0])),
+        11 => told::explained(grounds::calls::explain_collision(s, o, p, x[2])),
         _ => told::started(start_position::calls::find_start_position(s, o)),
     }
 }
@@ -127,8 +128,22 @@ fn on_rooms(
     }
 }
 
+// Whether the last four values are what the record says: the counts of an explanation.
+fn counted_so(told: Told, header: &[u8; 144]) -> bool {
+    if told.f != word(header, 104) {
+        return false;
+    }
+    if told.g != word(header, 112) {
+        return false;
+    }
+    if told.h != word(header, 120) {
+        return false;
+    }
+    told.i == word(header, 128)
+}
+
 // Whether what was told is what the record says.
-fn told_so(told: Told, header: &[u8; 128]) -> bool {
+fn told_so(told: Told, header: &[u8; 144]) -> bool {
     if told.number != word(header, 56) {
         return false;
     }
@@ -147,12 +162,16 @@ fn told_so(told: Told, header: &[u8; 128]) -> bool {
     if told.e != word(header, 96) {
         return false;
     }
-    told.place == word(header, 104)
+    if counted_so(told, header) {
+        told.place == word(header, 136)
+    } else {
+        false
+    }
 }
 
 // The same two on the first numbers of each list.
 fn polygons_agree(
-    header: &[u8; 128],
+    header: &[u8; 144],
     s: &[f64],
     sn: usize,
     o: &[f64],
@@ -170,7 +189,7 @@ fn polygons_agree(
 }
 
 fn rooms_told(
-    header: &[u8; 128],
+    header: &[u8; 144],
     s: &[f64],
     sn: usize,
     o: &[f64],
@@ -213,7 +232,7 @@ fn left_so(numbers: &[u64], nl: &[u64], nn: usize, room: &[f64], rl: &[f64], rn:
 
 // A record of contacts, whose first room is the one of numbers.
 fn contacts_agree(
-    header: &[u8; 128],
+    header: &[u8; 144],
     s: &[f64],
     sn: usize,
     o: &[f64],
@@ -252,7 +271,7 @@ fn contacts_agree(
 
 // A record whose first room is the one of floats.
 fn rooms_agree(
-    header: &[u8; 128],
+    header: &[u8; 144],
     s: &[f64],
     sn: usize,
     o: &[f64],
@@ -290,7 +309,7 @@ fn rooms_agree(
 }
 
 // One record past its header.
-fn agrees(header: &[u8; 128]) -> bool {
+fn agrees(header: &[u8; 144]) -> bool {
     let sn = list_length(header, 8, 4096);
     let on = list_length(header, 16, 4096);
     let vn = list_length(header, 24, 20100);
@@ -310,9 +329,9 @@ fn agrees(header: &[u8; 128]) -> bool {
 
 // One record: read, worked out and compared.
 fn step() -> Verdict {
-    let mut header = [0u8; 128];
+    let mut header = [0u8; 144];
     let got = io::read_full(STDIN_FILENO, &mut header);
-    if got < 128 {
+    if got < 144 {
         return Verdict::End;
     }
     if agrees(&header) {

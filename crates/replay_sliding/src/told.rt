@@ -1,7 +1,9 @@
-// What a call of the sliding answers, as words: the refusal's number or 0, up to five values, 0 where there is none, and the place that the
+// What a call of the sliding answers, as words: the refusal's number or 0, up to nine values, 0 where there is none, and the place that the
 // refusal tells or 0.
 use collision::Collision;
 use collision::answer::Checked;
+use grounds::Explanation;
+use grounds::answer::Explained;
 use number_bytes::bits_of;
 use refusals::Refusal;
 use refusals::answer::Count;
@@ -18,6 +20,10 @@ pub struct Told {
     pub c: u64,
     pub d: u64,
     pub e: u64,
+    pub f: u64,
+    pub g: u64,
+    pub h: u64,
+    pub i: u64,
     pub place: u64,
 }
 
@@ -29,6 +35,10 @@ fn values(a: u64, b: u64, c: u64, d: u64, e: u64) -> Told {
         c,
         d,
         e,
+        f: 0,
+        g: 0,
+        h: 0,
+        i: 0,
         place: 0,
     }
 }
@@ -41,6 +51,10 @@ fn refused(r: Refusal) -> Told {
         c: 0,
         d: 0,
         e: 0,
+        f: 0,
+        g: 0,
+        h: 0,
+        i: 0,
         place: r.place,
     }
 }
@@ -101,6 +115,33 @@ pub fn checked(c: Checked) -> Told {
     match c {
         Checked::Is(x) => collision(x),
         Checked::Refused(r) => refused(r),
+    }
+}
+
+fn explanation(x: Explanation) -> Told {
+    let ground = x.ground;
+    let tally = x.tally;
+    let best = tally.best;
+    let hit = collision(best);
+    Told {
+        number: 0,
+        a: ground.number() as u64,
+        b: hit.b,
+        c: hit.c,
+        d: hit.d,
+        e: hit.e,
+        f: tally.others,
+        g: tally.near,
+        h: tally.between,
+        i: tally.far,
+        place: 0,
+    }
+}
+
+pub fn explained(e: Explained) -> Told {
+    match e {
+        Explained::Is(x) => explanation(x),
+        Explained::Refused(r) => refused(r),
     }
 }
 

@@ -1,19 +1,17 @@
 -- What is printed for an input: every byte. Definitions only.
-use Prim.Native.Nat.{ℕ, _*_}
+use Prim.Native.Nat.{ℕ}
 use mathlib.Core.Bool.{cond}
 use mathlib.Core.List.{List}
-use lib.ListN.{getD, take, drop}
+use lib.ListN.{drop}
 use lib.Ieee.{Float, binary64, ofBits}
-use Rattle.number_bytes.specs.Bytes.{numberOf}
 use Rattle.refusals.specs.Refusals.{refuse, passed}
 use Rattle.refusals.specs.declared.Settings.{Settings}
 use Rattle.simplify.specs.Simplify.{simplified}
-use Rattle.book_layout.specs.Layout.{countsOf}
 use Rattle.book_layout.specs.Faults.{bookCheck}
-use Rattle.book_layout.specs.Reader.{numbersOf}
 use Rattle.nfp_sliding.specs.Path.{tracedOf}
 use Rattle.nfp_sliding.specs.Calls.{Answer, traces, denied, overfull, tooShort, traceCall}
 use Rattle.lines.specs.Lines.{refusalLine}
+use Rattle.pair_input.specs.Input.{wordsBytes, wordAt, stationaryIn, orbitingIn}
 use Rattle.slide_trace.specs.Lines.{pathText}
 
 -- the numbers that each of the trace's two rooms holds: the start and a point for each of 10,000 passes
@@ -31,26 +29,10 @@ textOf (tooShort passes stop) result = refusalLine (refuse 6 0)
 unfoldable pub traceText : List Float → List Float → Settings → List ℕ
 traceText st orb s = textOf (traceCall st orb s roomSize roomSize) (simplified (tracedOf st orb s roomSize .path) (s .«contact_tolerance»))
 
--- the first n vertices of a list, and the m after them
-abbrev pub tracedRingsText : List Float → ℕ → ℕ → Settings → List ℕ
-tracedRingsText xs n m s = traceText (take (2 * n) xs) (take (2 * m) (drop (2 * n) xs)) s
-
--- vertices of ring i of a book, 0 where it has no such ring
-abbrev pub verticesOf : List ℕ → ℕ → ℕ
-verticesOf book i = getD (countsOf book) i 0
-
 -- a book: its fault, or the trace of its first two rings
 unfoldable pub tracedBookText : List ℕ → Settings → List ℕ
 tracedBookText book s =
-    cond (passed (bookCheck book)) (tracedRingsText (numbersOf book) (verticesOf book 0) (verticesOf book 1) s) (refusalLine (bookCheck book))
-
--- bytes of the settings, three words
-abbrev pub settingsBytes : ℕ
-settingsBytes = 24
-
--- the word at a byte
-abbrev pub wordAt : List ℕ → ℕ → ℕ
-wordAt input at = numberOf (take 8 (drop at input))
+    cond (passed (bookCheck book)) (traceText (stationaryIn book) (orbitingIn book) s) (refusalLine (bookCheck book))
 
 -- the tolerance, the smallest move and the pass limit
 abbrev pub settingsIn : List ℕ → Settings
@@ -62,4 +44,4 @@ settingsIn input = record {
 
 -- the settings, and then the book
 unfoldable pub inputText : List ℕ → List ℕ
-inputText input = tracedBookText (drop settingsBytes input) (settingsIn input)
+inputText input = tracedBookText (drop wordsBytes input) (settingsIn input)

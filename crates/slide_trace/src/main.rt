@@ -20,15 +20,16 @@ ghost use mathlib.Core.Path.{_≡_};
 ghost use Prim.Native.Nat.{_+_, _*_, _≤_};
 ghost use lib.ListN.{length};
 ghost use Rattle.print.specs.Text.{Put};
-ghost use Rattle.slide_trace.specs.Said.{settingsBytes, settingsIn, traceText, tracedRingsText, tracedBookText, inputText};
 ghost use Rattle.refusals.specs.Rings.{verticesMost};
+ghost use Rattle.pair_input.specs.Input.{wordsBytes, firstPart, secondPart};
+ghost use Rattle.slide_trace.specs.Said.{settingsIn, traceText, tracedBookText, inputText};
 
 // Bytes of the settings, three words.
 const SETTINGS_BYTES: usize = 24;
 
 // The settings before the book.
 fn settings(input: &[u8]) -> Settings
-    requires { ⌜ settingsBytes ≤ length (now input) ⌝ }
+    requires { ⌜ wordsBytes ≤ length (now input) ⌝ }
     ensures { λ r. ⌜ r ≡ settingsIn (now (input .entry)) ⌝ }
 {
     Settings {
@@ -53,7 +54,9 @@ fn put_trace(stationary: &[f64], orbiting: &[f64], settings: Settings, out: &mut
 fn put_rings(xs: &[f64], n: usize, m: usize, settings: Settings, out: &mut [u8]) -> usize
     requires { ⌜ (n ≤ verticesMost) × (m ≤ verticesMost) × (2 * n + 2 * m ≤ length (now xs)) ⌝ }
     requires { ⌜ 340200 ≤ length (now out) ⌝ }
-    ensures { λ r. ⌜ Put (now (out .entry)) 0 (tracedRingsText (now (xs .entry)) n m settings) (now (out .exit)) r ⌝ }
+    ensures { λ r.
+        ⌜ Put (now (out .entry)) 0 (traceText (firstPart (now (xs .entry)) n) (secondPart (now (xs .entry)) n m) settings)
+        (now (out .exit)) r ⌝ }
 {
     let middle = 2 * n;
     let end = middle + 2 * m;

@@ -105,7 +105,8 @@ impl fmt::Display for Explanations {
             write!(f, " {place}: {count}{}", if place + 1 < GROUNDS { "," } else { "\n" })?;
         }
         let [vertex_edge, edge_vertex] = kinds;
-        writeln!(f, "hits explained: kind 0: {vertex_edge}, kind 1: {edge_vertex}; others at most {most_others}")
+        write!(f, "hits explained: kind 0: {vertex_edge}, kind 1: {edge_vertex}; ")?;
+        writeln!(f, "other pairs at a hit's distance: at most {most_others}")
     }
 }
 

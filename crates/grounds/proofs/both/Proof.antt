@@ -38,7 +38,7 @@ scan-requires c κs =
 scan-requires-2 : tie.Need-scan-requires-2
 scan-requires-2 c κs =
     let p = c .before .before .before .before .before .pre in
-    (p .0, p .1, after-one _ _ _ _ (c .before .no-tally .ensures) (c .scan .ensures) (p .1) (p .0))
+    (omega (arith, p .0, p .1), omega (arith, p .0, p .1), after-one _ _ _ _ (c .before .no-tally .ensures) (c .scan .ensures) (p .1) (p .0))
 
 returns : tie.Need-returns
 unfolding bothNoted

@@ -1,10 +1,35 @@
 -- `slide_trace::put_book` meets its contract. Assumes nothing.
+use Prim.Native.Nat.{ℕ, _<_}
 use native.Mathlib.Omega.{arith}
 use borrow.Author.Needs.{needs}
+use mathlib.Core.Path.{_≡_}
+use mathlib.Core.List.{List}
+use lib.ListN.{getD}
+use lib.Ieee.{Float}
+use Rattle.refusals.specs.declared.answer.Count.the-variants.{Is}
+use Rattle.lines.specs.Lines.{refusalLine}
 use Rattle.print.proofs.Puts.{reads}
-use Rattle.slide_trace.proofs.Books.{first-most, second-most, both-inside, rings-said, fault-told}
+use Rattle.pair_input.proofs.Rings.{Pair, pair-read, fault-read, pair-said, fault-said}
+use Rattle.slide_trace.specs.Said.{traceText, tracedBookText}
 use Rattle.slide_trace.proofs.put_book.Statement.{statement}
 use Rattle.slide_trace.proofs.put_book.Tie as tie
+
+-- the book, and what the reader left
+module _ (c : tie.After-read-book) where
+  abbrev s : tie.Start
+  s = c .before .before .before .before .before
+
+  abbrev f : List ℕ
+  f = s .args .book .now
+
+  bytes : (i : ℕ) → getD f i 0 < 256
+  bytes i = omega (arith, c .before .before .before .before .shared-slice-known .given i)
+
+  pair : (k : ℕ) → c .read-book .result ≡ Is k → Pair f (c .read-book .last .1 .0) (c .read-book .last .1 .1 .0)
+  pair k e = pair-read f bytes _ _ (c .read-book .result) (c .read-book .ensures) k e
+
+  abbrev say : List Float → List Float → List ℕ
+  say st orb = traceText st orb (s .args .settings)
 
 slice-aggregate-read-book : tie.Need-slice-aggregate-read-book
 slice-aggregate-read-book c = search needs
@@ -27,8 +52,7 @@ array-read-put-rings c = search needs
 cast-put-rings : tie.Need-cast-put-rings
 cast-put-rings c =
     let r = c .before .before .before .before .before in
-    let a = r .before .before .before .before .before .args in
-    omega (arith, first-most (a .book .now) (λ i. omega (arith, r .before .before .before .before .shared-slice-known .given i)) (a .settings) (r .read-book .last .1 .0) (r .read-book .last .1 .1 .0) (r .read-book .result) (r .read-book .ensures) (c .before .enum-told .given .0 .0) (c .before .enum-told .given .1))
+    omega (arith, pair r (c .before .enum-told .given .0 .0) (c .before .enum-told .given .1) .first-most)
 
 array-read-put-rings-2 : tie.Need-array-read-put-rings-2
 array-read-put-rings-2 c = search needs
@@ -36,14 +60,13 @@ array-read-put-rings-2 c = search needs
 cast-put-rings-2 : tie.Need-cast-put-rings-2
 cast-put-rings-2 c =
     let r = c .before .before .before .before .before in
-    let a = r .before .before .before .before .before .args in
-    omega (arith, second-most (a .book .now) (λ i. omega (arith, r .before .before .before .before .shared-slice-known .given i)) (a .settings) (r .read-book .last .1 .0) (r .read-book .last .1 .1 .0) (r .read-book .result) (r .read-book .ensures) (c .before .enum-told .given .0 .0) (c .before .enum-told .given .1))
+    omega (arith, pair r (c .before .enum-told .given .0 .0) (c .before .enum-told .given .1) .second-most)
 
 put-rings-requires : tie.Need-put-rings-requires
 put-rings-requires c κs =
     let r = c .before .before .before .before .before .before in
-    let a = r .before .before .before .before .before .args in
-    ((first-most (a .book .now) (λ i. omega (arith, r .before .before .before .before .shared-slice-known .given i)) (a .settings) (r .read-book .last .1 .0) (r .read-book .last .1 .1 .0) (r .read-book .result) (r .read-book .ensures) (c .before .before .enum-told .given .0 .0) (c .before .before .enum-told .given .1), second-most (a .book .now) (λ i. omega (arith, r .before .before .before .before .shared-slice-known .given i)) (a .settings) (r .read-book .last .1 .0) (r .read-book .last .1 .1 .0) (r .read-book .result) (r .read-book .ensures) (c .before .before .enum-told .given .0 .0) (c .before .before .enum-told .given .1), both-inside (a .book .now) (λ i. omega (arith, r .before .before .before .before .shared-slice-known .given i)) (a .settings) (r .read-book .last .1 .0) (r .read-book .last .1 .1 .0) (r .read-book .result) (r .read-book .ensures) (c .before .before .enum-told .given .0 .0) (c .before .before .enum-told .given .1)), (omega arith))
+    let p = pair r (c .before .before .enum-told .given .0 .0) (c .before .before .enum-told .given .1) in
+    ((p .first-most, p .second-most, p .both-inside), (omega arith))
 
 enum-known-no : tie.Need-enum-known-no
 enum-known-no c = search needs
@@ -55,19 +78,23 @@ same-length : tie.Need-same-length
 same-length c = search needs
 
 returns : tie.Need-returns
+unfolding tracedBookText
 returns c =
-    let r = c .before .before .before .before .before .before .before .before .before in
-    let a = r .before .before .before .before .before .args in
-    reads (rings-said (a .book .now) (λ i. omega (arith, r .before .before .before .before .shared-slice-known .given i)) (a .settings) (r .read-book .last .1 .0) (r .read-book .last .1 .1 .0) (r .read-book .result) (r .read-book .ensures) (c .before .before .before .before .before .enum-told .given .0 .0) (c .before .before .before .before .before .enum-told .given .1)) (c .before .before .put-rings .ensures)
+    let t = c .before .before .before .before .before in
+    let r = t .before .before .before .before in
+    let p = pair r (t .enum-told .given .0 .0) (t .enum-told .given .1) in
+    reads (pair-said (say r) refusalLine (f r) p) (c .before .before .put-rings .ensures)
 
 same-length-2 : tie.Need-same-length-2
 same-length-2 c = search needs
 
 returns-2 : tie.Need-returns-2
+unfolding tracedBookText
 returns-2 c =
-    let r = c .before .before .before .before .before .before .before .before .before in
-    let a = r .before .before .before .before .before .args in
-    reads (fault-told (a .book .now) (λ i. omega (arith, r .before .before .before .before .shared-slice-known .given i)) (a .settings) (r .read-book .last .1 .0) (r .read-book .last .1 .1 .0) (r .read-book .result) (r .read-book .ensures) (c .before .before .before .before .before .no .given .0 .0) (c .before .before .before .before .before .no .given .1)) (c .before .before .put-refusal .ensures)
+    let t = c .before .before .before .before .before in
+    let r = t .before .before .before .before in
+    let q = fault-read (f r) (bytes r) _ _ _ (r .read-book .ensures) (t .no .given .0 .0) (t .no .given .1) in
+    reads (fault-said (say r) refusalLine (f r) q) (c .before .before .put-refusal .ensures)
 
 pub put-book-spec : {M : Type 1} → statement M
 put-book-spec =

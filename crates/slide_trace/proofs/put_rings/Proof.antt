@@ -6,6 +6,7 @@ use mathlib.Core.Path.{_≡_, sym, ap}
 use lib.ListN.{take, drop}
 use lib.Seq.{length-take-le}
 use Rattle.print.proofs.Puts.{reads}
+use Rattle.pair_input.specs.Input.{firstPart}
 use Rattle.slide_trace.specs.Said.{traceText}
 use Rattle.slide_trace.proofs.put_rings.Statement.{statement}
 use Rattle.slide_trace.proofs.put_rings.Tie as tie
@@ -44,7 +45,7 @@ returns : tie.Need-returns
 returns c =
     let a = c .before .before .before .before .before .before .before .before .args in
     let e : (2 * a .n + 2 * a .m) - 2 * a .n ≡ 2 * a .m = omega arith in
-    reads (ap (λ (k : ℕ). traceText (take (2 * a .n) (a .xs .now)) (take k (drop (2 * a .n) (a .xs .now))) (a .settings)) e) (c .before .before .put-trace .ensures)
+    reads (ap (λ (k : ℕ). traceText (firstPart (a .xs .now) (a .n)) (take k (drop (2 * a .n) (a .xs .now))) (a .settings)) e) (c .before .before .put-trace .ensures)
 
 pub put-rings-spec : {M : Type 1} → statement M
 put-rings-spec =

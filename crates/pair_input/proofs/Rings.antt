@@ -1,27 +1,28 @@
--- What is printed of the rings that the reader hands out is what is said of the book. Assumes nothing.
+-- The first two rings that the reader hands out are the two polygons of the book, and what is said of them is said of the book.
+-- Assumes nothing.
 use Prim.Native.Nat.{ℕ, zero, suc, _+_, _*_, _≤_, _<_}
 use native.Mathlib.Omega.{arith}
 use mathlib.Core.Path.{_≡_, refl, ap, ap₂, _∙_}
-use mathlib.Core.Bool.{true}
+use mathlib.Core.Bool.{true, false, cond}
 use mathlib.Core.List.{List, [], _∷_, _++_}
 use lib.ListN.{length, getD, take, drop, replicate, length-append, length-drop, length-replicate}
 use lib.Seq.{take-append-le, drop-append-le}
 use lib.Ieee.{Float, binary64, ofBits}
 use Rattle.ring.specs.Room.{laid}
+use Rattle.refusals.specs.Refusals.{passed}
 use Rattle.refusals.specs.declared.Refusal.{Refusal}
-use Rattle.refusals.specs.declared.Settings.{Settings}
 use Rattle.refusals.specs.declared.answer.Count.{Count}
 use Rattle.refusals.specs.declared.answer.Count.the-variants.{Is, Refused}
 use Rattle.refusals.specs.Rings.{verticesLeast, verticesMost, ringsMost, within, total, sizedAll}
 use Rattle.book_layout.specs.Layout.{numbersMost, countsOf}
+use Rattle.book_layout.specs.Faults.{_passes, bookCheck}
 use Rattle.book_layout.specs.Writer.{Held}
 use Rattle.book_layout.specs.Reader.{numbersOf}
 use Rattle.laws.proofs.Both.{both}
 use Rattle.refusals.proofs.Counts.{is-within}
 use Rattle.book_reader.proofs.Files.{Promised}
 use Rattle.book_reader.proofs.Handed.{a-book, book-held, room-is, counts-are, no-book}
-use Rattle.lines.specs.Lines.{refusalLine}
-use Rattle.slide_trace.specs.Said.{verticesOf, traceText, tracedRingsText, tracedBookText}
+use Rattle.pair_input.specs.Input.{firstPart, secondPart, verticesOf, stationaryIn, orbitingIn}
 
 -- ---- counts
 
@@ -47,7 +48,9 @@ record Two (ns : List ℕ) : Type 0 where
 two : (ns : List ℕ) → sizedAll ns ≡ true → Two ns
 unfolding sizedAll total
 two [] s = record { first = (omega arith); second = (omega arith); sum = (omega arith) }
-two (n ∷ []) s = let p = is-within verticesLeast verticesMost n (both (within verticesLeast verticesMost n) true s .0) in record { first = p .1; second = (omega arith); sum = (omega arith) }
+two (n ∷ []) s =
+    let p = is-within verticesLeast verticesMost n (both (within verticesLeast verticesMost n) true s .0) in
+    record { first = p .1; second = (omega arith); sum = (omega arith) }
 two (n ∷ m ∷ ns) s =
     let p = both (within verticesLeast verticesMost n) (sizedAll (m ∷ ns)) s in
     let q = both (within verticesLeast verticesMost m) (sizedAll ns) (p .1) in
@@ -56,13 +59,22 @@ two (n ∷ m ∷ ns) s =
 -- ---- the reader's answer
 
 -- the two rooms before it
-abbrev room : List Float
+abbrev pub room : List Float
 room = replicate numbersMost (ofBits binary64 0)
 
-abbrev counts : List ℕ
+abbrev pub counts : List ℕ
 counts = replicate ringsMost 0
 
-module _ (f : List ℕ) (bytes : (i : ℕ) → getD f i 0 < 256) (s : Settings) (x : List Float) (n : List ℕ) (r : Count) (p : Promised f room counts r x n) where
+-- what the rooms hold after it: the two polygons of a book, one after the other
+pub record Pair (f : List ℕ) (x : List Float) (n : List ℕ) : Type 0 where
+  pub book : bookCheck f passes
+  pub first-most : getD n 0 0 ≤ verticesMost
+  pub second-most : getD n 1 0 ≤ verticesMost
+  pub both-inside : 2 * getD n 0 0 + 2 * getD n 1 0 ≤ length x
+  pub stationary-is : firstPart x (getD n 0 0) ≡ stationaryIn f
+  pub orbiting-is : secondPart x (getD n 0 0) (getD n 1 0) ≡ orbitingIn f
+
+module _ (f : List ℕ) (bytes : (i : ℕ) → getD f i 0 < 256) (x : List Float) (n : List ℕ) (r : Count) (p : Promised f room counts r x n) where
   module _ (k : ℕ) (e : r ≡ Is k) where
     held : Held (numbersOf f) (countsOf f)
     held = book-held f bytes room x counts n r p k e
@@ -78,33 +90,49 @@ module _ (f : List ℕ) (bytes : (i : ℕ) → getD f i 0 < 256) (s : Settings) 
     bounds : Two (countsOf f)
     bounds = two (countsOf f) (held .sized)
 
-    pub first-most : getD n 0 0 ≤ verticesMost
-    first-most = omega (arith, vertices 0, bounds .first)
-
-    pub second-most : getD n 1 0 ≤ verticesMost
-    second-most = omega (arith, vertices 1, bounds .second)
-
     numbers-are : length x ≡ length (numbersOf f) + length (drop (length (numbersOf f)) room)
     numbers-are = ap length room-holds ∙ length-append (numbersOf f) (drop (length (numbersOf f)) room)
 
-    pub both-inside : 2 * getD n 0 0 + 2 * getD n 1 0 ≤ length x
-    both-inside = omega (arith, vertices 0, vertices 1, bounds .sum, held .whole, numbers-are)
+    inside : 2 * verticesOf f 0 + 2 * verticesOf f 1 ≤ length (numbersOf f)
+    inside = omega (arith, bounds .sum, held .whole)
 
-    pub rings-said : tracedRingsText x (getD n 0 0) (getD n 1 0) s ≡ tracedBookText f s
-    unfolding tracedBookText
-    rings-said =
+    stationary : firstPart x (getD n 0 0) ≡ stationaryIn f
+    stationary = rw (vertices 0, room-holds) (take-append-le (2 * verticesOf f 0) (numbersOf f) (drop (length (numbersOf f)) room) (omega (arith, inside)))
+
+    orbiting : secondPart x (getD n 0 0) (getD n 1 0) ≡ orbitingIn f
+    orbiting =
         let l = numbersOf f in
         let rest = drop (length l) room in
         let a = 2 * verticesOf f 0 in
         let b = 2 * verticesOf f 1 in
-        let h : a + b ≤ length l = omega (arith, bounds .sum, held .whole) in
-        let d : drop a (l ++ rest) ≡ drop a l ++ rest = drop-append-le a l rest (omega arith) in
-        let t : take b (drop a (l ++ rest)) ≡ take b (drop a l) = ap (take b) d ∙ take-append-le b (drop a l) rest (omega (arith, length-drop a l)) in
-        rw (vertices 0, vertices 1, room-holds, a-book f bytes room x counts n r p k e) (ap₂ (λ (u v : List Float). traceText u v s) (take-append-le a l rest (omega arith)) t)
+        let d : drop a (l ++ rest) ≡ drop a l ++ rest = drop-append-le a l rest (omega (arith, inside)) in
+        rw (vertices 0, vertices 1, room-holds) (ap (take b) d ∙ take-append-le b (drop a l) rest (omega (arith, inside, length-drop a l)))
+
+    pub pair-read : Pair f x n
+    pair-read = record {
+      book = a-book f bytes room x counts n r p k e;
+      first-most = (omega (arith, vertices 0, bounds .first));
+      second-most = (omega (arith, vertices 1, bounds .second));
+      both-inside = (omega (arith, vertices 0, vertices 1, inside, numbers-are));
+      stationary-is = stationary;
+      orbiting-is = orbiting;
+    }
 
   module _ (told : Refusal) (e : r ≡ Refused told) where
-    pub fault-told : refusalLine told ≡ tracedBookText f s
-    unfolding tracedBookText
-    fault-told =
-        let b = no-book f bytes room x counts n r p (omega (arith, length-replicate numbersMost (ofBits binary64 0))) (omega (arith, length-replicate {A = ℕ} ringsMost 0)) told e in
-        rw (b .0) (ap refusalLine (b .1))
+    pub fault-read : (passed (bookCheck f) ≡ false) × (told ≡ bookCheck f)
+    fault-read =
+        let l = length-replicate numbersMost (ofBits binary64 0) in
+        let m = length-replicate {A = ℕ} ringsMost 0 in
+        no-book f bytes room x counts n r p (omega (arith, l)) (omega (arith, m)) told e
+
+-- ---- what is said of a book: its two polygons in one way, or its fault in another
+
+module _ (say : List Float → List Float → List ℕ) (fault : Refusal → List ℕ) (f : List ℕ) where
+  abbrev bookText : List ℕ
+  bookText = cond (passed (bookCheck f)) (say (stationaryIn f) (orbitingIn f)) (fault (bookCheck f))
+
+  pub pair-said : {x : List Float} {n : List ℕ} → Pair f x n → say (firstPart x (getD n 0 0)) (secondPart x (getD n 0 0) (getD n 1 0)) ≡ bookText
+  pair-said p = rw (p .book) (ap₂ say (p .stationary-is) (p .orbiting-is))
+
+  pub fault-said : {told : Refusal} → (passed (bookCheck f) ≡ false) × (told ≡ bookCheck f) → fault told ≡ bookText
+  fault-said b = rw (b .0) (ap fault (b .1))

@@ -1,0 +1,4 @@
+-- The modules that belong to no one function.
+mod Inputs
+mod Answers
+mod OneRing
