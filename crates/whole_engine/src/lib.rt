@@ -5,17 +5,17 @@ pub mod row;
 
 use plane::Orientation;
 use ring::next;
+use segments::crosses;
 use shifted::Spot;
 use shifted::lift;
 use shifted::spot_at;
+use simple_polygon::adjacent;
 ghost use mathlib.Core.Bool.{true, not, _||_};
 ghost use mathlib.Core.Path.{_≡_};
 ghost use Prim.Native.Nat.{_+_, _/_, _≤_, _<_};
 ghost use lib.ListN.{length};
 ghost use Rattle.plane.specs.Orientation.{turnNumber};
-ghost use Rattle.segments.specs.Segments.{straddlesOf, crossesOf};
 ghost use Rattle.shifted.specs.Shifted.{Small, SmallRing, spotAt, spotIn};
-ghost use Rattle.simple_polygon.specs.Simple.{adjacentOf};
 ghost use Rattle.whole_floats.specs.Whole.{differenceOf};
 ghost use Rattle.whole_rules.specs.Segments.{wholeTurn, wholeBetween, wholeOnSegment, wholeTouches, wholeIntersect};
 ghost use Rattle.whole_rules.specs.Simple.{wholeClearRow, wholeSimple};
@@ -83,36 +83,6 @@ pub fn on_segment(a: Spot, b: Spot, p: Spot) -> bool
     }
 }
 
-// Whether one of two turns is counter-clockwise and the other clockwise.
-fn straddles(d: Orientation, e: Orientation) -> bool
-    ensures { λ r. ⌜ r ≡ straddlesOf (turnNumber d) (turnNumber e) ⌝ }
-{
-    match d {
-        Orientation::CounterClockwise => match e {
-            Orientation::CounterClockwise => false,
-            Orientation::Clockwise => true,
-            Orientation::Collinear => false,
-        },
-        Orientation::Clockwise => match e {
-            Orientation::CounterClockwise => true,
-            Orientation::Clockwise => false,
-            Orientation::Collinear => false,
-        },
-        Orientation::Collinear => false,
-    }
-}
-
-// Whether each of two segments straddles the line of the other, by the turns of its ends.
-fn crosses(d1: Orientation, d2: Orientation, d3: Orientation, d4: Orientation) -> bool
-    ensures { λ r. ⌜ r ≡ crossesOf (turnNumber d1) (turnNumber d2) (turnNumber d3) (turnNumber d4) ⌝ }
-{
-    if straddles(d1, d2) {
-        straddles(d3, d4)
-    } else {
-        false
-    }
-}
-
 // Whether p, whose turn with a and b is d, lies on the segment a b.
 fn touches(d: Orientation, a: Spot, b: Spot, p: Spot) -> bool
     ensures { λ r. ⌜ r ≡ wholeTouches (turnNumber d) a b p ⌝ }
@@ -155,20 +125,6 @@ pub fn segments_intersect(p1: Spot, p2: Spot, p3: Spot, p4: Spot) -> bool
     let d3 = turn(p1, p2, p3);
     let d4 = turn(p1, p2, p4);
     meet(p1, p2, p3, p4, d3, d4)
-}
-
-// Whether the edges i and j, i before j, of n share a vertex.
-fn adjacent(i: usize, j: usize, n: usize) -> bool
-    requires { ⌜ (i < j) × (j < n) ⌝ }
-    ensures { λ r. ⌜ r ≡ adjacentOf i j n ⌝ }
-{
-    if j == i + 1 {
-        true
-    } else if i == 0 {
-        j == n - 1
-    } else {
-        false
-    }
 }
 
 // Whether two turns are both counter-clockwise or both clockwise.
