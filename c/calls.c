@@ -391,6 +391,104 @@ static void rings(void) {
     CHECK(place == HELD_COUNT);
 }
 
+/* ---- Whole numbers ---- */
+
+enum { M = 1000000 };
+
+/* A ring of 257 vertices at the origin, and the same with a number out of bounds. */
+static const int32_t WHOLE[515] = {0};
+static const int32_t WHOLE_WRONG[515] = {M + 1};
+
+/* Numbers that are no coordinate. */
+static const int32_t PAST[4] = {M + 1, -M - 1, INT32_MAX, INT32_MIN};
+
+static void whole_points(void) {
+    int32_t turn = 77;
+    uint32_t answer = HELD_WORD;
+    size_t i;
+
+    begin("byr_whole_turn");
+    for (i = 0; i < 4; i++) {
+        CHECK(byr_whole_turn(PAST[i], 0, 4, 0, 4, 1, &turn) == BYR_REFUSED_NUMBER);
+        CHECK(byr_whole_turn(0, 0, 4, 0, 4, PAST[i], &turn) == BYR_REFUSED_NUMBER);
+    }
+    CHECK(turn == 77);
+    CHECK(byr_whole_turn(-M, -M, M, M, M - 1, M, &turn) == 0 && turn == 1);
+    CHECK(byr_whole_turn(-M, -M, M, M, M, M - 1, &turn) == 0 && turn == -1);
+    CHECK(byr_whole_turn(-M, -M, M, M, 7, 7, &turn) == 0 && turn == 0);
+    CHECK(byr_whole_turn(0, 0, 1, 0, 0, 1, &turn) == 0 && turn == 1);
+    CHECK(byr_whole_turn(0, 0, M, 0, 0, M, &turn) == 0 && turn == 1);
+    CHECK(byr_whole_turn(0, 0, M, 0, 0, -M, &turn) == 0 && turn == -1);
+    begin("byr_whole_orientation");
+    turn = 77;
+    for (i = 0; i < 4; i++) {
+        CHECK(byr_whole_orientation(0, PAST[i], 4, 0, 4, 1, &turn) == BYR_REFUSED_NUMBER);
+    }
+    CHECK(turn == 77);
+    CHECK(byr_whole_orientation(-M, M, M, -M, 1, 0, &turn) == 0 && turn == 1);
+    CHECK(byr_whole_orientation(-M, M, M, -M, -1, 0, &turn) == 0 && turn == -1);
+    CHECK(byr_whole_orientation(4, 4, 4, 4, 0, 0, &turn) == 0 && turn == 0);
+    begin("byr_whole_on_segment");
+    for (i = 0; i < 4; i++) {
+        CHECK(byr_whole_on_segment(0, 0, PAST[i], 0, 2, 0, &answer) == BYR_REFUSED_NUMBER);
+    }
+    CHECK(answer == HELD_WORD);
+    CHECK(byr_whole_on_segment(4, 0, 0, 0, 4, 0, &answer) == 0 && answer == 1);
+    CHECK(byr_whole_on_segment(4, 0, 0, 0, 5, 0, &answer) == 0 && answer == 0);
+    CHECK(byr_whole_on_segment(4, 0, 0, 0, 4, -1, &answer) == 0 && answer == 0);
+    begin("byr_whole_segments_intersect");
+    answer = HELD_WORD;
+    for (i = 0; i < 4; i++) {
+        CHECK(byr_whole_segments_intersect(0, 0, 4, 4, 0, 4, 4, PAST[i], &answer) == BYR_REFUSED_NUMBER);
+    }
+    CHECK(answer == HELD_WORD);
+    CHECK(byr_whole_segments_intersect(-M, -M, M, M, -M, M, M, -M, &answer) == 0 && answer == 1);
+    CHECK(byr_whole_segments_intersect(0, 0, 4, 0, 4, 0, 9, 9, &answer) == 0 && answer == 1);
+    CHECK(byr_whole_segments_intersect(0, 0, 4, 0, 5, 0, 9, 0, &answer) == 0 && answer == 0);
+    CHECK(byr_whole_segments_intersect(-M, -M, M, M, 1, 0, M, -M, &answer) == 0 && answer == 0);
+    CHECK(byr_whole_segments_intersect(3, 3, 3, 3, 3, 3, 3, 3, &answer) == 0 && answer == 1);
+}
+
+static void whole_rings(void) {
+    static const int32_t square[8] = {-M, -M, M, -M, M, M, -M, M};
+    static const int32_t bow[8] = {0, 0, 2, 2, 2, 0, 0, 2};
+    static const int32_t closing[8] = {0, 0, 4, 0, 1, 3, 4, 2};
+    uint32_t simple = HELD_WORD;
+    int64_t area2 = HELD_COUNT;
+    uint64_t place = HELD_COUNT;
+
+    begin("byr_whole_is_simple_polygon");
+    CHECK(byr_whole_is_simple_polygon(WHOLE_WRONG, 2, &simple, &place) == BYR_REFUSED_NUMBER);
+    CHECK(byr_whole_is_simple_polygon(WHOLE_WRONG, 512, &simple, &place) == BYR_REFUSED_NUMBER);
+    CHECK(place == HELD_COUNT);
+    CHECK(byr_whole_is_simple_polygon(WHOLE_WRONG, 513, &simple, &place) == BYR_REFUSED_LENGTH && place == 0);
+    place = HELD_COUNT;
+    CHECK(byr_whole_is_simple_polygon(WHOLE_WRONG, 514, &simple, &place) == BYR_REFUSED_MANY && place == 0);
+    CHECK(simple == HELD_WORD);
+    place = HELD_COUNT;
+    CHECK(byr_whole_is_simple_polygon(WHOLE, 512, &simple, &place) == 0 && simple == 0);
+    CHECK(byr_whole_is_simple_polygon(square, 8, &simple, &place) == 0 && simple == 1);
+    CHECK(byr_whole_is_simple_polygon(bow, 8, &simple, &place) == 0 && simple == 0);
+    CHECK(byr_whole_is_simple_polygon(square, 4, &simple, &place) == 0 && simple == 0);
+    CHECK(byr_whole_is_simple_polygon(square, 6, &simple, &place) == 0 && simple == 1);
+    CHECK(byr_whole_is_simple_polygon(closing, 8, &simple, &place) == 0 && simple == 0);
+    CHECK(byr_whole_is_simple_polygon(NULL, 0, &simple, &place) == 0 && simple == 0);
+    CHECK(place == HELD_COUNT);
+    begin("byr_whole_signed_area2");
+    CHECK(byr_whole_signed_area2(WHOLE_WRONG, 512, &area2, &place) == BYR_REFUSED_NUMBER);
+    CHECK(place == HELD_COUNT);
+    CHECK(byr_whole_signed_area2(WHOLE_WRONG, 1, &area2, &place) == BYR_REFUSED_LENGTH && place == 0);
+    place = HELD_COUNT;
+    CHECK(byr_whole_signed_area2(WHOLE_WRONG, 514, &area2, &place) == BYR_REFUSED_MANY && place == 0);
+    CHECK(area2 == HELD_COUNT);
+    place = HELD_COUNT;
+    CHECK(byr_whole_signed_area2(square, 8, &area2, &place) == 0 && area2 == 8 * (int64_t)M * M);
+    CHECK(byr_whole_signed_area2(bow, 6, &area2, &place) == 0 && area2 == -4);
+    CHECK(byr_whole_signed_area2(bow, 8, &area2, &place) == 0 && area2 == 0);
+    CHECK(byr_whole_signed_area2(NULL, 0, &area2, &place) == 0 && area2 == 0);
+    CHECK(place == HELD_COUNT);
+}
+
 /* ---- Contacts and vectors ---- */
 
 static uint32_t lend_contacts(const double *a, size_t an, const double *b, size_t bn, uint64_t *place) {
@@ -1413,6 +1511,8 @@ int main(void) {
     distances();
     copies();
     rings();
+    whole_points();
+    whole_rings();
     contacts();
     vectors();
     perfect_fit();

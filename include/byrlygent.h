@@ -1,6 +1,6 @@
 /*
- * Byrlygent: the sliding no-fit polygon, ring predicates, the outline book, and
- * drawings in well-known binary.
+ * Byrlygent: the sliding no-fit polygon, ring predicates in floats and in whole
+ * numbers, the outline book, and drawings in well-known binary.
  * Link libbyrlygent.a; of other libraries it needs only C's memcpy and memset.
  *
  * Every function is total: whatever is lent, it answers or refuses, and writes
@@ -199,6 +199,38 @@ uint32_t byr_signed_area2(const double *ring, size_t n, double *area2, uint64_t 
 
 /* area: the signed area by a compensated sum, 0.0 below three vertices. */
 uint32_t byr_signed_area_robust(const double *ring, size_t n, double *area, uint64_t *place);
+
+/* ---- Whole numbers ----
+ * The same for parts with whole coordinates, each at most 1000000 in size: no float
+ * and no margin is in it, and nothing is rounded. Lent the same numbers as doubles,
+ * either zero for 0, the functions above answer and refuse alike. For points the
+ * refusal is 2; for rings of 0 to 256 vertices 1 and 9 at place 0, then 2. No ring is
+ * too short, so there is no 8. */
+
+/* turn: 1 if a, b, c turn counter-clockwise, -1 if clockwise, 0 if they are in
+ * line. */
+uint32_t byr_whole_turn(int32_t ax, int32_t ay, int32_t bx, int32_t by, int32_t cx, int32_t cy, int32_t *turn);
+
+/* The same number, as byr_orientation's: without a margin there is one turn. */
+uint32_t byr_whole_orientation(int32_t ax, int32_t ay, int32_t bx, int32_t by, int32_t cx, int32_t cy,
+                               int32_t *turn);
+
+/* on: 1 if p lies in the box of a and b, else 0. It is meant for a p in line with a
+ * and b. */
+uint32_t byr_whole_on_segment(int32_t ax, int32_t ay, int32_t bx, int32_t by, int32_t px, int32_t py,
+                              uint32_t *on);
+
+/* meet: 1 if the closed segments (x1,y1)-(x2,y2) and (x3,y3)-(x4,y4) meet, which they
+ * do also where they touch, else 0. */
+uint32_t byr_whole_segments_intersect(int32_t x1, int32_t y1, int32_t x2, int32_t y2, int32_t x3, int32_t y3,
+                                      int32_t x4, int32_t y4, uint32_t *meet);
+
+/* simple: 1 if there are three vertices or more, and no two edges meet but
+ * neighbours, by byr_whole_segments_intersect; else 0. */
+uint32_t byr_whole_is_simple_polygon(const int32_t *ring, size_t n, uint32_t *simple, uint64_t *place);
+
+/* area2: twice the signed area, above 0 for counter-clockwise order. */
+uint32_t byr_whole_signed_area2(const int32_t *ring, size_t n, int64_t *area2, uint64_t *place);
 
 /* ---- Sliding: polygons of 3 to 256 vertices. ----
  * Refusals 1, 8 and 9 are told of the stationary polygon (or a) at place 0, and of

@@ -6,7 +6,8 @@
 //! text and of Rust's library, `swapped` the fixed ones with the two zeros in the
 //! other order. `calls` gives docs/SCOPE.md's answers over `fixed`; `book` is no
 //! text of theirs, but the outline book written down from docs/SCOPE.md, `wkb` the
-//! well-known binary, and `grounds` why a move is clear or not.
+//! well-known binary, `grounds` why a move is clear or not, and `whole` the
+//! predicates in whole numbers.
 
 #![allow(clippy::duplicate_mod)] // The text is compiled three times on purpose.
 
@@ -25,4 +26,5 @@ pub mod shapes;
 pub mod slide;
 pub mod stored;
 pub mod swapped;
+pub mod whole;
 pub mod wkb;

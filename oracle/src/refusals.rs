@@ -95,14 +95,14 @@ pub fn entries(count: usize, least: usize, most: usize, place: u64) -> Answer<()
 
 /// The first fault of a list, at this place: 1 for a length that fits no whole
 /// number of entries, then 8, then 9.
-fn list(list: &[f64], kind: Kind, place: u64) -> Answer<()> {
+fn list<T>(list: &[T], kind: Kind, place: u64) -> Answer<()> {
     unless(list.len().is_multiple_of(kind.width), Refusal::at(1, place))?;
     entries(list.len() / kind.width, kind.least, kind.most, place)
 }
 
 /// The first fault of a call's lists, one after the other; the place is the
 /// list's among them.
-pub fn lists(lists: &[(&[f64], Kind)]) -> Answer<()> {
+pub fn lists<T>(lists: &[(&[T], Kind)]) -> Answer<()> {
     (0..).zip(lists).try_for_each(|(place, &(numbers, kind))| list(numbers, kind, place))
 }
 

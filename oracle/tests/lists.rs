@@ -1,7 +1,7 @@
 //! The replay lists in the repository are the ones that the oracle writes, keep
 //! their bounds, and hold every outcome there is.
 
-use oracle::replay::{book, bytes, list, rings, scalars, sliding, traces, wkb};
+use oracle::replay::{book, bytes, list, rings, scalars, sliding, traces, whole, wkb};
 use oracle::seeded::Seeded;
 use std::collections::BTreeSet;
 
@@ -49,6 +49,22 @@ fn ring_records_keep_their_bounds() {
         let [a, b, room] = [1, 2, 3].map(|place| record[place] as usize);
         assert!(a <= 600 && b <= 600 && room <= 600);
         assert_eq!(record.len(), rings::HEADER + a + b + 2 * room);
+    }
+}
+
+#[test]
+fn whole_is_as_written() {
+    as_written("replay_whole", whole::records());
+}
+
+#[test]
+fn whole_records_keep_their_bounds() {
+    for record in whole::records().into_iter().chain(long("whole", 4_000)) {
+        let length = record[1] as usize;
+        assert!(length <= 600);
+        assert_eq!(record.len(), whole::HEADER + length);
+        let numbers = record[whole::HEADER..].iter().map(|&word| word as i64);
+        assert!(numbers.into_iter().all(|number| i32::try_from(number).is_ok()));
     }
 }
 
@@ -226,6 +242,26 @@ fn each_call_on_rings_is_refused_and_answers() {
 }
 
 #[test]
+fn each_call_in_whole_numbers_is_refused_and_answers() {
+    let records = whole::records();
+    let met: BTreeSet<_> = records.iter().map(|record| (record[0], record[2])).collect();
+    let answers: BTreeSet<_> = records
+        .iter()
+        .filter(|record| record[2] == 0 && record[0] != whole::SIGNED_AREA2)
+        .map(|record| (record[0], record[3] as i64))
+        .collect();
+    for call in 0..=5 {
+        let takes_ring = call >= whole::IS_SIMPLE_POLYGON;
+        let numbers: &[u64] = if takes_ring { &[0, 1, 2, 9] } else { &[0, 2] };
+        assert!(met.iter().filter(|pair| pair.0 == call).map(|pair| &pair.1).eq(numbers));
+        let turns = call <= whole::ORIENTATION;
+        let few: &[i64] = if turns { &[-1, 0, 1] } else { &[0, 1] };
+        let of_call = answers.iter().filter(|pair| pair.0 == call).map(|pair| &pair.1);
+        assert!(call == whole::SIGNED_AREA2 || of_call.eq(few), "call {call}");
+    }
+}
+
+#[test]
 fn contacts_and_hits_are_of_every_kind() {
     let records = sliding::records();
     let (mut contacts, mut hits) = (BTreeSet::new(), BTreeSet::new());
@@ -314,7 +350,7 @@ fn traces_end_in_every_way() {
 
 #[test]
 fn long_runs_are_decided_by_the_seed() {
-    for name in ["scalars", "rings", "book", "wkb", "sliding", "traces"] {
+    for name in ["scalars", "rings", "whole", "book", "wkb", "sliding", "traces"] {
         assert!(long(name, 50) == long(name, 50));
     }
     assert!(list("ring").is_none());

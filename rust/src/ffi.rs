@@ -141,6 +141,51 @@ functions! {
     ) -> u32;
     fn byr_signed_area2(ring: *const f64, n: usize, area2: *mut f64, place: *mut u64) -> u32;
     fn byr_signed_area_robust(ring: *const f64, n: usize, area: *mut f64, place: *mut u64) -> u32;
+    fn byr_whole_turn(
+        ax: i32,
+        ay: i32,
+        bx: i32,
+        by: i32,
+        cx: i32,
+        cy: i32,
+        turn: *mut i32,
+    ) -> u32;
+    fn byr_whole_orientation(
+        ax: i32,
+        ay: i32,
+        bx: i32,
+        by: i32,
+        cx: i32,
+        cy: i32,
+        turn: *mut i32,
+    ) -> u32;
+    fn byr_whole_on_segment(
+        ax: i32,
+        ay: i32,
+        bx: i32,
+        by: i32,
+        px: i32,
+        py: i32,
+        on: *mut u32,
+    ) -> u32;
+    fn byr_whole_segments_intersect(
+        x1: i32,
+        y1: i32,
+        x2: i32,
+        y2: i32,
+        x3: i32,
+        y3: i32,
+        x4: i32,
+        y4: i32,
+        meet: *mut u32,
+    ) -> u32;
+    fn byr_whole_is_simple_polygon(
+        ring: *const i32,
+        n: usize,
+        simple: *mut u32,
+        place: *mut u64,
+    ) -> u32;
+    fn byr_whole_signed_area2(ring: *const i32, n: usize, area2: *mut i64, place: *mut u64) -> u32;
     fn byr_find_contacts(
         stationary: *const f64,
         sn: usize,

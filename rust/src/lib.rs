@@ -1,8 +1,9 @@
 //! Byrlygent for Rust: the sliding no-fit polygon and the ring predicates of
-//! u-nesting, the outline book, and drawings in well-known binary, over the static
-//! library that is proved in Rattle. What each call answers and refuses is proved
-//! there, for all inputs; here points are copied to plain lists of numbers and back,
-//! and refusals are put into words, and nothing else.
+//! u-nesting, these also in whole numbers, the outline book, and drawings in
+//! well-known binary, over the static library that is proved in Rattle. What each
+//! call answers and refuses is proved there, for all inputs; here points are copied
+//! to plain lists of numbers and back, and refusals are put into words, and nothing
+//! else.
 //!
 //! Modules and names are u-nesting's. A program that traced with
 //! `u_nesting_d2::nfp_sliding` changes that import, and gets a [`Refusal`] where
@@ -23,6 +24,9 @@
 //! before any other call. Lent as it is, the repeat counts as a vertex with an
 //! edge of no length. A drawing in well-known binary is read open, and closed as it
 //! is written: [`wkb`].
+//!
+//! Parts whose coordinates are whole numbers have predicates of their own, without a
+//! float: [`whole`].
 //!
 //! A list with too few entries or too many is refused by name:
 //!
@@ -50,6 +54,7 @@ pub mod polygon_ops;
 mod refusal;
 pub mod robust;
 pub mod scalar;
+pub mod whole;
 pub mod wkb;
 
 pub use lists::{Entries, List};

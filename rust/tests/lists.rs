@@ -55,7 +55,8 @@ fn overlaps(a: &[Point], b: &[Point]) -> [Option<Refusal>; 2] {
     ]
 }
 
-/// What the calls with one ring refuse this with.
+/// What the calls with one ring refuse this with; tests/whole.rs has those in whole
+/// numbers.
 fn one_ring(ring: &[Point]) -> [Option<Refusal>; 5] {
     [
         polygon_ops::mirror_polygon(ring).err(),

@@ -4,4 +4,5 @@ pub mod rings;
 pub mod scalars;
 pub mod sliding;
 pub mod version;
+pub mod whole;
 pub mod wkb;

@@ -4,3 +4,4 @@ pub mod found;
 pub mod refusal;
 pub mod trace;
 pub mod value;
+pub mod whole;

@@ -73,7 +73,7 @@ fn straddles(d: Orientation, e: Orientation) -> bool
 }
 
 // Whether each of two segments straddles the line of the other, by the turns of its ends.
-fn crosses(d1: Orientation, d2: Orientation, d3: Orientation, d4: Orientation) -> bool
+pub fn crosses(d1: Orientation, d2: Orientation, d3: Orientation, d4: Orientation) -> bool
     ensures { λ r. ⌜ r ≡ crossesOf (turnNumber d1) (turnNumber d2) (turnNumber d3) (turnNumber d4) ⌝ }
 {
     if straddles(d1, d2) {

@@ -15,7 +15,7 @@ ghost use Rattle.simple_polygon.specs.Sides.{aside, sameSide};
 ghost use Rattle.simple_polygon.specs.Simple.{adjacentOf, clearRow, isSimple};
 
 // Whether the edges i and j, i before j, of n share a vertex.
-fn adjacent(i: usize, j: usize, n: usize) -> bool
+pub fn adjacent(i: usize, j: usize, n: usize) -> bool
     requires { ⌜ (i < j) × (j < n) ⌝ }
     ensures { λ r. ⌜ r ≡ adjacentOf i j n ⌝ }
 {

@@ -97,6 +97,13 @@ impl Cell for i32 {
     }
 }
 
+impl Cell for i64 {
+    const HELD: Self = HELD as i64;
+    fn told(self) -> Option<u64> {
+        (self != Self::HELD).then_some(self as u64)
+    }
+}
+
 impl Cell for f64 {
     const HELD: Self = f64::from_bits(HELD);
     fn told(self) -> Option<u64> {

@@ -5,8 +5,10 @@ mod rings;
 pub mod scalars;
 mod sliding;
 mod traces;
+mod whole;
 mod wkb;
 
+use crate::lent::Cell;
 use crate::tally::Compared;
 use oracle::refusals::Refusal;
 
@@ -19,14 +21,18 @@ pub struct Checked {
 }
 
 /// All lists; the shares add up to a hundred.
-pub const LISTS: [Checked; 6] = [
-    Checked { name: "scalars", share: 14, check: scalars::check },
-    Checked { name: "rings", share: 28, check: rings::check },
-    Checked { name: "sliding", share: 32, check: sliding::check },
+pub const LISTS: [Checked; 7] = [
+    Checked { name: "scalars", share: 12, check: scalars::check },
+    Checked { name: "rings", share: 24, check: rings::check },
+    Checked { name: "whole", share: 8, check: whole::check },
+    Checked { name: "sliding", share: 30, check: sliding::check },
     Checked { name: "book", share: 10, check: book::check },
     Checked { name: "wkb", share: 10, check: wkb::check },
     Checked { name: "traces", share: 6, check: traces::check },
 ];
+
+/// The check of a record of every small case in whole numbers.
+pub use whole::check as check_whole;
 
 /// What margins of bytes hold.
 const BYTE: u8 = 0xa5;
@@ -61,4 +67,20 @@ fn told_place(number: u64, place: u64) -> Option<u64> {
 /// nothing told in any of them.
 fn on_success<const N: usize>(number: u64, values: [u64; N]) -> [Option<u64>; N] {
     values.map(|value| (number == 0).then_some(value))
+}
+
+/// What a function returned, what it answered and the place that it told, through
+/// its pointers.
+type Told = (u32, Option<u64>, Option<u64>);
+
+/// What this tells with cells for its answer and for the place.
+fn with_cells<T: Cell>(call: impl FnOnce(&mut T, &mut u64) -> u32) -> Told {
+    let (mut cell, mut place) = (T::HELD, u64::HELD);
+    let number = call(&mut cell, &mut place);
+    (number, cell.told(), place.told())
+}
+
+/// What this tells with a cell for its answer; it tells no place.
+fn with_cell<T: Cell>(call: impl FnOnce(&mut T) -> u32) -> Told {
+    with_cells(|cell, _| call(cell))
 }

@@ -1,16 +1,16 @@
 //! Compares the static library with the oracle: `compare COUNT SEED` makes every
-//! call of the stored replay lists, and COUNT seeded ones besides, through both;
-//! and a million seeded roots, whatever COUNT is.
+//! call of the stored replay lists, every small case in whole numbers, and COUNT
+//! seeded ones besides, through both; and a million seeded roots, whatever COUNT is.
 //! The table counts cases by call, refusal, stop reason and ground; it ends in how
 //! many agree. The status is 1 unless all do, every exported call was made, and
 //! explanations of every ground, with hits of both kinds and dozens of other pairs
 //! at one distance, were among them.
 
-use compare::lists::{scalars, LISTS};
+use compare::lists::{check_whole, scalars, LISTS};
 use compare::tally::{Compared, Tally};
 use compare::{ffi, hold_interface, ABI_VERSION};
-use oracle::replay::list;
 use oracle::replay::scalars::seeded_root;
+use oracle::replay::{list, whole};
 use oracle::seeded::Seeded;
 use std::collections::BTreeSet;
 use std::process::ExitCode;
@@ -28,7 +28,8 @@ fn missing(tally: &Tally) -> BTreeSet<&'static str> {
 /// How many roots are compared besides.
 const ROOTS: u64 = 1_000_000;
 
-/// Compares the stored records of each list, and its share of so many seeded ones.
+/// Compares the stored records of each list, and its share of so many seeded ones; every
+/// small case in whole numbers; and the roots.
 fn run(count: u64, seed: u64) -> Tally {
     let mut tally = Tally::default();
     // SAFETY: the function takes nothing.
@@ -46,6 +47,9 @@ fn run(count: u64, seed: u64) -> Tally {
             let origin = || format!("{}, seed {seed}, record {place}", checked.name);
             tally.add((checked.check)(&record), origin);
         }
+    }
+    for (place, record) in whole::every().enumerate() {
+        tally.add(check_whole(&record), || format!("whole, small case {place}"));
     }
     let seeded = &mut Seeded::new(seed);
     for place in 0..ROOTS {

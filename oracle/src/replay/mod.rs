@@ -8,6 +8,7 @@ pub mod rings;
 pub mod scalars;
 pub mod sliding;
 pub mod traces;
+pub mod whole;
 pub mod wkb;
 
 use crate::refusals::{Refusal, LARGEST};
@@ -67,6 +68,7 @@ pub fn list(name: &str) -> Option<List> {
         "book_one" => Some(book::ONE),
         "sliding" => Some(sliding::LIST),
         "traces" => Some(traces::LIST),
+        "whole" => Some(whole::LIST),
         "wkb" => Some(wkb::LIST),
         _ => None,
     }

@@ -1,26 +1,10 @@
 //! Segments and rings, through the library.
 
-use super::{told_place, Words};
+use super::{told_place, with_cell, with_cells, Told, Words};
 use crate::ffi;
-use crate::lent::{floats, words, Cell, Room};
+use crate::lent::{floats, words, Room};
 use crate::tally::Compared;
 use oracle::replay::rings::{self, HEADER};
-
-/// What a function returned, what it answered and the place that it told, through
-/// its pointers.
-type Told = (u32, Option<u64>, Option<u64>);
-
-/// What this tells with cells for its answer and for the place.
-fn with_cells<T: Cell>(call: impl FnOnce(&mut T, &mut u64) -> u32) -> Told {
-    let (mut cell, mut place) = (T::HELD, u64::HELD);
-    let number = call(&mut cell, &mut place);
-    (number, cell.told(), place.told())
-}
-
-/// What this tells with a cell for its answer; it tells no place.
-fn with_cell<T: Cell>(call: impl FnOnce(&mut T) -> u32) -> Told {
-    with_cells(|cell, _| call(cell))
-}
 
 /// The name of the call and what the library answers; writes the room.
 fn answer(call: u64, a: &Room<u64>, b: &Room<u64>, room: &mut Room<u64>) -> (&'static str, Told) {

@@ -1,11 +1,13 @@
 //! Times the Rust and the library beside each other: the oracle's text over the
 //! fixed helpers, called straight, against the exported function with its
-//! refusals; and the library's explanation of a collision against its check.
+//! refusals; the library's explanation of a collision against its check; and its
+//! calls in whole numbers against those in floats, and against plain Rust in i64.
 //! `bench [PART]` measures the rows whose name has this part, all of them without
 //! it, and prints tables of them.
 
 mod memory;
 mod plain_book;
+mod plain_whole;
 mod plain_wkb;
 mod rows;
 mod timing;
@@ -24,6 +26,12 @@ const RUST: Heads = ["the Rust", "the library", "Rust / library"];
 /// Two calls of the library: the ratio is what the explanation costs, and may be 1.25
 /// at most.
 const EXPLAINED: Heads = ["explained", "checked", "explained / checked, at most 1.25"];
+
+/// Two calls of the library on the same numbers: whole numbers may not be the slower.
+const FLOATS: Heads = ["floats", "whole numbers", "floats / whole numbers, at least 1"];
+
+/// Plain Rust in i64 beside the library in whole numbers.
+const INTEGERS: Heads = ["the Rust in i64", "the library", "Rust / library, at least 0.8"];
 
 /// Prints a table of these rows, as they are measured.
 fn table(title: &str, [first, second, ratio]: Heads, rows: Vec<Row>, part: &str) {
@@ -52,6 +60,8 @@ fn main() {
     println!("Median of {} runs by turns, one process, time of one call.\n", timing::RUNS);
     table("Calls", RUST, rows::calls(), part);
     table("Explain against the collision call", EXPLAINED, rows::explanations(), part);
+    table("Whole numbers against floats", FLOATS, rows::whole_and_floats(), part);
+    table("Whole numbers against plain Rust", INTEGERS, rows::whole_and_plain(), part);
     table("Traces", RUST, traces::traces(), part);
     table("Growth of a trace with vertices, 50 passes", RUST, traces::by_vertices(), part);
     table("Growth of a trace with passes, a point stored in each", RUST, traces::by_passes(), part);

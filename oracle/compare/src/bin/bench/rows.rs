@@ -1,13 +1,13 @@
 //! Single calls, each side of which is first seen to answer the same.
 
 use crate::timing::{side, Sides};
-use crate::{plain_book, plain_wkb};
+use crate::{plain_book, plain_whole, plain_wkb};
 use compare::ffi;
 use oracle::answers::Point;
 use oracle::calls::{self, points_of};
 use oracle::fixed::{nfp_sliding as text, polygon_ops};
 use oracle::seeded::Seeded;
-use oracle::shapes::{closed, disc, placed};
+use oracle::shapes::{closed, disc, placed, star};
 use oracle::wkb::{file_of, Order};
 use std::hint::black_box;
 
@@ -154,17 +154,52 @@ fn explanation(n: usize) -> Sides {
     [side(move || explained(&c, &d)), side(move || checked(&a, &b))]
 }
 
+/// Whether the ring is simple, as the library tells it in floats: the number and the
+/// answer.
+fn simple_in_floats(ring: &[f64]) -> (u32, u32) {
+    let (mut simple, mut place) = (0, 0);
+    let (list, n) = (black_box(ring.as_ptr()), ring.len());
+    // SAFETY: the list is as long as is said, and every pointer has its cell.
+    let number = unsafe { ffi::byr_is_simple_polygon(list, n, &mut simple, &mut place) };
+    (number, simple)
+}
+
+/// The same in whole numbers.
+fn simple_in_integers(ring: &[i32]) -> (u32, u32) {
+    let (mut simple, mut place) = (0, 0);
+    let (list, n) = (black_box(ring.as_ptr()), ring.len());
+    // SAFETY: the list is as long as is said, and every pointer has its cell.
+    let number = unsafe { ffi::byr_whole_is_simple_polygon(list, n, &mut simple, &mut place) };
+    (number, simple)
+}
+
+/// A ring with its coordinates rounded to whole numbers.
+fn rounded(ring: Vec<f64>) -> Vec<i32> {
+    ring.into_iter().map(|x| x.round() as i32).collect()
+}
+
+/// `is_simple_polygon` of this ring in floats and in whole numbers.
+fn whole_beside_floats(ring: Vec<f64>) -> Sides {
+    let ring = rounded(ring);
+    let floats: Vec<f64> = ring.iter().map(|&x| f64::from(x)).collect();
+    assert_eq!((simple_in_floats(&floats), simple_in_integers(&ring)), ((0, 1), (0, 1)));
+    [side(move || simple_in_floats(&floats)), side(move || simple_in_integers(&ring))]
+}
+
+/// `is_simple_polygon` of this ring in plain Rust and in the library, in whole numbers.
+fn whole_beside_plain(ring: Vec<f64>) -> Sides {
+    let ring = rounded(ring);
+    let points: Vec<_> = ring.chunks_exact(2).map(|p| (p[0], p[1])).collect();
+    assert!(simple_in_integers(&ring) == (0, 1) && plain_whole::is_simple_polygon(&points));
+    let plain = move || plain_whole::is_simple_polygon(black_box(&points));
+    [side(plain), side(move || simple_in_integers(&ring))]
+}
+
 /// `is_simple_polygon` of a disc of n vertices.
 fn simple(n: usize) -> Sides {
     let ring = Lent::new(disc(n, 10.0));
     let points = ring.points.clone();
-    let ours = move || {
-        let (mut simple, mut place) = (0, 0);
-        let (list, n) = (black_box(ring.list.as_ptr()), ring.list.len());
-        // SAFETY: the list is as long as is said, and every pointer has its cell.
-        let number = unsafe { ffi::byr_is_simple_polygon(list, n, &mut simple, &mut place) };
-        (number, simple)
-    };
+    let ours = move || simple_in_floats(&ring.list);
     let rust = move || polygon_ops::is_simple_polygon(black_box(&points));
     assert!(ours() == (0, 1) && rust());
     [side(rust), side(ours)]
@@ -338,4 +373,27 @@ pub fn explanations() -> Vec<Row> {
         Row::new("explain_collision, discs 64 x 64", || explanation(64)),
         Row::new("explain_collision, discs 256 x 256", || explanation(256)),
     ]
+}
+
+/// The rings of 256 vertices that are judged in whole numbers.
+fn whole_rings() -> [(&'static str, Vec<f64>); 2] {
+    [("disc", disc(256, 1e6)), ("star", star(128, 1e6, 3e5))]
+}
+
+/// The call in whole numbers, beside the call in floats.
+pub fn whole_and_floats() -> Vec<Row> {
+    let row = |(name, ring): (&str, Vec<f64>)| {
+        let name = format!("whole_is_simple_polygon, {name} 256");
+        Row::new(&name, || whole_beside_floats(ring))
+    };
+    whole_rings().into_iter().map(row).collect()
+}
+
+/// The call in whole numbers, beside plain Rust.
+pub fn whole_and_plain() -> Vec<Row> {
+    let row = |(name, ring): (&str, Vec<f64>)| {
+        let name = format!("whole_is_simple_polygon, {name} 256");
+        Row::new(&name, || whole_beside_plain(ring))
+    };
+    whole_rings().into_iter().map(row).collect()
 }

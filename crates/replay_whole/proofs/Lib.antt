@@ -1,0 +1,2 @@
+-- What the proofs of replay_whole share.
+pub mod Signs

@@ -1,0 +1,3 @@
+-- The modules of laws.
+pub mod Laws
+pub mod Lifted

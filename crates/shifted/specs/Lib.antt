@@ -1,0 +1,2 @@
+-- The definitions that the engine in whole numbers cites.
+pub mod Shifted

@@ -1,0 +1,2 @@
+-- The definitions that the crates about whole coordinates cite.
+pub mod Whole
