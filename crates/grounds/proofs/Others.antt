@@ -12,13 +12,13 @@ use borrow.Author.Tests.{eq-eqb, ne-eqb}
 use Rattle.plane.specs.Vector.{lengthOf}
 use Rattle.plane.specs.declared.Point.{Point}
 use Rattle.scalar.specs.Float.{_⊖_}
-use Rattle.laws.specs.FirstBest.{better, over, First, none, some}
+use Rattle.laws.specs.FirstBest.{better, First, none, some}
 use Rattle.laws.specs.Turns.{turns, tally}
 use Rattle.laws.proofs.Turns.{tally-none}
 use Rattle.laws.proofs.Order.{lt-le, le-lt, le-of-eq, eq-back, eq-self}
 use Rattle.collision.specs.Hit.{nearer}
-use Rattle.collision.specs.Check.{sweepOf, bothOf}
-use Rattle.collision.specs.Nearest.{pairNo, scans, rayAt, Meets, Blocks}
+use Rattle.collision.specs.Check.{sweepOf}
+use Rattle.collision.specs.Nearest.{pairNo, scans, rayAt, Blocks}
 use Rattle.collision.specs.declared.Ray.{Ray}
 use Rattle.collision.specs.declared.Ray.the-variants.{Miss, At}
 use Rattle.collision.specs.declared.Collision.{Collision}

@@ -10,12 +10,11 @@ use lib.Ieee.{Float}
 use Rattle.plane.specs.declared.Point.{Point}
 use Rattle.ring.specs.Ring.{count, pointAt}
 use Rattle.pairs.proofs.Numbers.{first-pairs, second-pairs}
-use Rattle.laws.specs.FirstBest.{better, over}
+use Rattle.laws.specs.FirstBest.{over}
 use Rattle.laws.specs.Turns.{turns, turnRows, tally}
 use Rattle.laws.proofs.Turns.{turns-split, turns-ext, flatTurns, rows-flat}
 use Rattle.collision.specs.Hit.{nearer, keptHit}
 use Rattle.collision.specs.Ray.{edgeRay}
-use Rattle.collision.specs.Parts.{pairBy}
 use Rattle.collision.specs.Check.{backOf, sweepOf}
 use Rattle.collision.specs.Nearest.{pairNo, scans, rayAt}
 use Rattle.collision.specs.declared.Sweep.{Sweep}
@@ -23,7 +22,7 @@ use Rattle.collision.specs.declared.Ray.{Ray}
 use Rattle.collision.specs.declared.Collision.the-variants.{Nothing}
 use Rattle.collision.proofs.Counting.{counted-back}
 use Rattle.collision.proofs.Pairs.{found}
-use Rattle.grounds.specs.Classes.{tooNear, inBetween, tooFar, hitIs, hitAt}
+use Rattle.grounds.specs.Classes.{tooNear, inBetween, tooFar, hitAt}
 use Rattle.grounds.specs.Scan.{noTally, othersAfter, notedOf, pairNoted, scanNoted, bothNoted}
 use Rattle.grounds.specs.declared.Tally.{Tally}
 

@@ -1,7 +1,7 @@
 -- `grounds::both` meets its contract: one scan after the other. Assumes nothing.
 use native.Mathlib.Omega.{arith}
 use borrow.Author.Needs.{needs}
-use Prim.Native.Nat.{ℕ, _+_, _*_, _≤_}
+use Prim.Native.Nat.{ℕ, _*_, _≤_}
 use native.Mathlib.Nat.{mul-le-mul}
 use mathlib.Core.List.{List}
 use mathlib.Core.Path.{_≡_}

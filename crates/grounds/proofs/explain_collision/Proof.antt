@@ -1,15 +1,14 @@
 -- `grounds::explain_collision` meets its contract: the length of the move, both scans, and the ground by the counts. Assumes nothing.
 use borrow.Author.Needs.{needs}
-use mathlib.Core.Path.{_≡_, ap, _∙_}
+use mathlib.Core.Path.{_≡_}
 use mathlib.Core.List.{List}
 use lib.Ieee.{Float}
 use Rattle.plane.specs.Vector.{lengthOf}
 use Rattle.plane.specs.declared.Point.{Point}
 use Rattle.collision.specs.Check.{raysBy, sweepOf}
 use Rattle.collision.specs.declared.Sweep.{Sweep}
-use Rattle.grounds.specs.Grounds.{groundBy}
 use Rattle.grounds.specs.Scan.{bothNoted}
-use Rattle.grounds.specs.Explanation.{explanationBy, explanationOf, tallyOf}
+use Rattle.grounds.specs.Explanation.{explanationOf, tallyOf}
 use Rattle.grounds.specs.declared.Tally.{Tally}
 use Rattle.grounds.proofs.Explained.{scanned-is}
 use Rattle.grounds.proofs.explain_collision.Statement.{statement}

@@ -1,5 +1,5 @@
 -- `replay_whole::words::word_of` meets its contract: an integer below 0 turned about -1 is not. Assumes nothing.
-use Prim.Native.Nat.{_≤_, _<_, _^_}
+use Prim.Native.Nat.{_≤_, _<_}
 use mathlib.Core.Path.{_≡_, sym, ap, subst, _∙_}
 use native.Mathlib.Omega.{arith}
 use lib.Dec.{T}
