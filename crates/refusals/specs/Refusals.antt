@@ -47,6 +47,18 @@ refusedMany = 9
 abbrev pub refusedWkb : ℕ
 refusedWkb = 10
 
+-- of a mended ring fewer than three vertices remain
+abbrev pub refusedRemaining : ℕ
+refusedRemaining = 11
+
+-- a disc has no such number of vertices in a quarter
+abbrev pub refusedQuarter : ℕ
+refusedQuarter = 12
+
+-- the number of a path's points, that of a shift's places, or the start, is out of its bounds
+abbrev pub refusedInspection : ℕ
+refusedInspection = 13
+
 -- those that tell a place: which list or ring it was, or the byte of a file's first fault
 unfoldable pub tellsPlace : ℕ → Bool
 tellsPlace num =

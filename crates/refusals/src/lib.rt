@@ -39,6 +39,15 @@ pub const REFUSED_MANY: u32 = 9;
 // A drawing in well-known binary is wrong.
 pub const REFUSED_WKB: u32 = 10;
 
+// Of a mended ring fewer than three vertices remain.
+pub const REFUSED_REMAINING: u32 = 11;
+
+// A disc has no such number of vertices in a quarter.
+pub const REFUSED_QUARTER: u32 = 12;
+
+// The number of a path's points, that of a shift's places, or the start, is out of its bounds.
+pub const REFUSED_INSPECTION: u32 = 13;
+
 // A polygon, and a ring of a book, has 3 to 256 vertices.
 pub const VERTICES_LEAST: usize = 3;
 
