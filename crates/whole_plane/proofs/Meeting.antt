@@ -38,7 +38,7 @@ at-first h =
 touched : {a b c d : Spot} → wholeTouches (wholeTurn c d a) c d a ≡ true → Shared a b c d
 touched {a} {b} {c} {d} h = at-first (touch-on (touches c d a h))
 
-pub meets : (a b c d : Spot) → wholeIntersect a b c d ≡ true → Shared a b c d
+meets : (a b c d : Spot) → wholeIntersect a b c d ≡ true → Shared a b c d
 unfolding wholeIntersect crossesOf
 meets a b c d h =
     let t1 = wholeTouches (wholeTurn c d a) c d a in
@@ -60,13 +60,14 @@ meets a b c d h =
 
 -- ---- where there is a point in common
 
--- the turns of (x, y) and (u, v) about a line, weighed by s' and s
-gather : (s s' x y u v p q r : ℕ) → s' * (p * y + q * x + r) + s * (p * v + q * u + r) ≡ p * (s' * y + s * v) + q * (s' * x + s * u) + (s + s') * r
+-- the turns of a and b about c d, weighed by the point, add up to none, since those of c and d do
+gather : (s s' x y u v p q r : ℕ)
+    → s' * (p * y + q * x + r) + s * (p * v + q * u + r) ≡ p * (s' * y + s * v) + q * (s' * x + s * u) + (s + s') * r
 gather s s' x y u v p q r = omega arith
 
--- are none where the line itself divides as t to t'
 own : (t t' x y u v : ℕ)
-    → u * (t' * y + t * v) + y * (t' * x + t * u) + (t + t') * (x * v) ≡ x * (t' * y + t * v) + v * (t' * x + t * u) + (t + t') * (u * y)
+    → u * (t' * y + t * v) + y * (t' * x + t * u) + (t + t') * (x * v)
+    ≡ x * (t' * y + t * v) + v * (t' * x + t * u) + (t + t') * (u * y)
 own t t' x y u v = omega arith
 
 weighed : {a b c d : Spot} (h : Shared a b c d)
@@ -83,25 +84,34 @@ data Ends (s s' l r l' r' : ℕ) (d e : ℤ) : Type 0 where
   at-other : l' ≡ r' → s' ≡ 0 → Ends s s' l r l' r' d e
   along : l ≡ r → l' ≡ r' → Ends s s' l r l' r' d e
 
-none : (s l r : ℕ) → r < l → s * l ≡ s * r → s ≡ 0
-none s l r h e = let m = mul-le-mul-left s h in omega arith
+-- one turn is none, and so is the weight of the other
+none : (s s' l r l' r' : ℕ) → l ≡ r → r' < l' → s' * l + s * l' ≡ s' * r + s * r' → s ≡ 0
+none s s' l r l' r' e h w =
+    let m = mul-le-mul-left s h in
+    let z : s' * l ≡ s' * r = ap (λ (i : ℕ). s' * i) e in
+    omega arith
 
-less : (s s' l r l' r' : ℕ) → r < l → r' < l' → 0 < s + s' → s' * l + s * l' ≡ s' * r + s * r' → ⊥
-less s s' l r l' r' h k m e = let u = mul-le-mul-left s' h in let v = mul-le-mul-left s k in omega arith
+-- both are to the left: they do not add up to none
+one-side : (s s' l r l' r' : ℕ) → 0 < s + s' → r < l → r' < l' → s' * l + s * l' ≡ s' * r + s * r' → ⊥
+one-side s s' l r l' r' m h k e =
+    let u = mul-le-mul-left s' h in
+    let v = mul-le-mul-left s k in
+    omega arith
 
-ends : (s s' l r l' r' : ℕ) {d e : ℤ} → 0 < s + s' → s' * l + s * l' ≡ s' * r + s * r' → Turned l r d → Turned l' r' e → Ends s s' l r l' r' d e
+ends : (s s' : ℕ) {l r l' r' : ℕ} {d e : ℤ} → 0 < s + s' → s' * l + s * l' ≡ s' * r + s * r' → Turned l r d → Turned l' r' e
+    → Ends s s' l r l' r' d e
 unfolding straddlesOf
-ends s s' l r l' r' m w (left h) (right k) = astride (inl (h, k)) refl
-ends s s' l r l' r' m w (right h) (left k) = astride (inr (h, k)) refl
-ends s s' l r l' r' m w (level h) (level k) = along h k
-ends s s' l r l' r' m w (level h) (left k) = at-one h (none s l' r' k (let z : s' * l ≡ s' * r = ap (λ (i : ℕ). s' * i) h in omega arith))
-ends s s' l r l' r' m w (level h) (right k) = at-one h (none s r' l' k (let z : s' * l ≡ s' * r = ap (λ (i : ℕ). s' * i) h in omega arith))
-ends s s' l r l' r' m w (left h) (level k) = at-other k (none s' l r h (let z : s * l' ≡ s * r' = ap (λ (i : ℕ). s * i) k in omega arith))
-ends s s' l r l' r' m w (right h) (level k) = at-other k (none s' r l h (let z : s * l' ≡ s * r' = ap (λ (i : ℕ). s * i) k in omega arith))
-ends s s' l r l' r' m w (left h) (left k) = absurd (less s s' l r l' r' h k m w)
-ends s s' l r l' r' m w (right h) (right k) = absurd (less s s' r l r' l' h k m (sym w))
+ends s s' m w (left h) (right k) = astride (inl (h, k)) refl
+ends s s' m w (right h) (left k) = astride (inr (h, k)) refl
+ends s s' m w (level h) (level k) = along h k
+ends s s' {l} {r} {l'} {r'} m w (level h) (left k) = at-one h (none s s' l r l' r' h k w)
+ends s s' {l} {r} {l'} {r'} m w (level h) (right k) = at-one h (none s s' r l r' l' (sym h) k (sym w))
+ends s s' {l} {r} {l'} {r'} m w (left h) (level k) = at-other k (none s' s l' r' l r k h (omega arith))
+ends s s' {l} {r} {l'} {r'} m w (right h) (level k) = at-other k (none s' s r' l' r l (sym k) h (omega arith))
+ends s s' {l} {r} {l'} {r'} m w (left h) (left k) = absurd (one-side s s' l r l' r' m h k w)
+ends s s' {l} {r} {l'} {r'} m w (right h) (right k) = absurd (one-side s s' r l r' l' m h k (sym w))
 
--- the weight of the other end is none
+-- the weight of the other end is none: the point is this end
 only : (s s' t t' a b k : ℕ) → s ≡ 0 → s + s' ≡ t + t' → s' * a + s * b ≡ k → (t + t') * a ≡ k
 only s s' t t' a b k e h m =
     let u : s * b ≡ 0 * b = ap (λ (z : ℕ). z * b) e in
@@ -119,6 +129,8 @@ first-on {a} {b} {c} {d} h e =
       upward = only (h .s) (h .s') (h .t) (h .t') (a .y) (b .y) _ e (h .whole) (h .upward);
     }
 
+-- ---- as the rule has it
+
 by-end : (a b c d : Spot) → Meet a b c d → wholeIntersect a b c d ≡ true
 unfolding wholeIntersect
 by-end a b c d (first h) = simp (touch-is c d a h, or-true)
@@ -126,36 +138,42 @@ by-end a b c d (second h) = simp (touch-is c d b h, or-true)
 by-end a b c d (third h) = simp (touch-is a b c h, or-true)
 by-end a b c d (fourth h) = simp (touch-is a b d h, or-true)
 
-by-crossing : (a b c d : Spot) → straddlesOf (wholeTurn c d a) (wholeTurn c d b) ≡ true → straddlesOf (wholeTurn a b c) (wholeTurn a b d) ≡ true
-    → wholeIntersect a b c d ≡ true
+by-crossing : (a b c d : Spot) → straddlesOf (wholeTurn c d a) (wholeTurn c d b) ≡ true
+    → straddlesOf (wholeTurn a b c) (wholeTurn a b d) ≡ true → wholeIntersect a b c d ≡ true
 unfolding wholeIntersect crossesOf
 by-crossing a b c d h k = rw (h, k)
 
 -- one segment is in line with the other, which is astride of it: the turns do not add up
-never : (l1 r1 l2 r2 l3 r3 l4 r4 : ℕ) → l1 ≡ r1 → l2 ≡ r2 → Opposite l3 r3 l4 r4 → l1 + r2 + (l3 + r4) ≡ r1 + l2 + (r3 + l4) → ⊥
-never l1 r1 l2 r2 l3 r3 l4 r4 h k (inl (m, n)) e = omega arith
-never l1 r1 l2 r2 l3 r3 l4 r4 h k (inr (m, n)) e = omega arith
+never : {l1 r1 l2 r2 l3 r3 l4 r4 : ℕ} → l1 ≡ r1 → l2 ≡ r2 → Opposite l3 r3 l4 r4 → l1 + r2 + (l3 + r4) ≡ r1 + l2 + (r3 + l4) → ⊥
+never h k (inl (m, n)) e = omega arith
+never h k (inr (m, n)) e = omega arith
 
-pub is-met : (a b c d : Spot) → Shared a b c d → wholeIntersect a b c d ≡ true
-is-met a b c d h =
-    go (ends (h .s) (h .s') (leftOf c d a) (rightOf c d a) (leftOf c d b) (rightOf c d b) (h .some) (weighed h) (turn-is c d a) (turn-is c d b))
-    (ends (h .t) (h .t') (leftOf a b c) (rightOf a b c) (leftOf a b d) (rightOf a b d) (omega (arith, h .some, h .whole)) (weighed (exchanged h)) (turn-is a b c) (turn-is a b d))
-  where
-    go : Ends (h .s) (h .s') (leftOf c d a) (rightOf c d a) (leftOf c d b) (rightOf c d b) (wholeTurn c d a) (wholeTurn c d b)
-        → Ends (h .t) (h .t') (leftOf a b c) (rightOf a b c) (leftOf a b d) (rightOf a b d) (wholeTurn a b c) (wholeTurn a b d)
-        → wholeIntersect a b c d ≡ true
-    go (at-one e f) q = by-end a b c d (first (boxed e (first-on h f)))
-    go (at-other e f) q = by-end a b c d (second (boxed e (first-on (turned h) f)))
-    go (astride o e) (at-one f g) = by-end a b c d (third (boxed f (first-on (exchanged h) g)))
-    go (along e f) (at-one g i) = by-end a b c d (third (boxed g (first-on (exchanged h) i)))
-    go (astride o e) (at-other f g) = by-end a b c d (fourth (boxed f (first-on (turned (exchanged h)) g)))
-    go (along e f) (at-other g i) = by-end a b c d (fourth (boxed g (first-on (turned (exchanged h)) i)))
-    go (astride o e) (astride p f) = by-crossing a b c d e f
-    go (along e f) (along g i) = by-end a b c d (in-line a b c d h (record { first-is = e; second-is = f; third-is = g; fourth-is = i }))
-    go (along e f) (astride p g) =
-        absurd (never (leftOf c d a) (rightOf c d a) (leftOf c d b) (rightOf c d b) (leftOf a b c) (rightOf a b c) (leftOf a b d) (rightOf a b d) e f p (balance a b c d))
-    go (astride o e) (along f g) =
-        absurd (never (leftOf a b c) (rightOf a b c) (leftOf a b d) (rightOf a b d) (leftOf c d a) (rightOf c d a) (leftOf c d b) (rightOf c d b) f g o (balance c d a b))
+module _ (a b c d : Spot) (h : Shared a b c d) where
+  -- the ends of the one about the other
+  abbrev First : Type 0
+  First = Ends (h .s) (h .s') (leftOf c d a) (rightOf c d a) (leftOf c d b) (rightOf c d b) (wholeTurn c d a) (wholeTurn c d b)
+
+  abbrev Second : Type 0
+  Second = Ends (h .t) (h .t') (leftOf a b c) (rightOf a b c) (leftOf a b d) (rightOf a b d) (wholeTurn a b c) (wholeTurn a b d)
+
+  by-ends : First → Second → wholeIntersect a b c d ≡ true
+  by-ends (at-one e f) q = by-end a b c d (first (boxed e (first-on h f)))
+  by-ends (at-other e f) q = by-end a b c d (second (boxed e (first-on (turned h) f)))
+  by-ends (astride o e) (at-one f g) = by-end a b c d (third (boxed f (first-on (exchanged h) g)))
+  by-ends (along e f) (at-one g i) = by-end a b c d (third (boxed g (first-on (exchanged h) i)))
+  by-ends (astride o e) (at-other f g) = by-end a b c d (fourth (boxed f (first-on (turned (exchanged h)) g)))
+  by-ends (along e f) (at-other g i) = by-end a b c d (fourth (boxed g (first-on (turned (exchanged h)) i)))
+  by-ends (astride o e) (astride p f) = by-crossing a b c d e f
+  by-ends (along e f) (along g i) =
+      by-end a b c d (in-line a b c d h (record { first-is = e; second-is = f; third-is = g; fourth-is = i }))
+  by-ends (along e f) (astride p g) = absurd (never e f p (balance a b c d))
+  by-ends (astride o e) (along f g) = absurd (never f g o (balance c d a b))
+
+  is-met : wholeIntersect a b c d ≡ true
+  is-met =
+      let k : 0 < h .t + h .t' = omega (arith, h .some, h .whole) in
+      by-ends (ends (h .s) (h .s') (h .some) (weighed h) (turn-is c d a) (turn-is c d b))
+      (ends (h .t) (h .t') k (weighed (exchanged h)) (turn-is a b c) (turn-is a b d))
 
 -- THE THEOREM, of the rule
 pub intersect-exactly : (a b c d : Spot) → wholeIntersect a b c d ≡ true ↔ Common (pointOf a) (pointOf b) (pointOf c) (pointOf d)

@@ -19,7 +19,8 @@ pub record Shared (a b c d : Spot) : Type 0 where
 
 -- ---- one denominator
 
-weighed : (n s s' t t' a b c d : ℕ) → n ≡ s + s' → n ≡ t + t' → s' * a + s * b ≡ t' * c + t * d → (n - s) * a + s * b ≡ (n - t) * c + t * d
+weighed : (n s s' t t' a b c d : ℕ) → n ≡ s + s' → n ≡ t + t' → s' * a + s * b ≡ t' * c + t * d
+    → (n - s) * a + s * b ≡ (n - t) * c + t * d
 weighed n s s' t t' a b c d h k e =
     let u : n - s ≡ s' = omega arith in
     let v : n - t ≡ t' = omega arith in
@@ -40,7 +41,7 @@ shared-common {a} {b} {c} {d} h =
       upward = ap pos (weighed n (h .s) (h .s') (h .t) (h .t') (a .y) (b .y) (c .y) (d .y) (omega arith) k (h .upward));
     }
 
-pos-only : (m n : ℕ) → pos m ≡ pos n → m ≡ n
+pub pos-only : (m n : ℕ) → pos m ≡ pos n → m ≡ n
 pos-only m n h = cc
 
 pub common-shared : {a b c d : Spot} → Common (pointOf a) (pointOf b) (pointOf c) (pointOf d) → Shared a b c d

@@ -1,13 +1,12 @@
 -- Moving every coordinate up by a million changes nothing of what segments have in common. An integer is a difference of two
 -- natural numbers, and so are its parts on the way; the million cancels out. Assumes nothing.
-use Prim.Native.Nat.{ℕ, zero, suc, _+_, _-_, _*_, _≤_, _<_}
+use Prim.Native.Nat.{ℕ, zero, suc, _+_, _-_, _*_, _≤_}
 use native.Mathlib.Omega.{arith}
-use mathlib.Core.Path.{_≡_, refl, ap, subst}
+use mathlib.Core.Path.{_≡_, ap, subst}
 use mathlib.Core.Logic.{_↔_}
 use mathlib.Core.Bool.{true}
 use lib.IntN.{ℤ, pos, negsuc, negℤ, _+ℤ_, _*ℤ_}
-use lib.Dec.{leb}
-use borrow.Author.Tests.{leb-true, ltb-true}
+use borrow.Author.Tests.{ltb-true}
 use Rattle.shifted.specs.Shifted.{inBounds, upOf, spotOf}
 use Rattle.shifted.specs.declared.Spot.{Spot}
 use Rattle.shifted.proofs.Laws.{within}
@@ -15,6 +14,7 @@ use Rattle.whole_floats.specs.Whole.{Difference, differenceOf}
 use Rattle.whole_floats.proofs.Exact.{difference-is}
 use Rattle.whole_rules.specs.Spots.{Stands}
 use Rattle.whole_plane.specs.Plane.{WholePoint, wholePoint, partWay, Common, pointOf}
+use Rattle.whole_plane.proofs.Shared.{pos-only}
 
 -- ---- integers as differences
 
@@ -24,7 +24,8 @@ negated (suc j) p q h = h
 
 scaled : (k : ℕ) (z : ℤ) (p q : ℕ) → Difference z p q → Difference (pos k *ℤ z) (k * p) (k * q)
 scaled k (pos n) p q h = let e : k * p ≡ k * (q + n) = ap (λ (i : ℕ). k * i) h in omega arith
-scaled k (negsuc n) p q h = negated (k * suc n) (k * p) (k * q) (let e : k * q ≡ k * (p + suc n) = ap (λ (i : ℕ). k * i) h in omega arith)
+scaled k (negsuc n) p q h =
+    negated (k * suc n) (k * p) (k * q) (let e : k * q ≡ k * (p + suc n) = ap (λ (i : ℕ). k * i) h in omega arith)
 
 -- the same difference
 same-difference : (z : ℤ) (p q r s : ℕ) → p + s ≡ r + q → Difference z p q → Difference z r s
@@ -34,13 +35,15 @@ same-difference (negsuc n) p q r s e h = omega arith
 added : (u v : ℤ) (p q r s : ℕ) → Difference u p q → Difference v r s → Difference (u +ℤ v) (p + r) (q + s)
 added (pos a) (pos b) p q r s h k = omega arith
 added (negsuc a) (negsuc b) p q r s h k = omega arith
-added (pos a) (negsuc b) p q r s h k = same-difference (differenceOf a (suc b)) a (suc b) (p + r) (q + s) (omega arith) (difference-is a (suc b))
-added (negsuc a) (pos b) p q r s h k = same-difference (differenceOf b (suc a)) b (suc a) (p + r) (q + s) (omega arith) (difference-is b (suc a))
+added (pos a) (negsuc b) p q r s h k =
+    same-difference (differenceOf a (suc b)) a (suc b) (p + r) (q + s) (omega arith) (difference-is a (suc b))
+added (negsuc a) (pos b) p q r s h k =
+    same-difference (differenceOf b (suc a)) b (suc a) (p + r) (q + s) (omega arith) (difference-is b (suc a))
 
 -- one integer by two differences, and two by one
-level : (z : ℤ) (p q r s : ℕ) → Difference z p q → Difference z r s → p + s ≡ r + q
-level (pos n) p q r s h k = omega arith
-level (negsuc n) p q r s h k = omega arith
+level : (z : ℤ) (p r q : ℕ) → Difference z p q → Difference z r q → p ≡ r
+level (pos n) p r q h k = omega arith
+level (negsuc n) p r q h k = omega arith
 
 equal : (u v : ℤ) (p q : ℕ) → Difference u p q → Difference v p q → u ≡ v
 equal (pos m) (pos n) p q h k = ap pos (let e : m ≡ n = omega arith in e)
@@ -48,74 +51,62 @@ equal (pos m) (negsuc n) p q h k = absurd (omega arith)
 equal (negsuc m) (pos n) p q h k = absurd (omega arith)
 equal (negsuc m) (negsuc n) p q h k = ap negsuc (let e : m ≡ n = omega arith in e)
 
--- ---- the way from one coordinate to another, moved up
+-- ---- one axis: s n-ths of the way from u to v is t n-ths of the way from w to z, and the same of p, q, r, o, which are m higher
 
-part : (n k : ℕ) (u v : ℤ) (p q m : ℕ) → Difference u p m → Difference v q m
-    → Difference (partWay n k u v) ((n - k) * p + k * q) ((n - k) * m + k * m)
-part n k u v p q m h g = added (pos (n - k) *ℤ u) (pos k *ℤ v) _ _ _ _ (scaled (n - k) u p m h) (scaled k v q m g)
+abbrev AtOne : ℕ → ℕ → ℕ → ℤ → ℤ → ℤ → ℤ → Type 0
+AtOne n s t u v w z = partWay n s u v ≡ partWay n t w z
 
--- all the way is n times the million
-all-of-it : (n k m : ℕ) → k ≤ n → (n - k) * m + k * m ≡ n * m
-all-of-it n k m h = go (n - k) (omega arith)
+part : (n k : ℕ) (u v : ℤ) (p q m : ℕ) → k ≤ n → Difference u p m → Difference v q m → Difference (partWay n k u v) ((n - k) * p + k * q) (n * m)
+part n k u v p q m l h g = subst (λ (i : ℕ). Difference (partWay n k u v) ((n - k) * p + k * q) i) (go (n - k) (omega arith)) sum
   where
+    sum : Difference (partWay n k u v) ((n - k) * p + k * q) ((n - k) * m + k * m)
+    sum = added (pos (n - k) *ℤ u) (pos k *ℤ v) _ _ _ _ (scaled (n - k) u p m h) (scaled k v q m g)
     go : (j : ℕ) → n ≡ j + k → j * m + k * m ≡ n * m
     go j e = let f : n * m ≡ (j + k) * m = ap (λ (i : ℕ). i * m) e in omega arith
 
-module _ (n s t : ℕ) (u v w z : ℤ) (p q r o m : ℕ)
-    (hu : Difference u p m) (hv : Difference v q m) (hw : Difference w r m) (hz : Difference z o m) (i : s ≤ n) (j : t ≤ n) where
-  pub lowered : partWay n s (pos p) (pos q) ≡ partWay n t (pos r) (pos o) → partWay n s u v ≡ partWay n t w z
-  lowered e =
+module _ (u v w z : ℤ) (p q r o m : ℕ) (hu : Difference u p m) (hv : Difference v q m) (hw : Difference w r m) (hz : Difference z o m) where
+  lowered : (n s t : ℕ) → s ≤ n → t ≤ n → AtOne n s t (pos p) (pos q) (pos r) (pos o) → AtOne n s t u v w z
+  lowered n s t i j e =
       let f : (n - s) * p + s * q ≡ (n - t) * r + t * o = pos-only _ _ e in
-      let a : Difference (partWay n t w z) ((n - s) * p + s * q) ((n - s) * m + s * m) =
-      same-difference (partWay n t w z) ((n - t) * r + t * o) ((n - t) * m + t * m) ((n - s) * p + s * q) ((n - s) * m + s * m)
-      (omega (arith, all-of-it n s m i, all-of-it n t m j)) (part n t w z r o m hw hz) in
-      equal (partWay n s u v) (partWay n t w z) ((n - s) * p + s * q) ((n - s) * m + s * m) (part n s u v p q m hu hv) a
-    where
-      pos-only : (k l : ℕ) → pos k ≡ pos l → k ≡ l
-      pos-only k l h = cc
+      equal (partWay n s u v) (partWay n t w z) ((n - t) * r + t * o) (n * m)
+      (subst (λ (k : ℕ). Difference (partWay n s u v) k (n * m)) f (part n s u v p q m i hu hv)) (part n t w z r o m j hw hz)
 
-  pub raised : partWay n s u v ≡ partWay n t w z → partWay n s (pos p) (pos q) ≡ partWay n t (pos r) (pos o)
-  raised e =
-      let a : Difference (partWay n t w z) ((n - s) * p + s * q) ((n - s) * m + s * m) =
-      subst (λ (l : ℤ). Difference l ((n - s) * p + s * q) ((n - s) * m + s * m)) e (part n s u v p q m hu hv) in
-      let b = level (partWay n t w z) _ _ _ _ a (part n t w z r o m hw hz) in
-      ap pos (let f : (n - s) * p + s * q ≡ (n - t) * r + t * o = omega (arith, all-of-it n s m i, all-of-it n t m j) in f)
+  raised : (n s t : ℕ) → s ≤ n → t ≤ n → AtOne n s t u v w z → AtOne n s t (pos p) (pos q) (pos r) (pos o)
+  raised n s t i j e =
+      let a = subst (λ (l : ℤ). Difference l ((n - s) * p + s * q) (n * m)) e (part n s u v p q m i hu hv) in
+      ap pos (level (partWay n t w z) ((n - s) * p + s * q) ((n - t) * r + t * o) (n * m) a (part n t w z r o m j hw hz))
 
 -- ---- points
+
+carried : {a b c d a' b' c' d' : WholePoint}
+    → ((n s t : ℕ) → s ≤ n → t ≤ n → AtOne n s t (a .x) (b .x) (c .x) (d .x) → AtOne n s t (a' .x) (b' .x) (c' .x) (d' .x))
+    → ((n s t : ℕ) → s ≤ n → t ≤ n → AtOne n s t (a .y) (b .y) (c .y) (d .y) → AtOne n s t (a' .y) (b' .y) (c' .y) (d' .y))
+    → Common a b c d → Common a' b' c' d'
+carried f g h =
+    record {
+      n = h .n;
+      s = h .s;
+      t = h .t;
+      above = h .above;
+      s-most = h .s-most;
+      t-most = h .t-most;
+      across = f (h .n) (h .s) (h .t) (h .s-most) (h .t-most) (h .across);
+      upward = g (h .n) (h .s) (h .t) (h .s-most) (h .t-most) (h .upward);
+    }
 
 abbrev pub StandsAt : WholePoint → Spot → Type 0
 StandsAt a A = Stands (a .x) (a .y) A
 
--- THE MILLION CANCELS OUT: the coordinates moved up have a point in common exactly if the coordinates have
+-- THE MILLION CANCELS OUT: segments have a point in common exactly if they have one where every coordinate is moved up
 pub shift-exactly : (a b c d : WholePoint) (A B C D : Spot) → StandsAt a A → StandsAt b B → StandsAt c C → StandsAt d D
     → Common (pointOf A) (pointOf B) (pointOf C) (pointOf D) ↔ Common a b c d
-shift-exactly a b c d A B C D P Q R S = (down, up)
-  where
-    down : Common (pointOf A) (pointOf B) (pointOf C) (pointOf D) → Common a b c d
-    down h =
-        record {
-          n = h .n;
-          s = h .s;
-          t = h .t;
-          above = h .above;
-          s-most = h .s-most;
-          t-most = h .t-most;
-          across = lowered (h .n) (h .s) (h .t) (a .x) (b .x) (c .x) (d .x) (A .x) (B .x) (C .x) (D .x) 1000000 (P .across) (Q .across) (R .across) (S .across) (h .s-most) (h .t-most) (h .across);
-          upward = lowered (h .n) (h .s) (h .t) (a .y) (b .y) (c .y) (d .y) (A .y) (B .y) (C .y) (D .y) 1000000 (P .upward) (Q .upward) (R .upward) (S .upward) (h .s-most) (h .t-most) (h .upward);
-        }
-
-    up : Common a b c d → Common (pointOf A) (pointOf B) (pointOf C) (pointOf D)
-    up h =
-        record {
-          n = h .n;
-          s = h .s;
-          t = h .t;
-          above = h .above;
-          s-most = h .s-most;
-          t-most = h .t-most;
-          across = raised (h .n) (h .s) (h .t) (a .x) (b .x) (c .x) (d .x) (A .x) (B .x) (C .x) (D .x) 1000000 (P .across) (Q .across) (R .across) (S .across) (h .s-most) (h .t-most) (h .across);
-          upward = raised (h .n) (h .s) (h .t) (a .y) (b .y) (c .y) (d .y) (A .y) (B .y) (C .y) (D .y) 1000000 (P .upward) (Q .upward) (R .upward) (S .upward) (h .s-most) (h .t-most) (h .upward);
-        }
+shift-exactly a b c d A B C D P Q R S =
+    (carried
+    (lowered (a .x) (b .x) (c .x) (d .x) (A .x) (B .x) (C .x) (D .x) 1000000 (P .across) (Q .across) (R .across) (S .across))
+    (lowered (a .y) (b .y) (c .y) (d .y) (A .y) (B .y) (C .y) (D .y) 1000000 (P .upward) (Q .upward) (R .upward) (S .upward)),
+    carried
+    (raised (a .x) (b .x) (c .x) (d .x) (A .x) (B .x) (C .x) (D .x) 1000000 (P .across) (Q .across) (R .across) (S .across))
+    (raised (a .y) (b .y) (c .y) (d .y) (A .y) (B .y) (C .y) (D .y) 1000000 (P .upward) (Q .upward) (R .upward) (S .upward)))
 
 -- ---- coordinates within the bounds
 

@@ -17,7 +17,7 @@ use Rattle.shifted.specs.declared.Spot.{Spot}
 use Rattle.whole_rules.specs.Segments.{wholeIntersect}
 use Rattle.whole_rules.specs.Simple.{wholeClearPair, wholeClearRow, wholeSimple}
 use Rattle.whole_plane.specs.Plane.{WholePoint, Common, pointOf}
-use Rattle.whole_plane.specs.Rings.{Strange, SimpleRing}
+use Rattle.whole_plane.specs.Rings.{NotNeighbours, SimpleRing}
 use Rattle.whole_plane.proofs.Signs.{Turned, left, right, level, compared}
 use Rattle.whole_plane.proofs.Meeting.{intersect-exactly}
 use Rattle.whole_plane.proofs.Each.{each-every, every-each}
@@ -32,9 +32,9 @@ module _ (n i j : ℕ) (l : i < j) (m : j < n) where
   last-next : j + 1 ≡ n → nextOf j n ≡ 0
   last-next e = ap (λ (k : ℕ). k % n) e ∙ mod-self n
 
-  strange-apart : Strange n i j → adjacentOf i j n ≡ true → ⊥
+  not-adjacent : NotNeighbours n i j → adjacentOf i j n ≡ true → ⊥
   unfolding adjacentOf
-  strange-apart h e =
+  not-adjacent h e =
       ⊎-elim (λ f. h .not-after (eqb-true j (i + 1) f ∙ sym next-is))
       (λ f.
       let t = both (eqb i 0) (eqb j (n - 1)) f in
@@ -60,11 +60,11 @@ module _ (n i j : ℕ) (l : i < j) (m : j < n) where
       (λ f. let k : nextOf j n ≡ j + 1 = mod-eq-of-lt f in omega arith)
       (eq-or-lt-of-le {n = j + 1} {m = n} (omega arith))
 
-  apart-strange : adjacentOf i j n ≡ false → Strange n i j
-  apart-strange h = record { two = λ e. omega arith; not-after = not-next h; not-before = not-last h }
+  adjacent-not : adjacentOf i j n ≡ false → NotNeighbours n i j
+  adjacent-not h = record { two = λ e. omega arith; not-after = not-next h; not-before = not-last h }
 
-strange-exchanged : {n i j : ℕ} → Strange n i j → Strange n j i
-strange-exchanged h = record { two = λ e. h .two (sym e); not-after = h .not-before; not-before = h .not-after }
+not-exchanged : {n i j : ℕ} → NotNeighbours n i j → NotNeighbours n j i
+not-exchanged h = record { two = λ e. h .two (sym e); not-after = h .not-before; not-before = h .not-after }
 
 common-exchanged : {a b c d : WholePoint} → Common a b c d → Common c d a b
 common-exchanged h =
@@ -86,28 +86,28 @@ module _ (at : ℕ → Spot) (n : ℕ) where
   abbrev Crossing : ℕ → ℕ → Type 0
   Crossing i j = Common (pointOf (at i)) (pointOf (at (nextOf i n))) (pointOf (at j)) (pointOf (at (nextOf j n)))
 
-  pair-clear : (i j : ℕ) → i < j → j < n → wholeClearPair at n i j ≡ true → Strange n i j → Crossing i j → ⊥
+  pair-clear : (i j : ℕ) → i < j → j < n → wholeClearPair at n i j ≡ true → NotNeighbours n i j → Crossing i j → ⊥
   unfolding wholeClearPair
   pair-clear i j l m h r c =
       let meet = wholeIntersect (at i) (at (nextOf i n)) (at j) (at (nextOf j n)) in
-      ⊎-elim (λ e. strange-apart n i j l m r e)
+      ⊎-elim (λ e. not-adjacent n i j l m r e)
       (λ e. true≢false (sym (intersect-exactly (at i) (at (nextOf i n)) (at j) (at (nextOf j n)) .1 c) ∙ not-true meet e))
       (one-of (adjacentOf i j n) (not meet) h)
 
-  clear-pair : (i j : ℕ) → i < j → j < n → (Strange n i j → Crossing i j → ⊥) → wholeClearPair at n i j ≡ true
+  clear-pair : (i j : ℕ) → i < j → j < n → (NotNeighbours n i j → Crossing i j → ⊥) → wholeClearPair at n i j ≡ true
   unfolding wholeClearPair
   clear-pair i j l m h = go (adjacentOf i j n) (wholeIntersect (at i) (at (nextOf i n)) (at j) (at (nextOf j n))) refl refl
     where
       go : (s t : Bool) → adjacentOf i j n ≡ s → wholeIntersect (at i) (at (nextOf i n)) (at j) (at (nextOf j n)) ≡ t → s || not t ≡ true
       go true t e f = refl
       go false false e f = refl
-      go false true e f = absurd (h (apart-strange n i j l m e) (intersect-exactly (at i) (at (nextOf i n)) (at j) (at (nextOf j n)) .0 f))
+      go false true e f = absurd (h (adjacent-not n i j l m e) (intersect-exactly (at i) (at (nextOf i n)) (at j) (at (nextOf j n)) .0 f))
 
   row-pair : (i j : ℕ) → i < j → j < n → wholeClearRow at n i ≡ true → wholeClearPair at n i j ≡ true
   unfolding wholeClearRow
   row-pair i j l m h = each-every (wholeClearPair at n i) (i + 1) (n - (i + 1)) h j (omega arith) (omega arith)
 
-  is-clear : each (wholeClearRow at n) 0 n ≡ true → (i j : ℕ) → i < n → j < n → Strange n i j → Crossing i j → ⊥
+  is-clear : each (wholeClearRow at n) 0 n ≡ true → (i j : ℕ) → i < n → j < n → NotNeighbours n i j → Crossing i j → ⊥
   is-clear h i j k m r c = go (compared i j)
     where
       row : (o : ℕ) → o < n → wholeClearRow at n o ≡ true
@@ -115,10 +115,10 @@ module _ (at : ℕ → Spot) (n : ℕ) where
 
       go : {d : ℤ} → Turned i j d → ⊥
       go (right l) = pair-clear i j l m (row-pair i j l m (row i k)) r c
-      go (left l) = pair-clear j i l k (row-pair j i l k (row j m)) (strange-exchanged r) (common-exchanged c)
+      go (left l) = pair-clear j i l k (row-pair j i l k (row j m)) (not-exchanged r) (common-exchanged c)
       go (level e) = r .two e
 
-  clear-is : ((i j : ℕ) → i < n → j < n → Strange n i j → Crossing i j → ⊥) → each (wholeClearRow at n) 0 n ≡ true
+  clear-is : ((i j : ℕ) → i < n → j < n → NotNeighbours n i j → Crossing i j → ⊥) → each (wholeClearRow at n) 0 n ≡ true
   unfolding wholeClearRow
   clear-is h =
       every-each (wholeClearRow at n) 0 n
