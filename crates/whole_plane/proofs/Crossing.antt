@@ -3,7 +3,7 @@
 use Prim.Native.Nat.{ℕ, _+_, _-_, _*_, _<_}
 use native.Mathlib.Omega.{arith}
 use mathlib.Core.Path.{_≡_, sym, ap}
-use mathlib.Core.Logic.{_⊎_, inl, inr}
+use mathlib.Core.Logic.{inl, inr}
 use Rattle.shifted.specs.declared.Spot.{Spot}
 use Rattle.whole_rules.specs.Segments.{leftOf, rightOf}
 use Rattle.whole_plane.proofs.Signs.{Opposite}

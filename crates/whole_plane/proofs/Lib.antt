@@ -9,3 +9,4 @@ pub mod Each
 pub mod Simple
 pub mod Shift
 pub mod Calls
+pub mod Worked

@@ -1,5 +1,5 @@
 -- Two segments on one line that have a point in common: an end of one lies on the other. Assumes nothing.
-use Prim.Native.Nat.{ℕ, _+_, _*_, _≤_, _<_, min, max}
+use Prim.Native.Nat.{ℕ, _+_, _*_, _≤_, _<_}
 use native.Mathlib.Omega.{arith}
 use native.Mathlib.Nat.{mul-le-mul-left, le-of-lt}
 use mathlib.Core.Path.{_≡_, refl, sym, ap}
@@ -91,7 +91,8 @@ eastward a b c d h l k = go (spread (a .x) (b .x) (c .x)) (spread (a .x) (b .x) 
     go (under i) (inside m n) = fourth (boxed (l .fourth-is) (between a b d k m n (l .fourth-is)))
     go (over i) (inside m n) = fourth (boxed (l .fourth-is) (between a b d k m n (l .fourth-is)))
     go (under i) (over m) = first (boxed (l .first-is) (between c d a (omega arith) (omega arith) (omega arith) (l .first-is)))
-    go (over i) (under m) = first (boxed (l .first-is) (on-turned (between d c a (omega arith) (omega arith) (omega arith) (sym (l .first-is)))))
+    go (over i) (under m) =
+        first (boxed (l .first-is) (on-turned (between d c a (omega arith) (omega arith) (omega arith) (sym (l .first-is)))))
     go (under i) (under m) =
         absurd (both-under (h .s) (h .s') (h .t) (h .t') (a .x) (b .x) (c .x) (d .x) (h .whole) (h .some) (h .across) k i m)
     go (over i) (over m) =

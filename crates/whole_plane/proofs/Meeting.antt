@@ -1,13 +1,13 @@
 -- The rule of `segments_intersect` in whole numbers holds exactly if the two closed segments have a point in common. Where the
 -- rule holds, the turns or the box give the point's weights. Where there is such a point, a turn weighed by it is 0, so that
 -- two ends lie on different sides, or one is the point, or all are in line. Assumes nothing.
-use Prim.Native.Nat.{ℕ, _+_, _*_, _≤_, _<_}
+use Prim.Native.Nat.{ℕ, _+_, _*_, _<_}
 use native.Mathlib.Omega.{arith}
 use native.Mathlib.Nat.{mul-le-mul-left}
 use mathlib.Core.Path.{_≡_, refl, sym, ap, _∙_}
 use mathlib.Core.Logic.{_↔_, inl, inr, ⊎-elim}
 use mathlib.Core.Bool.{true, _||_, or-true}
-use lib.IntN.{ℤ, pos, negsuc}
+use lib.IntN.{ℤ}
 use Rattle.laws.proofs.Both.{both, one-of}
 use Rattle.segments.specs.Segments.{straddlesOf, crossesOf}
 use Rattle.shifted.specs.declared.Spot.{Spot}
@@ -16,7 +16,7 @@ use Rattle.whole_plane.specs.Plane.{Common, pointOf}
 use Rattle.whole_plane.proofs.Signs.{Turned, left, right, level, turn-is, Opposite, opposite}
 use Rattle.whole_plane.proofs.Shared.{Shared, shared-common, common-shared, turned, exchanged}
 use Rattle.whole_plane.proofs.Crossing.{balance, crossed}
-use Rattle.whole_plane.proofs.Touching.{Touch, On, touch-on, boxed, touches, touch-is}
+use Rattle.whole_plane.proofs.Touching.{On, touch-on, boxed, touches, touch-is}
 use Rattle.whole_plane.proofs.Line.{Meet, first, second, third, fourth, in-line}
 
 -- ---- where the rule holds

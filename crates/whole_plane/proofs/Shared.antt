@@ -3,7 +3,7 @@
 use Prim.Native.Nat.{ℕ, _+_, _-_, _*_, _≤_, _<_}
 use native.Mathlib.Omega.{arith}
 use mathlib.Core.Path.{_≡_, sym, ap}
-use lib.IntN.{ℤ, pos}
+use lib.IntN.{pos}
 use Rattle.shifted.specs.declared.Spot.{Spot}
 use Rattle.whole_plane.specs.Plane.{Common, pointOf}
 

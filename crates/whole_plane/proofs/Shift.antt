@@ -56,11 +56,13 @@ equal (negsuc m) (negsuc n) p q h k = ap negsuc (let e : m ≡ n = omega arith i
 abbrev AtOne : ℕ → ℕ → ℕ → ℤ → ℤ → ℤ → ℤ → Type 0
 AtOne n s t u v w z = partWay n s u v ≡ partWay n t w z
 
-part : (n k : ℕ) (u v : ℤ) (p q m : ℕ) → k ≤ n → Difference u p m → Difference v q m → Difference (partWay n k u v) ((n - k) * p + k * q) (n * m)
+part : (n k : ℕ) (u v : ℤ) (p q m : ℕ) → k ≤ n → Difference u p m → Difference v q m
+    → Difference (partWay n k u v) ((n - k) * p + k * q) (n * m)
 part n k u v p q m l h g = subst (λ (i : ℕ). Difference (partWay n k u v) ((n - k) * p + k * q) i) (go (n - k) (omega arith)) sum
   where
     sum : Difference (partWay n k u v) ((n - k) * p + k * q) ((n - k) * m + k * m)
     sum = added (pos (n - k) *ℤ u) (pos k *ℤ v) _ _ _ _ (scaled (n - k) u p m h) (scaled k v q m g)
+
     go : (j : ℕ) → n ≡ j + k → j * m + k * m ≡ n * m
     go j e = let f : n * m ≡ (j + k) * m = ap (λ (i : ℕ). i * m) e in omega arith
 
@@ -100,13 +102,14 @@ StandsAt a A = Stands (a .x) (a .y) A
 -- THE MILLION CANCELS OUT: segments have a point in common exactly if they have one where every coordinate is moved up
 pub shift-exactly : (a b c d : WholePoint) (A B C D : Spot) → StandsAt a A → StandsAt b B → StandsAt c C → StandsAt d D
     → Common (pointOf A) (pointOf B) (pointOf C) (pointOf D) ↔ Common a b c d
-shift-exactly a b c d A B C D P Q R S =
-    (carried
-    (lowered (a .x) (b .x) (c .x) (d .x) (A .x) (B .x) (C .x) (D .x) 1000000 (P .across) (Q .across) (R .across) (S .across))
-    (lowered (a .y) (b .y) (c .y) (d .y) (A .y) (B .y) (C .y) (D .y) 1000000 (P .upward) (Q .upward) (R .upward) (S .upward)),
-    carried
-    (raised (a .x) (b .x) (c .x) (d .x) (A .x) (B .x) (C .x) (D .x) 1000000 (P .across) (Q .across) (R .across) (S .across))
-    (raised (a .y) (b .y) (c .y) (d .y) (A .y) (B .y) (C .y) (D .y) 1000000 (P .upward) (Q .upward) (R .upward) (S .upward)))
+shift-exactly a b c d A B C D P Q R S = (
+  carried
+      (lowered (a .x) (b .x) (c .x) (d .x) (A .x) (B .x) (C .x) (D .x) 1000000 (P .across) (Q .across) (R .across) (S .across))
+      (lowered (a .y) (b .y) (c .y) (d .y) (A .y) (B .y) (C .y) (D .y) 1000000 (P .upward) (Q .upward) (R .upward) (S .upward)),
+  carried
+      (raised (a .x) (b .x) (c .x) (d .x) (A .x) (B .x) (C .x) (D .x) 1000000 (P .across) (Q .across) (R .across) (S .across))
+      (raised (a .y) (b .y) (c .y) (d .y) (A .y) (B .y) (C .y) (D .y) 1000000 (P .upward) (Q .upward) (R .upward) (S .upward)),
+)
 
 -- ---- coordinates within the bounds
 

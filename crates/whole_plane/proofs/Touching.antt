@@ -3,7 +3,7 @@ use Prim.Native.Nat.{ℕ, _+_, _-_, _*_, _≤_, _<_, min, max}
 use native.Mathlib.Omega.{arith}
 use native.Mathlib.Nat.{mul-le-mul-left, le-of-mul-le-mul-left}
 use mathlib.Core.Path.{_≡_, refl, sym, ap}
-use mathlib.Core.Bool.{Bool, true, _&&_, false≢true}
+use mathlib.Core.Bool.{true, false≢true}
 use lib.Dec.{leb}
 use lib.IntN.{ℤ}
 use borrow.Author.Tests.{leb-true, le-leb}
@@ -102,7 +102,8 @@ touch-on {a} {b} {p} h = by-width (compared (a .x) (b .x))
     by-height e (right k) =
         on-flipped (between (flip a) (flip b) (flip p) k (omega (arith, h .south)) (omega (arith, h .north)) (omega (arith, h .line)))
     by-height e (left k) =
-        on-flipped (on-turned (between (flip b) (flip a) (flip p) k (omega (arith, h .south)) (omega (arith, h .north)) (omega (arith, h .line))))
+        on-flipped (on-turned
+        (between (flip b) (flip a) (flip p) k (omega (arith, h .south)) (omega (arith, h .north)) (omega (arith, h .line))))
     by-height e (level k) =
         record {
           t = 0;
