@@ -32,7 +32,7 @@ use Rattle.whole_plane.proofs.Shift.{StandsAt, stands-at, shift-exactly
 use Rattle.whole_plane.proofs.Meeting.{intersect-exactly}
 use Rattle.whole_plane.proofs.Simple.{simple-exactly}
 
--- a call answers v exactly if its tests pass and v is its value
+-- where a call answers w, its tests pass and w is its value
 answered : {A : Type 0} (r : Refusal) (v w : A) → outcome r v ≡ answers w → (passed r ≡ true) × (v ≡ w)
 answered {A} r v w = go (passed r)
   where
@@ -58,7 +58,7 @@ module _ (x1 y1 x2 y2 x3 y3 x4 y4 : ℤ) where
       (stands-at x3 y3 (within-at lent 4 w (lit< tt)) (within-at lent 5 w (lit< tt)))
       (stands-at x4 y4 (within-at lent 6 w (lit< tt)) (within-at lent 7 w (lit< tt))))
 
-  -- THE THEOREM: the call answers 1 exactly if each coordinate is within a million and the closed segments have a point in common
+  -- the call answers 1 exactly if each coordinate is within a million and the closed segments have a point in common
   pub intersect-call-exactly : wholeIntersectCall x1 y1 x2 y2 x3 y3 x4 y4 ≡ answers true
       ↔ (allInBounds (x1 ∷ y1 ∷ x2 ∷ y2 ∷ x3 ∷ y3 ∷ x4 ∷ y4 ∷ []) ≡ true)
       × Common (wholePoint x1 y1) (wholePoint x2 y2) (wholePoint x3 y3) (wholePoint x4 y4)
@@ -105,7 +105,7 @@ module _ (zs : List ℤ) where
         λ s. record { three = s .three; clear = λ i j h k r c. s .clear i j h k r (edges w i j h k .0 c) },
       )
 
-  -- THE THEOREM: the call answers 1 exactly if the list is not refused, there are three vertices or more, and no two edges that
+  -- the call answers 1 exactly if the list is not refused, there are three vertices or more, and no two edges that
   -- are not neighbours have a point in common
   pub simple-call-exactly : wholeSimpleCall zs ≡ answers true ↔ (passed (ofWholeRing zs) ≡ true) × SimpleRing (pointIn zs) (verticesIn zs)
   simple-call-exactly = (to, from)

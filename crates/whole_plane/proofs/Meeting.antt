@@ -175,6 +175,6 @@ module _ (a b c d : Spot) (h : Shared a b c d) where
       by-ends (ends (h .s) (h .s') (h .some) (weighed h) (turn-is c d a) (turn-is c d b))
       (ends (h .t) (h .t') k (weighed (exchanged h)) (turn-is a b c) (turn-is a b d))
 
--- THE THEOREM, of the rule
+-- the rule holds exactly if there is a point in common
 pub intersect-exactly : (a b c d : Spot) → wholeIntersect a b c d ≡ true ↔ Common (pointOf a) (pointOf b) (pointOf c) (pointOf d)
 intersect-exactly a b c d = (λ h. shared-common (meets a b c d h), λ h. is-met a b c d (common-shared h))

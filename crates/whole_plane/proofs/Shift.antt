@@ -99,7 +99,7 @@ carried f g h =
 abbrev pub StandsAt : WholePoint → Spot → Type 0
 StandsAt a A = Stands (a .x) (a .y) A
 
--- THE MILLION CANCELS OUT: segments have a point in common exactly if they have one where every coordinate is moved up
+-- segments have a point in common exactly if they have one where every coordinate is moved up
 pub shift-exactly : (a b c d : WholePoint) (A B C D : Spot) → StandsAt a A → StandsAt b B → StandsAt c C → StandsAt d D
     → Common (pointOf A) (pointOf B) (pointOf C) (pointOf D) ↔ Common a b c d
 shift-exactly a b c d A B C D P Q R S = (

@@ -1,5 +1,5 @@
--- The rule of `is_simple_polygon` in whole numbers holds exactly if there are three vertices or more and no two edges that share
--- no vertex have a point in common. Assumes nothing.
+-- The rule of `is_simple_polygon` in whole numbers holds exactly if there are three vertices or more and no two edges that are
+-- not neighbours have a point in common. Assumes nothing.
 use Prim.Native.Nat.{ℕ, _+_, _-_, _%_, _<_}
 use native.Mathlib.Omega.{arith}
 use native.Mathlib.Nat.{mod-eq-of-lt, mod-self, eq-or-lt-of-le}
@@ -125,7 +125,7 @@ module _ (at : ℕ → Spot) (n : ℕ) where
       (λ i l m. every-each (wholeClearPair at n i) (i + 1) (n - (i + 1))
       (λ j o q. clear-pair i j (omega arith) (omega arith) (h i j (omega arith) (omega arith))))
 
-  -- THE THEOREM, of the rule
+  -- the rule holds exactly if the ring is simple by its points
   pub simple-exactly : wholeSimple at n ≡ true ↔ SimpleRing (λ i. pointOf (at i)) n
   unfolding wholeSimple
   simple-exactly = (
