@@ -16,7 +16,8 @@ wholePoint u v = record { x = u; y = v }
 abbrev pub partWay : ℕ → ℕ → ℤ → ℤ → ℤ
 partWay n k u v = pos (n - k) *ℤ u +ℤ pos k *ℤ v
 
--- s n-ths of the way from a to b and t n-ths of the way from c to d, none of them beyond an end, there is one point
+-- the closed segments a b and c d have a point in common: s n-ths of the way from a to b and t n-ths of the way from c to d,
+-- neither beyond the end, are one point. Either segment may be a point
 pub record Common (a b c d : WholePoint) : Type 0 where
   pub n : ℕ
   pub s : ℕ
@@ -27,6 +28,6 @@ pub record Common (a b c d : WholePoint) : Type 0 where
   pub across : partWay n s (a .x) (b .x) ≡ partWay n t (c .x) (d .x)
   pub upward : partWay n s (a .y) (b .y) ≡ partWay n t (c .y) (d .y)
 
--- a point of natural coordinates
+-- a point as the rules have it, whose coordinates are natural numbers
 abbrev pub pointOf : Spot → WholePoint
 pointOf a = wholePoint (pos (a .x)) (pos (a .y))
