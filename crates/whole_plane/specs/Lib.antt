@@ -1,0 +1,3 @@
+-- What the theorems about the plane speak of.
+pub mod Plane
+pub mod Rings

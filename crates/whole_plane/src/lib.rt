@@ -1,0 +1,1 @@
+// What the predicates in whole numbers tell of the plane. Definitions and laws alone.
