@@ -269,13 +269,14 @@ fn contacts_and_hits_are_of_every_kind() {
         let [a, b, list, extra, one, two] = lengths(record, [1, 2, 3, 4, 5, 6]);
         if record[0] == sliding::FIND_CONTACTS {
             let after = sliding::HEADER + a + b + list + extra + one + two;
-            let which = &record[after..after + 3 * record[8] as usize];
-            contacts.extend(which.chunks_exact(3).map(|contact| contact[0]));
+            let which = &record[after..after + 4 * record[8] as usize];
+            contacts.extend(which.chunks_exact(4).map(|contact| (contact[0], contact[3])));
         } else if record[0] == sliding::COLLISION && record[8] == 1 {
             hits.insert(record[10]);
         }
     }
-    assert!(contacts.into_iter().eq([0, 1, 2]));
+    let each = (0..3).flat_map(|kind| (0..3).map(move |foot| (kind, foot)));
+    assert!(contacts.into_iter().eq(each), "each kind with each foot");
     assert!(hits.into_iter().eq([0, 1]));
 }
 

@@ -11,15 +11,15 @@ use Rattle.contacts.proofs.Worked.{S, Q, tol, four, numbers}
 use Rattle.contacts_call.specs.Calls.{findRefusal, findCall}
 
 -- rooms of exactly six entries, and rooms that are one number short
-pub exact : findCall S Q tol 18 12 ≡ answers 6
+pub exact : findCall S Q tol 24 12 ≡ answers 6
 unfolding findRefusal ofTouching ofTwoPolygons ofRooms every coordinate lt le eq neg ofBits
 exact = rw numbers
 
-pub which-short : findCall S Q tol 17 12 ≡ refuses (refuse 5 0)
+pub which-short : findCall S Q tol 23 12 ≡ refuses (refuse 5 0)
 unfolding findRefusal ofTouching ofTwoPolygons ofRooms every coordinate lt le eq neg ofBits
 which-short = rw numbers
 
-pub points-short : findCall S Q tol 18 11 ≡ refuses (refuse 5 0)
+pub points-short : findCall S Q tol 24 11 ≡ refuses (refuse 5 0)
 unfolding findRefusal ofTouching ofTwoPolygons ofRooms every coordinate lt le eq neg ofBits
 points-short = rw numbers
 

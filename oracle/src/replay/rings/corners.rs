@@ -6,12 +6,13 @@ use crate::replay::{with, EDGES};
 use crate::seeded::Seeded;
 
 /// The calls that take three points.
-const THREE_POINT_CALLS: [u64; 5] = [
+const THREE_POINT_CALLS: [u64; 6] = [
     super::ORIENTATION,
     super::ON_SEGMENT,
     super::POINT_SEGMENT_DISTANCE,
     super::PROJECT_POINT_TO_SEGMENT,
     super::POINT_TO_SEGMENT_DISTANCE,
+    super::PROJECTED_FOOT,
 ];
 
 /// A list with each of the edge numbers in each of its places.

@@ -1,4 +1,4 @@
--- `contacts_call::write::put_pair` meets its contract: three stores. Assumes nothing.
+-- `contacts_call::write::put_pair` meets its contract: four stores. Assumes nothing.
 use native.Mathlib.Omega.{arith}
 use borrow.Author.Needs.{needs}
 use lib.ListN.{length-set}
