@@ -14,7 +14,6 @@ use Rattle.contacts.specs.Touching.{contactPoint}
 use Rattle.contacts.specs.Contacts.{contactsFrom, contactsOf, pointsOf}
 use Rattle.contacts.proofs.Following.{FoundAt}
 use Rattle.projection.specs.Foot.{footCode}
-use Rattle.projection.specs.declared.foot.Foot.{Foot}
 use Rattle.contacts_call.specs.Which.{contactFoot, entry, whichOf}
 use Rattle.contacts_call.proofs.Filling.{Filling, begun, put, fits, filled}
 
@@ -63,20 +62,20 @@ module _ (st orb : List Float) (tol : Float) (w₀ : List ℕ) (p₀ : List Floa
       unfolding pointsOf
       points-fit = omega (arith, fits room-points left-points)
 
-      pub turn : {w′ : List ℕ} {p′ : List Float} {q : Pair} {foot : Foot} {at : Point} → q ≡ pairOf (count st) (count orb) j
-          → foot ≡ contactFoot st orb q → at ≡ contactPoint st orb q
-          → w′ ≡ set (set (set (set w (entry * n) (q .kind)) (entry * n + 1) (q .stationary)) (entry * n + 2) (q .orbiting)) (entry * n + 3) (footCode foot)
+      pub turn : {w′ : List ℕ} {p′ : List Float} {q : Pair} {foot : ℕ} {at : Point} → q ≡ pairOf (count st) (count orb) j
+          → foot ≡ footCode (contactFoot st orb q) → at ≡ contactPoint st orb q
+          → w′ ≡ set (set (set (set w (entry * n) (q .kind)) (entry * n + 1) (q .stationary)) (entry * n + 2) (q .orbiting)) (entry * n + 3) foot
           → p′ ≡ set (set p (2 * n) (at .x)) (2 * n + 1) (at .y) → Writing w′ p′ (n + 1) (j + 1)
       unfolding whichOf pointsOf
       turn {w′} {p′} {q} {foot} {at} eq ef et ew ep =
           let a : entry * n + 1 + 1 ≡ entry * n + 2 = omega arith in
-          let a′ : entry * n + 2 + 1 ≡ entry * n + 3 = omega arith in
-          let b : entry * n + 3 + 1 ≡ entry * (n + 1) = omega arith in
+          let a′ : entry * n + 1 + 1 + 1 ≡ entry * n + 3 = omega arith in
+          let b : entry * n + 1 + 1 + 1 + 1 ≡ entry * (n + 1) = omega arith in
           let d : 2 * n + 1 + 1 ≡ 2 * (n + 1) = omega arith in
           record {
             most = omega (arith, f .below);
             few = omega (arith, s .few, f .least);
-            which = rw (ew, ef, eq, ← a′, ← a, ← b) (put (put (put (put left-which))));
+            which = rw (ew, ef, eq, ← a, ← a′, ← b) (put (put (put (put left-which))));
             points = rw (ep, et, eq, ← d) (put (put left-points));
           }
 

@@ -62,12 +62,12 @@ fn foot_by(kind: u8, e: Edges) -> Foot
     }
 }
 
-// Where the foot of a pair sits.
-fn contact_foot(stationary: &[f64], orbiting: &[f64], pair: Pair) -> Foot
+// The code of where the foot of a pair sits.
+fn contact_foot(stationary: &[f64], orbiting: &[f64], pair: Pair) -> u32
     requires { ⌜ Within (count (now stationary)) (count (now orbiting)) pair ⌝ }
-    ensures { λ r. ⌜ r ≡ contactFoot (now (stationary .entry)) (now (orbiting .entry)) pair ⌝ }
+    ensures { λ r. ⌜ r ≡ footCode (contactFoot (now (stationary .entry)) (now (orbiting .entry)) pair) ⌝ }
 {
-    foot_by(pair.kind, edges_of(stationary, orbiting, pair))
+    foot_code(foot_by(pair.kind, edges_of(stationary, orbiting, pair)))
 }
 
 // How many contacts there are.
@@ -90,16 +90,16 @@ fn count_contacts(stationary: &[f64], orbiting: &[f64], tol: f64) -> usize
 }
 
 // A pair's kind and indices, and its foot's code, from at on.
-fn put_pair(room: &mut [u64], at: usize, pair: Pair, foot: Foot)
+fn put_pair(room: &mut [u64], at: usize, pair: Pair, foot: u32)
     requires { ⌜ at + 3 < length (now room) ⌝ }
     ensures { λ _.
         ⌜ now (room .exit) ≡ set (set (set (set (now (room .entry)) at (pair .kind)) (at + 1) (pair .stationary)) (at + 2)
-        (pair .orbiting)) (at + 3) (footCode foot) ⌝ }
+        (pair .orbiting)) (at + 3) foot ⌝ }
 {
     room[at] = pair.kind as u64;
     room[at + 1] = pair.stationary as u64;
     room[at + 2] = pair.orbiting as u64;
-    room[at + 3] = foot_code(foot) as u64;
+    room[at + 3] = foot as u64;
 }
 
 // A point, from at on.
