@@ -235,10 +235,18 @@ fn each_call_on_rings_is_refused_and_answers() {
             _ => &[0, 2],
         }
     };
-    for call in 0..=12 {
+    for call in 0..=13 {
         let of_call = met.iter().filter(|pair| pair.0 == call).map(|pair| &pair.1);
         assert!(of_call.eq(numbers(call)), "call {call}");
     }
+}
+
+#[test]
+fn feet_sit_at_both_ends_and_between() {
+    let records = rings::records();
+    let feet = records.iter().filter(|r| r[0] == rings::PROJECTED_FOOT && r[4] == 0);
+    let met: BTreeSet<_> = feet.map(|record| record[5]).collect();
+    assert!(met.into_iter().eq([0, 1, 2]));
 }
 
 #[test]

@@ -1,8 +1,8 @@
 //! Where two polygons touch, and the ways in which one may slide from there.
 
+use super::segments::Foot;
 use crate::lent::{flat, points};
 use crate::refusal::{among, plain};
-use super::segments::Foot;
 use crate::{ffi, Entries, List, Point, Result};
 
 /// The library's refusal of an answer that has more entries than its room.

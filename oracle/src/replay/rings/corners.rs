@@ -6,13 +6,12 @@ use crate::replay::{with, EDGES};
 use crate::seeded::Seeded;
 
 /// The calls that take three points.
-const THREE_POINT_CALLS: [u64; 6] = [
+const THREE_POINT_CALLS: [u64; 5] = [
     super::ORIENTATION,
     super::ON_SEGMENT,
     super::POINT_SEGMENT_DISTANCE,
     super::PROJECT_POINT_TO_SEGMENT,
     super::POINT_TO_SEGMENT_DISTANCE,
-    super::PROJECTED_FOOT,
 ];
 
 /// A list with each of the edge numbers in each of its places.
@@ -246,6 +245,8 @@ pub fn cases(seeded: &mut Seeded) -> Vec<Case> {
     for triple in triples(seeded) {
         all.extend(THREE_POINT_CALLS.map(|call| Case::of(call, &triple)));
     }
+    let footed = [feet(), short_segments(), edged(&feet()[0])].concat();
+    all.extend(footed.iter().map(|list| Case::of(super::PROJECTED_FOOT, list)));
     let meeting = pairs(seeded);
     all.extend(meeting.iter().map(|pair| Case::of(super::SEGMENTS_INTERSECT, pair)));
     let near = tolerant(seeded);
