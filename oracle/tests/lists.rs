@@ -284,7 +284,7 @@ fn contacts_and_hits_are_of_every_kind() {
         }
     }
     let each = (0..3).flat_map(|kind| (0..3).map(move |foot| (kind, foot)));
-    assert!(contacts.into_iter().eq(each), "each kind with each foot");
+    assert_eq!(contacts.into_iter().collect::<Vec<_>>(), each.collect::<Vec<_>>());
     assert!(hits.into_iter().eq([0, 1]));
 }
 
