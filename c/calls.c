@@ -258,6 +258,7 @@ static void predicates(void) {
 
 static void distances(void) {
     double answer = HELD;
+    uint32_t foot = HELD_WORD;
 
     begin("byr_point_segment_distance");
     CHECK(byr_point_segment_distance(7, 4, 0, 0, 4, -INFINITY, &answer) == BYR_REFUSED_NUMBER);
@@ -265,10 +266,14 @@ static void distances(void) {
     CHECK(byr_point_segment_distance(7, 4, 0, 0, 4, 0, &answer) == 0 && same(answer, 5));
     begin("byr_project_point_to_segment");
     answer = HELD;
-    CHECK(byr_project_point_to_segment(NAN, 4, 0, 0, 4, 0, &answer) == BYR_REFUSED_NUMBER);
-    CHECK(same(answer, HELD));
-    CHECK(byr_project_point_to_segment(7, 4, 0, 0, 4, 0, &answer) == 0 && same(answer, 1));
-    CHECK(byr_project_point_to_segment(1, 4, 0, 0, 4, 0, &answer) == 0 && same(answer, 0.25));
+    CHECK(byr_project_point_to_segment(NAN, 4, 0, 0, 4, 0, &answer, &foot) == BYR_REFUSED_NUMBER);
+    CHECK(same(answer, HELD) && foot == HELD_WORD);
+    CHECK(byr_project_point_to_segment(7, 4, 0, 0, 4, 0, &answer, &foot) == 0 && same(answer, 1));
+    CHECK(foot == BYR_FOOT_END);
+    CHECK(byr_project_point_to_segment(1, 4, 0, 0, 4, 0, &answer, &foot) == 0 && same(answer, 0.25));
+    CHECK(foot == BYR_FOOT_BETWEEN);
+    CHECK(byr_project_point_to_segment(0, 0, 0, 0, -4, -3, &answer, &foot) == 0 && same(answer, -0.0));
+    CHECK(foot == BYR_FOOT_START);
     begin("byr_point_to_segment_distance");
     answer = HELD;
     CHECK(byr_point_to_segment_distance(7, 4, 0, -past_million(), 4, 0, &answer) == BYR_REFUSED_NUMBER);
@@ -502,8 +507,10 @@ static uint32_t lend_contacts(const double *a, size_t an, const double *b, size_
 }
 
 static void contacts(void) {
-    static const uint64_t expected[18] = {0, 0, 2, 0, 0, 3, 0, 3, 3, 1, 0, 2, 1, 0, 3, 2, 0, 2};
-    uint64_t which[20];
+    static const uint64_t expected[24] = {0, 0, 2, BYR_FOOT_BETWEEN, 0, 0, 3, BYR_FOOT_START,
+                                          0, 3, 3, BYR_FOOT_END,     1, 0, 2, BYR_FOOT_END,
+                                          1, 0, 3, BYR_FOOT_START,   2, 0, 2, BYR_FOOT_BETWEEN};
+    uint64_t which[26];
     double points[13];
     uint64_t count = HELD_COUNT;
     uint64_t place = HELD_COUNT;
@@ -512,18 +519,18 @@ static void contacts(void) {
     begin("byr_find_contacts");
     try_polygons(lend_contacts);
     hold(points, 13);
-    for (i = 0; i < 20; i++) {
+    for (i = 0; i < 26; i++) {
         which[i] = HELD_COUNT;
     }
-    CHECK(byr_find_contacts(S, 8, Q_AT_START, 8, 0, which, 20, points, 13, &count, &place) == BYR_REFUSED_SETTING);
-    CHECK(byr_find_contacts(S, 8, Q_AT_START, 8, TOLERANCE, which, 17, points, 13, &count, &place) ==
+    CHECK(byr_find_contacts(S, 8, Q_AT_START, 8, 0, which, 26, points, 13, &count, &place) == BYR_REFUSED_SETTING);
+    CHECK(byr_find_contacts(S, 8, Q_AT_START, 8, TOLERANCE, which, 23, points, 13, &count, &place) ==
           BYR_REFUSED_FIT);
-    CHECK(byr_find_contacts(S, 8, Q_AT_START, 8, TOLERANCE, which, 18, points, 11, &count, &place) ==
+    CHECK(byr_find_contacts(S, 8, Q_AT_START, 8, TOLERANCE, which, 24, points, 11, &count, &place) ==
           BYR_REFUSED_FIT);
     CHECK(count == HELD_COUNT && which[0] == HELD_COUNT && held(points, 0, 13));
-    CHECK(byr_find_contacts(S, 8, Q_AT_START, 8, TOLERANCE, which, 20, points, 13, &count, &place) == 0);
+    CHECK(byr_find_contacts(S, 8, Q_AT_START, 8, TOLERANCE, which, 26, points, 13, &count, &place) == 0);
     CHECK(count == 6 && memcmp(which, expected, sizeof expected) == 0);
-    CHECK(which[18] == HELD_COUNT && which[19] == HELD_COUNT);
+    CHECK(which[24] == HELD_COUNT && which[25] == HELD_COUNT);
     CHECK(same(points[10], 1) && same(points[11], 0) && held(points, 12, 13));
     CHECK(byr_find_contacts(S, 8, Q_BESIDE, 8, TOLERANCE, NULL, 0, NULL, 0, &count, &place) == 0 && count == 0);
     CHECK(place == HELD_COUNT);

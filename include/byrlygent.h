@@ -67,7 +67,7 @@ extern "C" {
  *     if (byr_abi_version() != BYR_ABI_VERSION) { .. header and archive are not of one tree .. }
  *
  * An archive from before there was a number does not link with such a program. */
-#define BYR_ABI_VERSION 2
+#define BYR_ABI_VERSION 3
 
 /* The interface of the archive. This function itself stays as it is. */
 uint32_t byr_abi_version(void);
@@ -101,6 +101,14 @@ enum {
     BYR_KIND_VERTEX_EDGE = 0,
     BYR_KIND_EDGE_VERTEX = 1,
     BYR_KIND_EDGE_EDGE = 2
+};
+
+/* Where on an edge the foot of a point sits, by its parameter, a zero of either sign
+ * being 0. */
+enum {
+    BYR_FOOT_START = 0,  /* the parameter is 0 */
+    BYR_FOOT_END = 1,    /* it is 1 */
+    BYR_FOOT_BETWEEN = 2 /* it is between */
 };
 
 /* Why byr_explain_collision answers what it does. A pair is a vertex of one polygon
@@ -159,9 +167,10 @@ uint32_t byr_point_segment_distance(double px, double py, double ax, double ay, 
                                     double *distance);
 
 /* parameter: where on the segment a-b the point nearest to p lies, 0 at a, 1 at b;
- * 0 for a segment shorter than 1e-10. */
+ * 0 for a segment shorter than 1e-10. foot: BYR_FOOT_, whether that is the segment's
+ * start, its end or between. */
 uint32_t byr_project_point_to_segment(double px, double py, double ax, double ay, double bx, double by,
-                                      double *parameter);
+                                      double *parameter, uint32_t *foot);
 
 /* distance: of p from the segment a-b, as the sliding measures it. */
 uint32_t byr_point_to_segment_distance(double px, double py, double ax, double ay, double bx, double by,
@@ -241,8 +250,10 @@ uint32_t byr_whole_signed_area2(const int32_t *ring, size_t n, int64_t *area2, u
  * byr_compute_nfp_sliding take it as drawn, with its position apart. */
 
 /* Every contact of the two polygons, nearer than the tolerance. Per contact,
- * which: kind, stationary index, orbiting index; points: x, y. count: how many.
- * Refusals: 1, 8, 9, 2, 3, 5 (then both rooms are as they were). */
+ * which: kind, stationary index, orbiting index, foot; points: x, y. count: how
+ * many. The foot, BYR_FOOT_, is that of the vertex on the edge it touches, and of two
+ * edges that of the orbiting one's first end on the stationary one. Refusals: 1, 8, 9,
+ * 2, 3, 5 (then both rooms are as they were). */
 uint32_t byr_find_contacts(const double *stationary, size_t sn, const double *orbiting, size_t on,
                            double tolerance, uint64_t *which, size_t which_n, double *points, size_t points_n,
                            uint64_t *count, uint64_t *place);

@@ -93,10 +93,23 @@ pub fn point_segment_distance(p: Point, a: Point, b: Point) -> Answer<f64> {
     Ok(polygon_ops::point_segment_distance(p, a, b))
 }
 
-/// Where p's foot lies on the segment a-b, 0 at a and 1 at b.
-pub fn project_point_to_segment(p: Point, a: Point, b: Point) -> Answer<f64> {
+/// Where p's foot lies on the segment a-b, 0 at a and 1 at b, and the code of
+/// where that is.
+pub fn project_point_to_segment(p: Point, a: Point, b: Point) -> Answer<(f64, u32)> {
     refusals::coordinates(&[p.0, p.1, a.0, a.1, b.0, b.1])?;
-    Ok(sliding::project_point_to_segment(p, a, b))
+    Ok((sliding::project_point_to_segment(p, a, b), foot_on(p, a, b)))
+}
+
+/// Where p's foot sits on the edge a-b by request P7: 0 at its start, 1 at its
+/// end, 2 between.
+fn foot_on(p: Point, a: Point, b: Point) -> u32 {
+    let (start, end) = (0.0, 1.0);
+    let parameter = sliding::project_point_to_segment(p, a, b);
+    match (parameter > start, parameter < end) {
+        (false, _) => 0,
+        (true, false) => 1,
+        (true, true) => 2,
+    }
 }
 
 /// The distance from p to the segment a-b, as `nfp_sliding` has it.
@@ -169,7 +182,19 @@ fn kind_number(kind: ContactType) -> u64 {
     }
 }
 
-/// Writes each contact's kind and two indices to `which` and its point to
+/// Where a contact's foot sits: that of the vertex on the edge it touches, or of
+/// the orbiting edge's first end on the stationary edge.
+fn foot_of(contact: &Contact, stationary: &[Point], orbiting: &[Point]) -> u32 {
+    let (s, o) = (contact.stationary_idx, contact.orbiting_idx);
+    let edge = |ring: &[Point], i: usize| (ring[i], ring[(i + 1) % ring.len()]);
+    let (vertex, (from, to)) = match contact.contact_type {
+        ContactType::VertexEdge | ContactType::EdgeEdge => (orbiting[o], edge(stationary, s)),
+        ContactType::EdgeVertex => (stationary[s], edge(orbiting, o)),
+    };
+    foot_on(vertex, from, to)
+}
+
+/// Writes each contact's kind, two indices and foot to `which` and its point to
 /// `points`; answers how many there are.
 pub fn find_contacts(
     stationary: &[f64],
@@ -180,13 +205,15 @@ pub fn find_contacts(
 ) -> Answer<usize> {
     polygons(stationary, orbiting)?;
     refusals::tolerance(tolerance)?;
-    let found = sliding::find_contacts(&points_of(stationary), &points_of(orbiting), tolerance);
-    fits(found.len(), 3, which.len())?;
+    let (stationary, orbiting) = (points_of(stationary), points_of(orbiting));
+    let found = sliding::find_contacts(&stationary, &orbiting, tolerance);
+    fits(found.len(), 4, which.len())?;
     fits(found.len(), 2, points.len())?;
-    for (place, contact) in which.chunks_exact_mut(3).zip(&found) {
+    for (place, contact) in which.chunks_exact_mut(4).zip(&found) {
         place[0] = kind_number(contact.contact_type);
         place[1] = contact.stationary_idx as u64;
         place[2] = contact.orbiting_idx as u64;
+        place[3] = u64::from(foot_of(contact, &stationary, &orbiting));
     }
     fill(points, &found.iter().map(|c| c.point).collect::<Vec<_>>())
 }

@@ -235,10 +235,18 @@ fn each_call_on_rings_is_refused_and_answers() {
             _ => &[0, 2],
         }
     };
-    for call in 0..=12 {
+    for call in 0..=13 {
         let of_call = met.iter().filter(|pair| pair.0 == call).map(|pair| &pair.1);
         assert!(of_call.eq(numbers(call)), "call {call}");
     }
+}
+
+#[test]
+fn feet_sit_at_both_ends_and_between() {
+    let records = rings::records();
+    let feet = records.iter().filter(|r| r[0] == rings::PROJECTED_FOOT && r[4] == 0);
+    let met: BTreeSet<_> = feet.map(|record| record[5]).collect();
+    assert!(met.into_iter().eq([0, 1, 2]));
 }
 
 #[test]
@@ -269,13 +277,14 @@ fn contacts_and_hits_are_of_every_kind() {
         let [a, b, list, extra, one, two] = lengths(record, [1, 2, 3, 4, 5, 6]);
         if record[0] == sliding::FIND_CONTACTS {
             let after = sliding::HEADER + a + b + list + extra + one + two;
-            let which = &record[after..after + 3 * record[8] as usize];
-            contacts.extend(which.chunks_exact(3).map(|contact| contact[0]));
+            let which = &record[after..after + 4 * record[8] as usize];
+            contacts.extend(which.chunks_exact(4).map(|contact| (contact[0], contact[3])));
         } else if record[0] == sliding::COLLISION && record[8] == 1 {
             hits.insert(record[10]);
         }
     }
-    assert!(contacts.into_iter().eq([0, 1, 2]));
+    let each = (0..3).flat_map(|kind| (0..3).map(move |foot| (kind, foot)));
+    assert_eq!(contacts.into_iter().collect::<Vec<_>>(), each.collect::<Vec<_>>());
     assert!(hits.into_iter().eq([0, 1]));
 }
 

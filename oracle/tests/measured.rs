@@ -37,7 +37,7 @@ fn roots() {
 #[test]
 fn point_to_segment() {
     let (p, a, b) = ((7.0, 4.0), (0.0, 0.0), (4.0, 0.0));
-    assert_eq!(calls::project_point_to_segment(p, a, b), Ok(1.0));
+    assert_eq!(calls::project_point_to_segment(p, a, b), Ok((1.0, 1)));
     assert_eq!(calls::point_to_segment_distance(p, a, b), Ok(5.0));
     assert_eq!(calls::point_segment_distance(p, a, b), Ok(5.0));
 }
@@ -45,14 +45,16 @@ fn point_to_segment() {
 #[test]
 fn start_and_contacts_there() {
     assert_eq!(calls::find_start_position(&S, &Q), Ok((0.0, -2.0)));
-    let (mut which, mut points) = ([9; 19], [-1.5; 13]);
+    let (mut which, mut points) = ([9; 25], [-1.5; 13]);
     let there = moved(&Q, 0.0, -2.0);
     let count = calls::find_contacts(&S, &there, TOLERANCE, &mut which, &mut points);
     assert_eq!(count, Ok(6));
+    let feet = [2, 0, 1, 1, 0, 2];
     let expected = [[0, 0, 2], [0, 0, 3], [0, 3, 3], [1, 0, 2], [1, 0, 3], [2, 0, 2]];
-    assert_eq!(which[..18], expected.concat());
+    let entries = expected.iter().zip(feet).map(|(&[kind, s, o], foot)| [kind, s, o, foot]);
+    assert_eq!(which[..24], entries.collect::<Vec<_>>().concat());
     assert_eq!(points[10..12], [1.0, 0.0]);
-    assert_eq!((which[18], points[12]), (9, -1.5));
+    assert_eq!((which[24], points[12]), (9, -1.5));
 }
 
 #[test]

@@ -11,7 +11,7 @@ const TOLERANCE: f64 = 1e-6;
 #[test]
 fn contacts_fit_both_rooms_or_none() {
     for (lengths, number) in
-        [([18, 12], 0), ([20, 13], 0), ([17, 12], 5), ([18, 11], 5), ([0, 0], 5)]
+        [([24, 12], 0), ([26, 13], 0), ([23, 12], 5), ([24, 11], 5), ([0, 0], 5)]
     {
         let (mut which, mut points) = (vec![9; lengths[0]], vec![7.5; lengths[1]]);
         let answer = calls::find_contacts(&S, &Q, TOLERANCE, &mut which, &mut points);

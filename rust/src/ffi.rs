@@ -6,7 +6,7 @@
 #![allow(clippy::too_many_arguments)]
 
 /// The interface that is declared here: `BYR_ABI_VERSION` of the header.
-pub const ABI_VERSION: u32 = 2;
+pub const ABI_VERSION: u32 = 3;
 
 /// Panics unless the archive has the interface that is declared here.
 pub fn hold_interface() {
@@ -94,6 +94,7 @@ functions! {
         bx: f64,
         by: f64,
         parameter: *mut f64,
+        foot: *mut u32,
     ) -> u32;
     fn byr_point_to_segment_distance(
         px: f64,

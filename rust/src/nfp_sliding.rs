@@ -20,7 +20,9 @@ pub use moves::{
     check_translation_collision, detect_interlocking_opportunity, polygons_overlap,
     polygons_overlap_with_tolerance, recover_contact, CollisionEvent,
 };
-pub use segments::{point_on_segment, point_to_segment_distance, project_point_to_segment};
+pub use segments::{
+    point_on_segment, point_to_segment_distance, project_point_to_segment, Foot, Projection,
+};
 pub use trace::{
     compute_nfp_sliding, find_start_position, simplify_polygon, Nfp, Settings, SlidingNfpConfig,
     StopReason,

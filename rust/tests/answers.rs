@@ -1,7 +1,9 @@
 //! Known answers through the safe calls: docs/SCOPE.md's pieces, empty lists, and
 //! answers longer than the room that is tried first.
 
-use byrlygent::nfp_sliding::{self, Contact, ContactType, SlidingNfpConfig, StopReason};
+use byrlygent::nfp_sliding::{
+    self, Contact, ContactType, Foot, Projection, SlidingNfpConfig, StopReason,
+};
 use byrlygent::outline_book::{read_book, write_book};
 use byrlygent::{polygon_ops, robust, scalar, Point};
 
@@ -78,7 +80,8 @@ fn rings_are_measured() {
     assert_eq!(polygon_ops::point_segment_distance((7.0, 4.0), (0.0, 0.0), (4.0, 0.0)), Ok(5.0));
     assert_eq!(polygon_ops::ring_distance(&S, &moved(&Q, (7.0, 0.0))), Ok(3.0));
     assert_eq!(polygon_ops::is_simple_polygon(&triangle), Ok(true));
-    assert_eq!(nfp_sliding::project_point_to_segment((7.0, 4.0), (0.0, 0.0), (4.0, 0.0)), Ok(1.0));
+    let foot = nfp_sliding::project_point_to_segment((7.0, 4.0), (0.0, 0.0), (4.0, 0.0));
+    assert_eq!(foot, Ok(Projection { parameter: 1.0, foot: Foot::End }));
     assert_eq!(nfp_sliding::point_on_segment((2.0, 1e-7), (0.0, 0.0), (4.0, 0.0), 1e-6), Ok(true));
 }
 
@@ -86,9 +89,17 @@ fn rings_are_measured() {
 fn contacts_stand_in_scan_order() {
     let at_start = moved(&Q, (0.0, -2.0));
     let found = nfp_sliding::find_contacts(&S, &at_start, TOLERANCE).expect("both are polygons");
-    let named = |c: &Contact| (c.contact_type, c.stationary_idx, c.orbiting_idx);
+    let named = |c: &Contact| (c.contact_type, c.stationary_idx, c.orbiting_idx, c.foot);
     let (ve, ev, ee) = (ContactType::VertexEdge, ContactType::EdgeVertex, ContactType::EdgeEdge);
-    let expected = [(ve, 0, 2), (ve, 0, 3), (ve, 3, 3), (ev, 0, 2), (ev, 0, 3), (ee, 0, 2)];
+    let (start, end, between) = (Foot::Start, Foot::End, Foot::Between);
+    let expected = [
+        (ve, 0, 2, between),
+        (ve, 0, 3, start),
+        (ve, 3, 3, end),
+        (ev, 0, 2, end),
+        (ev, 0, 3, start),
+        (ee, 0, 2, between),
+    ];
     assert_eq!(found.iter().map(named).collect::<Vec<_>>(), expected);
     assert_eq!(found[5].point, (1.0, 0.0));
 }

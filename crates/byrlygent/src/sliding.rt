@@ -7,6 +7,7 @@ use handed::refusal::hand_refusal;
 use handed::trace::hand_traced;
 use handed::value::hand_count;
 use handed::value::hand_number;
+use handed::value::hand_projected;
 use handed::value::hand_start;
 use handed::value::hand_truth;
 use plane::Point;
@@ -15,7 +16,7 @@ use selection::Previous;
 ghost use mathlib.Core.Path.{_≡_};
 ghost use lib.ListN.{length};
 ghost use Rattle.plane.specs.Vector.{point};
-ghost use Rattle.handed.specs.Handed.{returned, told, toldFound, placeOf, toldPlace, itself, flag, isFound, xOf, yOf, hitDistance, hitKind, hitStationary, hitOrbiting};
+ghost use Rattle.handed.specs.Handed.{returned, told, toldFound, placeOf, toldPlace, itself, flag, isFound, xOf, yOf, parameterIn, footIn, hitDistance, hitKind, hitStationary, hitOrbiting};
 ghost use Rattle.projection.specs.Calls.{projectCall, distanceCall, nearCall};
 ghost use Rattle.contacts_call.specs.Calls.{findCall, findWhich, findPoints};
 ghost use Rattle.vectors_call.specs.Calls.{vectorsCall, vectorsRoom, sourcesRoom, fitCall, fitRoom, fitSources};
@@ -32,7 +33,7 @@ ghost use Rattle.handed.specs.Traces.{pointsTold, storedTold, passesTold, stopT
 ghost use Rattle.simplify.specs.Calls.{simplifyCall, simplifyRoom};
 ghost use Rattle.byrlygent.specs.Lent.{previousOf, settingsOf};
 
-// The parameter of the foot of p on the segment a b: 0 at a, 1 at b.
+// The parameter of the foot of p on the segment a b, 0 at a and 1 at b, and where the foot sits.
 #[no_mangle]
 pub extern "C" fn byr_project_point_to_segment(
     px: f64,
@@ -42,17 +43,20 @@ pub extern "C" fn byr_project_point_to_segment(
     bx: f64,
     by: f64,
     parameter: &mut f64,
+    foot: &mut u32,
 ) -> u32
     ensures { λ r. ⌜ r ≡ returned (projectCall (point px py) (point ax ay) (point bx by)) ⌝ }
     ensures { λ _.
-        ⌜ now (parameter .exit) ≡ told itself (projectCall (point px py) (point ax ay) (point bx by)) (now (parameter .entry)) ⌝ }
+        ⌜ now (parameter .exit) ≡ told parameterIn (projectCall (point px py) (point ax ay) (point bx by)) (now (parameter .entry)) ⌝ }
+    ensures { λ _. ⌜ now (foot .exit) ≡ told footIn (projectCall (point px py) (point ax ay) (point bx by)) (now (foot .entry)) ⌝ }
 {
     let p = Point { x: px, y: py };
     let a = Point { x: ax, y: ay };
     let b = Point { x: bx, y: by };
-    let no = hand_number(
+    let no = hand_projected(
         projection::calls::project_point_to_segment(p, a, b),
         parameter,
+        foot,
     );
     no.number
 }
@@ -103,7 +107,8 @@ pub extern "C" fn byr_point_on_segment(
     no.number
 }
 
-// The contacts of two polygons, and how many there are: per contact kind, stationary index and orbiting index in `which`, x and y in `points`.
+// The contacts of two polygons, and how many there are: per contact kind, stationary index, orbiting index and foot in `which`, x and y in
+// `points`.
 #[no_mangle]
 pub extern "C" fn byr_find_contacts(
     stationary: &[f64],

@@ -10,7 +10,7 @@ use Rattle.plane.specs.Segment.{clampedFoot, projectOf, alongOf, toSegmentOf, n
 use Rattle.ring.specs.Ring.{pointAt}
 use Rattle.pairs.specs.Pairs.{pairOf}
 use Rattle.contacts.specs.Touching.{edgeEnd, edgesOf, edgesTouch, touchesBy, touching, pointBy, contactPoint}
-use Rattle.contacts.specs.Contacts.{picks, contactsOf, whichOf, pointsOf}
+use Rattle.contacts.specs.Contacts.{picks, contactsOf, pointsOf}
 
 abbrev pub four : Float
 four = float 0x4010_0000_0000_0000
@@ -33,12 +33,6 @@ Q = f0 ∷ minus-two ∷ f2 ∷ minus-two ∷ f2 ∷ f0 ∷ f0 ∷ f0 ∷ []
 pub numbers : contactsOf S Q tol ≡ 8 ∷ 12 ∷ 15 ∷ 18 ∷ 19 ∷ 34 ∷ []
 unfolding picks touching touchesBy edgesOf edgeEnd edgesTouch pairOf pointAt nearSegmentOf toSegmentOf alongOf projectOf clampedFoot clampOf parallelOf absOf crossOf minusOf dotOf lengthOf distanceOf sqrtOf add sub mul div lt neg ofBits
 numbers = refl
-
--- vertex-edge (0,2), (0,3), (3,3); edge-vertex (0,2), (0,3); edge-edge (0,2)
-pub contacts : whichOf 4 4 (contactsOf S Q tol)
-    ≡ 0 ∷ 0 ∷ 2 ∷ 0 ∷ 0 ∷ 3 ∷ 0 ∷ 3 ∷ 3 ∷ 1 ∷ 0 ∷ 2 ∷ 1 ∷ 0 ∷ 3 ∷ 2 ∷ 0 ∷ 2 ∷ []
-unfolding whichOf pairOf
-contacts = rw numbers
 
 -- at (2,0), (0,0), (0,0); (0,0), (0,0); (1,0)
 pub points : pointsOf S Q (contactsOf S Q tol) ≡ f2 ∷ f0 ∷ f0 ∷ f0 ∷ f0 ∷ f0 ∷ f0 ∷ f0 ∷ f0 ∷ f0 ∷ f1 ∷ f0 ∷ []

@@ -42,15 +42,6 @@ abbrev pub firstContact : List ℕ → Next
 firstContact [] = Nothing
 firstContact (k ∷ ks) = At k
 
--- how many numbers a contact takes of those that say which it is
-abbrev pub entry : ℕ
-entry = 3
-
--- per contact its kind, its stationary and its orbiting index
-unfoldable pub whichOf : ℕ → ℕ → List ℕ → List ℕ
-whichOf sn on [] = []
-whichOf sn on (k ∷ ks) = let p = pairOf sn on k in p .kind ∷ p .stationary ∷ p .orbiting ∷ whichOf sn on ks
-
 -- per contact its point
 unfoldable pub pointsOf : List Float → List Float → List ℕ → List Float
 pointsOf st orb [] = []

@@ -17,9 +17,6 @@ ghost use Rattle.contacts.specs.Touching.{edgeEnd, edgesOf};
 ghost use Rattle.contacts.specs.Rows.{Framed};
 ghost use Rattle.contacts.specs.Contacts.{contactsFrom, firstContact, hasContact};
 
-// How many numbers a contact takes of those that say which it is: its kind, its stationary and its orbiting index.
-pub const ENTRY: usize = 3;
-
 // The two edges of a pair: a b of the stationary ring, c d of the orbiting one.
 pub struct Edges {
     pub a: Point,

@@ -11,7 +11,7 @@ use Rattle.refusals.specs.Rows.{ofTouching, ofRooms}
 use Rattle.refusals.specs.declared.Refusal.{Refusal}
 use Rattle.refusals.proofs.Sized.{Polygon, touching-polygons}
 use Rattle.pairs.specs.Pairs.{Sides}
-use Rattle.contacts.specs.Contacts.{entry}
+use Rattle.contacts_call.specs.Which.{entry}
 use Rattle.contacts_call.specs.Calls.{contactCount, findRefusal}
 
 pub sides : (st orb : List Float) → Polygon st → Polygon orb → Sides (count st) (count orb)

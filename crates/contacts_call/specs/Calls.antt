@@ -3,13 +3,13 @@ use Prim.Native.Nat.{ℕ, _*_}
 use mathlib.Core.List.{List, [], _∷_}
 use lib.ListN.{length}
 use lib.Ieee.{Float}
-use Rattle.ring.specs.Ring.{count}
 use Rattle.ring.specs.Room.{laid}
 use Rattle.refusals.specs.Refusals.{firstOf}
 use Rattle.refusals.specs.Rows.{ofTouching, ofRooms}
 use Rattle.refusals.specs.Answers.{Outcome, outcome, left}
 use Rattle.refusals.specs.declared.Refusal.{Refusal}
-use Rattle.contacts.specs.Contacts.{contactsOf, entry, whichOf, pointsOf}
+use Rattle.contacts.specs.Contacts.{contactsOf, pointsOf}
+use Rattle.contacts_call.specs.Which.{entry, whichOf}
 
 abbrev pub contactCount : List Float → List Float → Float → ℕ
 contactCount st orb tol = length (contactsOf st orb tol)
@@ -26,7 +26,7 @@ findCall st orb tol which points = outcome (findRefusal st orb tol which points)
 abbrev pub findWhich : List Float → List Float → Float → List ℕ → List Float → List ℕ
 findWhich st orb tol which points =
     left (findRefusal st orb tol (length which) (length points))
-    (laid (whichOf (count st) (count orb) (contactsOf st orb tol)) which) which
+    (laid (whichOf st orb (contactsOf st orb tol)) which) which
 
 abbrev pub findPoints : List Float → List Float → Float → List ℕ → List Float → List Float
 findPoints st orb tol which points =

@@ -7,7 +7,7 @@ ghost use lib.ListN.{length};
 ghost use Rattle.refusals.specs.Answers.{counted};
 ghost use Rattle.contacts_call.specs.Calls.{findCall, findWhich, findPoints};
 
-// The contacts of two polygons: per contact kind, stationary index and orbiting index in `which`, x and y in `points`.
+// The contacts of two polygons: per contact kind, stationary index, orbiting index and foot in `which`, x and y in `points`.
 pub fn find_contacts(
     stationary: &[f64],
     orbiting: &[f64],

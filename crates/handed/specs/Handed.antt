@@ -4,6 +4,7 @@ use mathlib.Core.Bool.{Bool, cond}
 use mathlib.Core.Option.{Option, none, some}
 use lib.Ieee.{Float}
 use Rattle.plane.specs.declared.Point.{Point}
+use Rattle.projection.specs.Calls.{Projection}
 use Rattle.collision.specs.Calls.{Values}
 use Rattle.refusals.specs.Answers.{Outcome, answers, refuses}
 use Rattle.refusals.specs.Refusals as refusal
@@ -55,6 +56,13 @@ xOf p = p .x
 
 abbrev pub yOf : Point → Float
 yOf p = p .y
+
+-- a projection's values
+abbrev pub parameterIn : Projection → Float
+parameterIn p = p .parameter
+
+abbrev pub footIn : Projection → ℕ
+footIn p = p .foot
 
 -- a hit's values
 abbrev pub hitDistance : Values → Float

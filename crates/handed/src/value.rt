@@ -1,5 +1,7 @@
 // Answers that are a value or a point. Each function writes the answer and returns no refusal, or returns the refusal and leaves the cells as they were.
 use plane::Orientation;
+use projection::answer::Projected;
+use projection::foot::foot_code;
 use refusals::Refusal;
 use refusals::answer::Count;
 use refusals::answer::Number;
@@ -9,8 +11,9 @@ use start_position::answer::Start;
 ghost use mathlib.Core.Path.{_≡_};
 ghost use Rattle.plane.specs.Orientation.{turnNumber};
 ghost use Rattle.refusals.specs.Answers.{truth, turn, number, counted};
+ghost use Rattle.projection.specs.Calls.{projected};
 ghost use Rattle.start_position.specs.Calls.{started};
-ghost use Rattle.handed.specs.Handed.{refusalIn, told, itself, flag, xOf, yOf};
+ghost use Rattle.handed.specs.Handed.{refusalIn, told, itself, flag, xOf, yOf, parameterIn, footIn};
 
 // Whether something holds, as 1 or 0.
 pub fn hand_truth(answer: Truth, out: &mut u32) -> Refusal
@@ -59,6 +62,26 @@ pub fn hand_number(answer: Number, out: &mut f64) -> Refusal
             Refusal::none()
         }
         Number::Refused(no) => no,
+    }
+}
+
+// A foot's parameter, and the number of where it sits.
+pub fn hand_projected(answer: Projected, parameter: &mut f64, foot: &mut u32) -> Refusal
+    ensures { λ r.
+        ⌜ (r ≡ refusalIn (projected answer))
+        × (now (parameter .exit) ≡ told parameterIn (projected answer) (now (parameter .entry)))
+        × (now (foot .exit) ≡ told footIn (projected answer) (now (foot .entry))) ⌝ }
+{
+    match answer {
+        Projected::Is {
+            parameter: t,
+            foot: at,
+        } => {
+            *parameter = t;
+            *foot = foot_code(at);
+            Refusal::none()
+        }
+        Projected::Refused(no) => no,
     }
 }
 

@@ -16,7 +16,9 @@ use Rattle.laws.specs.FirstBest.{better, over, nest}
 use Rattle.start_position.specs.Start.{lowerOf, upperOf, extremeVertex, startOf}
 use Rattle.pairs.specs.Pairs as pairs
 use Rattle.contacts.specs.Touching.{edgeEnd, edgesOf, edgesTouch, touchesBy, touching, pointBy, contactPoint}
-use Rattle.contacts.specs.Contacts.{picks, contactsOf, whichOf, pointsOf}
+use Rattle.contacts.specs.Contacts.{picks, contactsOf, pointsOf}
+use Rattle.projection.specs.Foot.{footAt, footOf}
+use Rattle.contacts_call.specs.Which.{footBy, contactFoot, whichOf}
 use Rattle.contacts_call.specs.Calls.{findRefusal}
 use Rattle.collision.specs.Ray.{rayWithin, rayOf, edgeRay}
 use Rattle.collision.specs.Hit.{countedOf, nearer}
@@ -39,7 +41,7 @@ unfolding roots sqrtOf round neg
 roots-hold = (refl, (refl, (refl, (refl, record {}))))
 
 foot-holds : AllHold foot
-unfolding foot ofPoints3 coordinate toSegmentOf alongOf projectOf clampedFoot clampOf distanceOf lengthOf minusOf dotOf sqrtOf add sub mul div lt ofBits round
+unfolding foot ofPoints3 coordinate footOf footAt eq toSegmentOf alongOf projectOf clampedFoot clampOf distanceOf lengthOf minusOf dotOf sqrtOf add sub mul div lt ofBits round
 foot-holds = (refl, (refl, record {}))
 
 starting-holds : AllHold starting
@@ -52,7 +54,7 @@ unfolding picks touching touchesBy edgesOf edgeEnd edgesTouch pairs.pairOf point
 numbers = refl
 
 contacts-hold : AllHold contacts
-unfolding contacts findRefusal ofTouching ofTwoPolygons ofRooms every coordinate lt le eq neg ofBits round movedOf points plusOf add whichOf pairs.pairOf pointsOf contactPoint pointBy edgesOf edgeEnd pointAt div
+unfolding contacts findRefusal ofTouching ofTwoPolygons ofRooms every coordinate lt le eq neg ofBits round movedOf points plusOf add sub mul whichOf pairs.pairOf contactFoot footBy footOf footAt projectOf clampedFoot clampOf minusOf dotOf pointsOf contactPoint pointBy edgesOf edgeEnd pointAt div
 contacts-hold = (rw numbers refl, (rw numbers refl, (rw numbers refl, record {})))
 
 moves-hold : AllHold moves

@@ -35,7 +35,7 @@ roots =
 -- "Point (7,4) to segment (0,0)-(4,0): parameter 1, distance 5."
 unfoldable pub foot : List Piece
 foot =
-    projectCall (at 7 4) (at 0 0) (at 4 0) gives answers (real 1)
+    projectCall (at 7 4) (at 0 0) (at 4 0) gives answers (record { parameter = real 1; foot = 1 })
     ∷ distanceCall (at 7 4) (at 0 0) (at 4 0) gives answers (real 5)
     ∷ []
 
@@ -44,13 +44,14 @@ unfoldable pub starting : List Piece
 starting = startCall S Q gives answers start ∷ []
 
 -- "There the contacts are, as (stationary, orbiting): vertex-edge (0,2), (0,3), (3,3); edge-vertex (0,2), (0,3); edge-edge (0,2) at (1,0)."
--- There are six, in rooms that just hold them. A contact's kind, 0, 1 or 2, stands before its two indices; the sixth one's point comes after five others.
+-- There are six, in rooms that just hold them. A contact's kind, 0, 1 or 2, stands before its two indices, and behind these its foot, of which the
+-- piece does not speak; the sixth one's point comes after five others.
 unfoldable pub contacts : List Piece
 contacts =
-    findCall S there tolerance 18 12 gives answers 6
-    ∷ findWhich S there tolerance (replicate 18 9) (replicate 12 nan)
-    gives (0 ∷ 0 ∷ 2 ∷ 0 ∷ 0 ∷ 3 ∷ 0 ∷ 3 ∷ 3 ∷ 1 ∷ 0 ∷ 2 ∷ 1 ∷ 0 ∷ 3 ∷ 2 ∷ 0 ∷ 2 ∷ [])
-    ∷ drop 10 (findPoints S there tolerance (replicate 18 9) (replicate 12 nan)) gives reals (1 ∷ 0 ∷ [])
+    findCall S there tolerance 24 12 gives answers 6
+    ∷ findWhich S there tolerance (replicate 24 9) (replicate 12 nan)
+    gives (0 ∷ 0 ∷ 2 ∷ 2 ∷ 0 ∷ 0 ∷ 3 ∷ 0 ∷ 0 ∷ 3 ∷ 3 ∷ 1 ∷ 1 ∷ 0 ∷ 2 ∷ 1 ∷ 1 ∷ 0 ∷ 3 ∷ 0 ∷ 2 ∷ 0 ∷ 2 ∷ 2 ∷ [])
+    ∷ drop 10 (findPoints S there tolerance (replicate 24 9) (replicate 12 nan)) gives reals (1 ∷ 0 ∷ [])
     ∷ []
 
 -- "Q moved by (-5,1), move (10,0): vertex-edge, stationary 3, orbiting 1, distance 3; orbiting 2 ties and is later. Move (3,0): nothing. Move (0,0): nothing."

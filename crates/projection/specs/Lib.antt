@@ -1,2 +1,3 @@
--- The definitions that the contracts of projection cite.
+-- The definitions that the contracts of projection, and of the contacts' call, cite.
+pub mod Foot
 pub mod Calls

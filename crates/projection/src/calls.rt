@@ -1,4 +1,6 @@
 // The public calls: project_point_to_segment, point_to_segment_distance, point_on_segment.
+use crate::answer::Projected;
+use crate::foot::foot_at;
 use plane::Point;
 use plane::segment;
 use refusals::answer::Number;
@@ -6,17 +8,21 @@ use refusals::answer::Truth;
 use refusals::row;
 ghost use mathlib.Core.Path.{_≡_};
 ghost use Rattle.refusals.specs.Answers.{number, truth};
-ghost use Rattle.projection.specs.Calls.{projectCall, distanceCall, nearCall};
+ghost use Rattle.projection.specs.Calls.{projected, projectCall, distanceCall, nearCall};
 
-// The parameter of the foot of point on the segment p1 p2: 0 at p1, 1 at p2.
-pub fn project_point_to_segment(point: Point, p1: Point, p2: Point) -> Number
-    ensures { λ r. ⌜ number r ≡ projectCall point p1 p2 ⌝ }
+// The parameter of the foot of point on the segment p1 p2, 0 at p1 and 1 at p2, and where the foot sits.
+pub fn project_point_to_segment(point: Point, p1: Point, p2: Point) -> Projected
+    ensures { λ r. ⌜ projected r ≡ projectCall point p1 p2 ⌝ }
 {
     let no = row::points3(point, p1, p2);
     if no.passed() {
-        Number::Is(segment::project_point_to_segment(point, p1, p2))
+        let parameter = segment::project_point_to_segment(point, p1, p2);
+        Projected::Is {
+            parameter,
+            foot: foot_at(parameter),
+        }
     } else {
-        Number::Refused(no)
+        Projected::Refused(no)
     }
 }
 

@@ -29,9 +29,10 @@ fn on_points(call: u64, n: &[f64; 600]) -> Told {
         1 => told::truth(segments::calls::on_segment(a, b, c)),
         2 => told::truth(segments::calls::segments_intersect(a, b, c, d)),
         3 => told::number(ring_distance::calls::point_segment_distance(a, b, c)),
-        10 => told::number(projection::calls::project_point_to_segment(a, b, c)),
+        10 => told::parameter(projection::calls::project_point_to_segment(a, b, c)),
         11 => told::number(projection::calls::point_to_segment_distance(a, b, c)),
-        _ => told::truth(projection::calls::point_on_segment(a, b, c, n[6])),
+        12 => told::truth(projection::calls::point_on_segment(a, b, c, n[6])),
+        _ => told::foot(projection::calls::project_point_to_segment(a, b, c)),
     }
 }
 

@@ -1,6 +1,8 @@
 // What a call answers as three words: the refusal's number or 0, the value or 0, and the place that the refusal tells or 0.
 use number_bytes::bits_of;
 use plane::Orientation;
+use projection::answer::Projected;
+use projection::foot::foot_code;
 use refusals::Refusal;
 use refusals::answer::Count;
 use refusals::answer::Number;
@@ -51,6 +53,23 @@ pub fn number(n: Number) -> Told {
     match n {
         Number::Is(x) => answered(bits_of(x)),
         Number::Refused(r) => refused(r),
+    }
+}
+
+pub fn parameter(p: Projected) -> Told {
+    match p {
+        Projected::Is {
+            parameter: t,
+            foot: _,
+        } => answered(bits_of(t)),
+        Projected::Refused(r) => refused(r),
+    }
+}
+
+pub fn foot(p: Projected) -> Told {
+    match p {
+        Projected::Is { parameter: _, foot } => answered(foot_code(foot) as u64),
+        Projected::Refused(r) => refused(r),
     }
 }
 

@@ -8,9 +8,10 @@
 //! 5 open_ring, 6 is_simple_polygon, 7 ring_distance, 8 signed_area2,
 //! 9 signed_area_robust, 10 project_point_to_segment (p, a, b),
 //! 11 point_to_segment_distance (p, a, b), 12 point_on_segment (p, a, b and the
-//! tolerance). A value is a float's bits, 0 or 1, a turn as 64-bit two's
-//! complement, or a number of vertices; 0 where refused. The place is 0 where none
-//! is told.
+//! tolerance), 13 the foot that project_point_to_segment tells beside its
+//! parameter. A value is a float's bits, 0 or 1, a turn as 64-bit two's
+//! complement, a number of vertices, or a foot's code; 0 where refused. The place
+//! is 0 where none is told.
 
 mod corners;
 mod lists;
@@ -34,9 +35,10 @@ pub const SIGNED_AREA_ROBUST: u64 = 9;
 pub const PROJECT_POINT_TO_SEGMENT: u64 = 10;
 pub const POINT_TO_SEGMENT_DISTANCE: u64 = 11;
 pub const POINT_ON_SEGMENT: u64 = 12;
+pub const PROJECTED_FOOT: u64 = 13;
 
 /// The names of the calls, by their number.
-const NAMES: [&str; 13] = [
+const NAMES: [&str; 14] = [
     "orientation",
     "on_segment",
     "segments_intersect",
@@ -50,6 +52,7 @@ const NAMES: [&str; 13] = [
     "project_point_to_segment",
     "point_to_segment_distance",
     "point_on_segment",
+    "project_point_to_segment, the foot",
 ];
 
 /// Words of the header.
@@ -88,13 +91,16 @@ fn answer(call: u64, a: &[f64], b: &[f64], room: &mut [f64]) -> Answer<u64> {
         SIGNED_AREA2 => calls::signed_area2(a).map(answer_bits),
         SIGNED_AREA_ROBUST => calls::signed_area_robust(a).map(answer_bits),
         PROJECT_POINT_TO_SEGMENT => {
-            calls::project_point_to_segment(p(0), p(1), p(2)).map(answer_bits)
+            calls::project_point_to_segment(p(0), p(1), p(2)).map(|told| answer_bits(told.0))
         }
         POINT_TO_SEGMENT_DISTANCE => {
             calls::point_to_segment_distance(p(0), p(1), p(2)).map(answer_bits)
         }
         POINT_ON_SEGMENT => calls::point_on_segment(p(0), p(1), p(2), a[6]).map(u64::from),
-        _ => unreachable!("there are thirteen calls"),
+        PROJECTED_FOOT => {
+            calls::project_point_to_segment(p(0), p(1), p(2)).map(|told| u64::from(told.1))
+        }
+        _ => unreachable!("there are fourteen"),
     }
 }
 

@@ -138,7 +138,7 @@ impl Case {
     fn exact(&self) -> [usize; 2] {
         let entries = if self.tested().is_ok() { self.entries() } else { 0 };
         match self.call {
-            FIND_CONTACTS => [3 * entries, 2 * entries],
+            FIND_CONTACTS => [4 * entries, 2 * entries],
             TRANSLATION_VECTORS | PERFECT_FIT => [3 * entries, entries],
             _ => [2 * entries, 0],
         }

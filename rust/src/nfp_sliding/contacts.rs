@@ -1,5 +1,6 @@
 //! Where two polygons touch, and the ways in which one may slide from there.
 
+use super::segments::Foot;
 use crate::lent::{flat, points};
 use crate::refusal::{among, plain};
 use crate::{ffi, Entries, List, Point, Result};
@@ -40,6 +41,9 @@ pub struct Contact {
     pub orbiting_idx: usize,
     /// The contact point in world coordinates.
     pub point: Point,
+    /// Where on the edge it sits: the vertex on the edge that it touches, of two
+    /// edges the orbiting one's first end on the stationary one.
+    pub foot: Foot,
 }
 
 /// A potential translation vector for the orbiting polygon.
@@ -79,7 +83,7 @@ fn in_room<T>(
 /// against its edges, then pairs of edges.
 ///
 /// ```
-/// use byrlygent::nfp_sliding::{find_contacts, ContactType};
+/// use byrlygent::nfp_sliding::{find_contacts, ContactType, Foot};
 ///
 /// let stationary = [(0.0, 0.0), (4.0, 0.0), (4.0, 4.0), (0.0, 4.0)];
 /// let orbiting = [(0.0, -2.0), (2.0, -2.0), (2.0, 0.0), (0.0, 0.0)];
@@ -87,6 +91,7 @@ fn in_room<T>(
 /// assert_eq!(contacts.len(), 6);
 /// assert_eq!(contacts[5].contact_type, ContactType::EdgeEdge);
 /// assert_eq!(contacts[5].point, (1.0, 0.0));
+/// assert_eq!(contacts[1].foot, Foot::Start);
 /// # Ok::<(), byrlygent::Refusal>(())
 /// ```
 pub fn find_contacts(
@@ -97,7 +102,7 @@ pub fn find_contacts(
     let lists = Entries::sliding(stationary.len(), orbiting.len());
     let (stationary, orbiting) = (flat(stationary), flat(orbiting));
     in_room(&lists, 1, |entries, place| {
-        let (mut which, mut places) = (vec![0; 3 * entries], vec![0.0; 2 * entries]);
+        let (mut which, mut places) = (vec![0; 4 * entries], vec![0.0; 2 * entries]);
         let mut count = 0;
         // SAFETY: all lists are as long as is said, and both cells are there.
         let number = unsafe {
@@ -119,15 +124,16 @@ pub fn find_contacts(
     })
 }
 
-/// The contacts of these kinds and indices, at these points.
+/// The contacts of these kinds, indices and feet, at these points.
 fn contacts_of(which: &[u64], points: &[Point]) -> Vec<Contact> {
     let contact = |(which, &point): (&[u64], &Point)| Contact {
         contact_type: ContactType::numbered(which[0]),
         stationary_idx: which[1] as usize,
         orbiting_idx: which[2] as usize,
         point,
+        foot: Foot::numbered(which[3]),
     };
-    which.chunks_exact(3).zip(points).map(contact).collect()
+    which.chunks_exact(4).zip(points).map(contact).collect()
 }
 
 /// The rooms for vectors, to be lent.

@@ -39,7 +39,11 @@ fn on_points(call: u64, list: &Room<u64>) -> (&'static str, Told) {
             ),
             rings::PROJECT_POINT_TO_SEGMENT => (
                 "project_point_to_segment",
-                with_cell(|to| ffi::byr_project_point_to_segment(a, b, c, d, e, f, to)),
+                with_cell(|to| ffi::byr_project_point_to_segment(a, b, c, d, e, f, to, &mut 0)),
+            ),
+            rings::PROJECTED_FOOT => (
+                "project_point_to_segment",
+                with_cell(|at| ffi::byr_project_point_to_segment(a, b, c, d, e, f, &mut 0.0, at)),
             ),
             rings::POINT_TO_SEGMENT_DISTANCE => (
                 "point_to_segment_distance",

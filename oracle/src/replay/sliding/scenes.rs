@@ -152,9 +152,16 @@ fn large() -> Vec<Case> {
     all
 }
 
+/// The smaller square in a corner of the larger one: their edges there begin at one
+/// vertex, so that the foot of the one is at the start of the other.
+fn in_the_corner() -> Case {
+    let inside = Scene { at: (0.0, 0.0), ..squares() };
+    inside.case(FIND_CONTACTS, (0.0, 0.0), TOLERANCE)
+}
+
 /// All cases of scenes.
 pub fn cases() -> Vec<Case> {
-    let mut all = Vec::new();
+    let mut all = vec![in_the_corner()];
     for (i, scene) in pairs().iter().flat_map(scenes).enumerate() {
         let calls = calls_on(i);
         all.extend(calls.into_iter().map(|(call, by, tolerance)| scene.case(call, by, tolerance)));

@@ -8,15 +8,15 @@ use Rattle.byrlygent.proofs.sliding.byr_project_point_to_segment.Tie as
 project-point-to-segment-requires : tie.Need-project-point-to-segment-requires
 project-point-to-segment-requires c κs = search needs
 
-hand-number-requires : tie.Need-hand-number-requires
-hand-number-requires c κs = search needs
+hand-projected-requires : tie.Need-hand-projected-requires
+hand-projected-requires c κs = search needs
 
 returns : tie.Need-returns
 returns c =
-    let e = c .before .before .project-point-to-segment .ensures in
-    let h = c .hand-number .ensures in
-    (number-told e (h .0) refl, rw (← e) (h .1))
+    let e = c .before .before .before .project-point-to-segment .ensures in
+    let h = c .hand-projected .ensures in
+    (number-told e (h .0) refl, (rw (← e) (h .1), rw (← e) (h .2)))
 
 pub byr-project-point-to-segment-spec : {M : Type 1} → statement M
 byr-project-point-to-segment-spec =
-    tie.close (tie.spec project-point-to-segment-requires hand-number-requires returns)
+    tie.close (tie.spec project-point-to-segment-requires hand-projected-requires returns)

@@ -3,7 +3,7 @@ use borrow.Author.Needs.{needs}
 use Prim.Native.Nat.{_*_, _≤_}
 use mathlib.Core.Path.{_≡_}
 use lib.ListN.{length}
-use Rattle.contacts.specs.Contacts.{entry}
+use Rattle.contacts_call.specs.Which.{entry}
 use Rattle.refusals.specs.Rows.{ofRooms}
 use Rattle.refusals.proofs.Sized.{rooms-fit}
 use Rattle.contacts_call.specs.Calls.{contactCount}

@@ -1,4 +1,4 @@
--- `contacts_call::write::put_pair` meets its contract: three stores. Assumes nothing.
+-- `contacts_call::write::put_pair` meets its contract: four stores. Assumes nothing.
 use native.Mathlib.Omega.{arith}
 use borrow.Author.Needs.{needs}
 use lib.ListN.{length-set}
@@ -30,7 +30,16 @@ mul-room-3 : tie.Need-mul-room-3
 mul-room-3 c = search needs
 
 slice-write-room-3 : tie.Need-slice-write-room-3
-slice-write-room-3 c = search needs
+slice-write-room-3 c = simp length-set (omega arith)
+
+add-room-3 : tie.Need-add-room-3
+add-room-3 c = search needs
+
+mul-room-4 : tie.Need-mul-room-4
+mul-room-4 c = search needs
+
+slice-write-room-4 : tie.Need-slice-write-room-4
+slice-write-room-4 c = search needs
 
 same-length : tie.Need-same-length
 same-length c = search needs
@@ -51,5 +60,8 @@ put-pair-spec =
     add-room-2
     mul-room-3
     slice-write-room-3
+    add-room-3
+    mul-room-4
+    slice-write-room-4
     same-length
     returns)

@@ -60,47 +60,52 @@ pair-at-requires c κs =
     let l = c .before .before .before .before in
     (l .before .before .before .before .before .before .pre .0, omega (arith, at c .below))
 
+contact-foot-requires : tie.Need-contact-foot-requires Inv-loop μ-loop
+contact-foot-requires c κs =
+    let k = c .before in
+    rw (c .pair-at .ensures) (within _ _ (k .before .before .before .before .before .before .before .before .before .before .pre .0) _ (at k .below))
+
 mul-put-pair : tie.Need-mul-put-pair Inv-loop μ-loop
-mul-put-pair c = omega (arith, bounds (c .before .before))
+mul-put-pair c = omega (arith, bounds (c .before .before .before))
 
 put-pair-requires : tie.Need-put-pair-requires Inv-loop μ-loop
 put-pair-requires c κs =
-    let k = c .before .before in
+    let k = c .before .before .before in
     let l = k .before .before .before .before in
     let p = l .before .before .before .before .before .before .pre in
     which-fits _ _ _ _ _ (p .1 .0) (p .1 .1) (l .loop .inv) (at k)
 
 mul-put-point : tie.Need-mul-put-point Inv-loop μ-loop
-mul-put-point c = omega (arith, bounds (c .before .before .before .before .before .before))
+mul-put-point c = omega (arith, bounds (c .before .before .before .before .before .before .before))
 
 contact-point-requires : tie.Need-contact-point-requires Inv-loop μ-loop
 contact-point-requires c κs =
-    let k = c .before .before .before .before .before .before in
-    rw (c .before .before .before .before .before .pair-at .ensures) (within _ _ (k .before .before .before .before .before .before .before .before .before .before .pre .0) _ (at k .below))
+    let k = c .before .before .before .before .before .before .before in
+    rw (c .before .before .before .before .before .before .pair-at .ensures) (within _ _ (k .before .before .before .before .before .before .before .before .before .before .pre .0) _ (at k .below))
 
 put-point-requires : tie.Need-put-point-requires Inv-loop μ-loop
 put-point-requires c κs =
-    let k = c .before .before .before .before .before .before .before in
+    let k = c .before .before .before .before .before .before .before .before in
     let l = k .before .before .before .before in
     let p = l .before .before .before .before .before .before .pre in
     points-fit _ _ _ _ _ (p .1 .0) (p .1 .1) (l .loop .inv) (at k)
 
 add-n : tie.Need-add-n Inv-loop μ-loop
-add-n c = omega (arith, bounds (c .before .before .before .before .before .before .before .before .before .before))
+add-n c = omega (arith, bounds (c .before .before .before .before .before .before .before .before .before .before .before))
 
 add-k : tie.Need-add-k Inv-loop μ-loop
-add-k c = omega (arith, bounds (c .before .before .before .before .before .before .before .before .before .before))
+add-k c = omega (arith, bounds (c .before .before .before .before .before .before .before .before .before .before .before))
 
 loop-less : tie.Need-loop-less Inv-loop μ-loop
-loop-less c = omega (arith, at (c .before .before .before .before .before .before .before .before .before .before) .least, at (c .before .before .before .before .before .before .before .before .before .before) .below)
+loop-less c = omega (arith, at (c .before .before .before .before .before .before .before .before .before .before .before) .least, at (c .before .before .before .before .before .before .before .before .before .before .before) .below)
 
 loop-again : tie.Need-loop-again Inv-loop μ-loop
 loop-again c =
-    let k = c .before .before .before .before .before .before .before .before .before .before in
+    let k = c .before .before .before .before .before .before .before .before .before .before .before in
     let l = k .before .before .before .before in
     let p = l .before .before .before .before .before .before .pre in
     let q = c .before .before .before in
-    turn _ _ _ _ _ (p .1 .0) (p .1 .1) (l .loop .inv) (at k) (q .before .before .before .before .before .before .pair-at .ensures) (q .contact-point .ensures) (q .before .before .before .before .put-pair .ensures) (c .before .before .put-point .ensures)
+    turn _ _ _ _ _ (p .1 .0) (p .1 .1) (l .loop .inv) (at k) (q .before .before .before .before .before .before .before .pair-at .ensures) (q .before .before .before .before .before .before .contact-foot .ensures) (q .contact-point .ensures) (q .before .before .before .before .put-pair .ensures) (c .before .before .put-point .ensures)
 
 pub write-contacts-spec : {M : Type 1} → statement M
 write-contacts-spec =
@@ -117,6 +122,7 @@ write-contacts-spec =
     returns
     enum-known-j
     pair-at-requires
+    contact-foot-requires
     mul-put-pair
     put-pair-requires
     mul-put-point

@@ -51,7 +51,7 @@ fn touching(n: usize) -> [Lent; 2] {
 /// `find_contacts` of two discs of n vertices.
 fn contacts(n: usize) -> Sides {
     let [a, b] = touching(n);
-    let (mut which, mut points) = (vec![0_u64; 3 * 64], vec![0.0; 2 * 64]);
+    let (mut which, mut points) = (vec![0_u64; 4 * 64], vec![0.0; 2 * 64]);
     let (an, bn) = (a.points.clone(), b.points.clone());
     let mut ours = move || {
         let (mut count, mut place) = (0, 0);
