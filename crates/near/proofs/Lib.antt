@@ -1,3 +1,4 @@
 -- The modules that belong to no one function.
 pub mod Below
 pub mod Far
+pub mod Under
