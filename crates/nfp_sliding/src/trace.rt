@@ -49,6 +49,7 @@ fn follow(stationary: &[f64], orbiting: &[f64], settings: Settings, work: &mut [
     fill(stationary, &mut dirs);
     let mut headings = [0.0; 512];
     fill(orbiting, &mut headings);
+    let mut moved = [0.0; 512];
     run(
         stationary,
         &dirs,
@@ -60,6 +61,7 @@ fn follow(stationary: &[f64], orbiting: &[f64], settings: Settings, work: &mut [
         limit,
         first,
         work,
+        &mut moved,
     )
 }
 
