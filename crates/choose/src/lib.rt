@@ -124,7 +124,8 @@ fn taken(best: Best, course: Course, weighed: Weighed) -> Best
     }
 }
 
-// The unit vector along the edge that the vectors of a contact follow: of the stationary edges they are at hand.
+// The unit vector along the edge that the vectors of a contact follow. Those of the stationary edges are at hand, and those of the orbiting
+// ones as drawn.
 fn along_at(dirs: &[f64], drawn: &[f64], headings: &[f64], pair: Pair, e: Edges) -> Point
     requires { ⌜ pair .stationary < count (now dirs) ⌝ }
     requires { ⌜ pointAt (now dirs) (pair .stationary) ≡ directionOf (e .a) (e .b) ⌝ }
@@ -267,7 +268,8 @@ fn climb(
     }
 }
 
-// The vector chosen, the first where no score is above -infinity, or nothing where all lead to visited positions.
+// The vector chosen, the first where no score is above -infinity, or nothing where all lead to visited positions. `drawn` is the orbiting
+// ring before it was moved, and `dirs` and `headings` are the directions of the stationary ring's edges and of its own.
 pub fn choose(
     stationary: &[f64],
     dirs: &[f64],

@@ -1,11 +1,10 @@
 -- A room that has the directions of a ring's edges at its front. Assumes nothing.
-use Prim.Native.Nat.{ℕ, _+_, _*_, _/_, _≤_, _<_}
+use Prim.Native.Nat.{ℕ, _+_, _*_, _≤_, _<_}
 use native.Mathlib.Omega.{arith}
 use mathlib.Core.Path.{_≡_, refl, _∙_}
 use mathlib.Core.List.{List, _++_}
 use lib.ListN.{length, List·getD-append}
 use lib.Ieee.{Float, nan}
-use Rattle.plane.specs.declared.Point.{Point}
 use Rattle.ring.specs.Ring.{count, pointAt}
 use Rattle.ring.specs.Room.{laid}
 use Rattle.ring.specs.Points.{points}

@@ -100,7 +100,7 @@ module _ (tol s : Float) (G : T (fits binary64 tol)) (F : T (fits binary64 s)) (
       (four-units n t unit h)))
 
 -- what would be the other way round, is not
-pub holds : (b : Bool) → (b ≡ false → ⊥) → b ≡ true
+holds : (b : Bool) → (b ≡ false → ⊥) → b ≡ true
 holds true k = refl
 holds false k = absurd (k refl)
 
@@ -122,7 +122,7 @@ module _ (tol : Float) (G : T (fits binary64 tol)) (Q : T (positive tol)) where
 
 -- ---- vectors
 
-pub nan-times : (x : Float) → mul binary64 nan x ≡ nan
+nan-times : (x : Float) → mul binary64 nan x ≡ nan
 unfolding mul
 nan-times x = refl
 

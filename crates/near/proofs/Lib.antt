@@ -1,4 +1,3 @@
 -- The modules that belong to no one function.
 pub mod Below
 pub mod Far
-pub mod Under

@@ -19,9 +19,6 @@ pub fn is_shorter(v: Point, tol: f64) -> bool
         if s > tol * tol {
             return false;
         }
-        if s * 4.0 < tol * tol {
-            return true;
-        }
     }
     sqrt(s) < tol
 }

@@ -2,14 +2,11 @@
 use Prim.Native.Nat.{ℕ, zero, suc, _+_, _*_, _-_, _≤_}
 use native.Mathlib.Omega.{arith}
 use mathlib.Core.Path.{_≡_, refl, sym, ap, _∙_}
-use mathlib.Core.Bool.{Bool, true, false, not, cond, true≢false}
+use mathlib.Core.Bool.{Bool, true, false, cond}
 use mathlib.Core.List.{List}
 use lib.ListN.{length, take}
-use lib.Dec.{T, eqb, ltb}
-use lib.Ieee.{Float, nan, inf, fin, binary64, fits, isNan, eq, toBits, ofBits}
-use lib.Ieee.Bits.{ofBits-toBits}
-use borrow.Author.Tests.{eqb-true}
-use Rattle.plane.specs.declared.Point.{Point}
+use lib.Dec.{ltb}
+use lib.Ieee.{Float}
 use Rattle.ring.specs.Room.{putAt}
 use Rattle.pass.specs.Stop.{passesUsed}
 use Rattle.pass.specs.Pass.{Scene, passOf}
