@@ -4,16 +4,19 @@ use contacts::Next;
 use contacts::edges_of;
 use contacts::frames_of;
 use contacts::next_within;
+use directions::unit;
+use pairs::Pair;
 use pairs::pair_at;
 use plane::Point;
 use plane::vector::ahead;
 use plane::vector::dot;
+use plane::vector::minus;
+use ring::point_at;
 use selection::Previous;
 use selection::continued;
 use selection::start;
 use vectors::TranslationVector;
 use vectors::course::Course;
-use vectors::course::along_by;
 use vectors::course::course_by;
 use vectors::course::direction_of;
 use vectors::course::is_below;
@@ -22,12 +25,13 @@ use vectors::course::to_vector;
 use vectors::fit::is_visited;
 ghost use mathlib.Core.Path.{_≡_};
 ghost use Prim.Native.Nat.{_<_};
-ghost use Rattle.ring.specs.Ring.{count};
+ghost use Rattle.ring.specs.Ring.{count, pointAt};
 ghost use Rattle.pairs.specs.Pairs.{Sides, pairCount};
-ghost use Rattle.vectors.specs.Vectors.{vectorBy, vectorOf};
+ghost use Rattle.vectors.specs.Vectors.{directionOf, vectorBy, vectorOf};
 ghost use Rattle.vectors.specs.Fit.{keeps, fitOf};
 ghost use Rattle.selection.specs.Score.{scoreOf};
-ghost use Rattle.vectors.specs.Courses.{vectorIs};
+ghost use Rattle.vectors.specs.Courses.{vectorIs, alongBy};
+ghost use Rattle.directions.specs.Directions.{Directed};
 ghost use Rattle.choose.specs.Choose.{standing, raisedBy, weighedBy, takenBy, weighOf, unset, climbOf, choiceOf};
 
 // A vector, or nothing.
@@ -120,22 +124,39 @@ fn taken(best: Best, course: Course, weighed: Weighed) -> Best
     }
 }
 
+// The unit vector along the edge that the vectors of a contact follow. Those of the stationary edges are at hand, and those of the orbiting
+// ones as drawn.
+fn along_at(dirs: &[f64], drawn: &[f64], headings: &[f64], pair: Pair, e: Edges) -> Point
+    requires { ⌜ pair .stationary < count (now dirs) ⌝ }
+    requires { ⌜ pointAt (now dirs) (pair .stationary) ≡ directionOf (e .a) (e .b) ⌝ }
+    requires { ⌜ pair .orbiting < count (now drawn) ⌝ }
+    requires { ⌜ Directed (now headings) (now drawn) ⌝ }
+    ensures { λ r. ⌜ r ≡ alongBy (pair .kind) e ⌝ }
+{
+    let kind = pair.kind;
+    match kind {
+        1 => unit(minus(e.d, e.c), drawn, headings, pair.orbiting),
+        _ => point_at(dirs, pair.stationary),
+    }
+}
+
 // Both vectors of a contact with these edges.
 fn weigh_both(
     best: Best,
     kind: u8,
     e: Edges,
+    along: Point,
     from: Point,
     visited: &[f64],
     tol: f64,
     previous: Previous,
     ccw: Point,
 ) -> Best
+    requires { ⌜ along ≡ alongBy kind e ⌝ }
     ensures { λ r.
         ⌜ standing r ≡ weighOf (keeps from (now (visited .entry)) tol) previous ccw
         (weighOf (keeps from (now (visited .entry)) tol) previous ccw (standing best) (vectorBy kind e 0)) (vectorBy kind e 1) ⌝ }
 {
-    let along = along_by(kind, e);
     let one = course_by(kind, e, along, 0);
     let w1 = weigh(
         best.found,
@@ -165,7 +186,10 @@ fn weigh_both(
 // Both vectors of the contact with the pair number k.
 fn weigh_contact(
     stationary: &[f64],
+    dirs: &[f64],
     orbiting: &[f64],
+    drawn: &[f64],
+    headings: &[f64],
     k: usize,
     best: Best,
     from: Point,
@@ -176,6 +200,8 @@ fn weigh_contact(
 ) -> Best
     requires { ⌜ Sides (count (now stationary)) (count (now orbiting)) ⌝ }
     requires { ⌜ k < pairCount (count (now stationary)) (count (now orbiting)) ⌝ }
+    requires { ⌜ Directed (now dirs) (now stationary) ⌝ }
+    requires { ⌜ (count (now orbiting) ≡ count (now drawn)) × Directed (now headings) (now drawn) ⌝ }
     ensures { λ r.
         ⌜ standing r ≡ weighOf (keeps from (now (visited .entry)) tol) previous ccw
         (weighOf (keeps from (now (visited .entry)) tol) previous ccw (standing best)
@@ -184,13 +210,17 @@ fn weigh_contact(
 {
     let pair = pair_at(k, stationary.len() / 2, orbiting.len() / 2);
     let e = edges_of(stationary, orbiting, pair);
-    weigh_both(best, pair.kind, e, from, visited, tol, previous, ccw)
+    let along = along_at(dirs, drawn, headings, pair, e);
+    weigh_both(best, pair.kind, e, along, from, visited, tol, previous, ccw)
 }
 
 // The best of all vectors.
 fn climb(
     stationary: &[f64],
+    dirs: &[f64],
     orbiting: &[f64],
+    drawn: &[f64],
+    headings: &[f64],
     tol: f64,
     from: Point,
     visited: &[f64],
@@ -198,6 +228,8 @@ fn climb(
     ccw: Point,
 ) -> Best
     requires { ⌜ Sides (count (now stationary)) (count (now orbiting)) ⌝ }
+    requires { ⌜ Directed (now dirs) (now stationary) ⌝ }
+    requires { ⌜ (count (now orbiting) ≡ count (now drawn)) × Directed (now headings) (now drawn) ⌝ }
     ensures { λ r.
         ⌜ standing r ≡ climbOf previous ccw unset
         (fitOf (now (stationary .entry)) (now (orbiting .entry)) from (now (visited .entry)) tol) ⌝ }
@@ -218,7 +250,10 @@ fn climb(
             Next::At(j) => {
                 best = weigh_contact(
                     stationary,
+                    dirs,
                     orbiting,
+                    drawn,
+                    headings,
                     j,
                     best,
                     from,
@@ -233,10 +268,14 @@ fn climb(
     }
 }
 
-// The vector chosen, the first where no score is above -infinity, or nothing where all lead to visited positions.
+// The vector chosen, the first where no score is above -infinity, or nothing where all lead to visited positions. `drawn` is the orbiting
+// ring before it was moved, and `dirs` and `headings` are the directions of the stationary ring's edges and of its own.
 pub fn choose(
     stationary: &[f64],
+    dirs: &[f64],
     orbiting: &[f64],
+    drawn: &[f64],
+    headings: &[f64],
     tol: f64,
     from: Point,
     visited: &[f64],
@@ -244,9 +283,22 @@ pub fn choose(
     ccw: Point,
 ) -> Choice
     requires { ⌜ Sides (count (now stationary)) (count (now orbiting)) ⌝ }
+    requires { ⌜ Directed (now dirs) (now stationary) ⌝ }
+    requires { ⌜ (count (now orbiting) ≡ count (now drawn)) × Directed (now headings) (now drawn) ⌝ }
     ensures { λ r. ⌜ r ≡ choiceOf (fitOf (now (stationary .entry)) (now (orbiting .entry)) from (now (visited .entry)) tol) previous ccw ⌝ }
 {
-    let best = climb(stationary, orbiting, tol, from, visited, previous, ccw);
+    let best = climb(
+        stationary,
+        dirs,
+        orbiting,
+        drawn,
+        headings,
+        tol,
+        from,
+        visited,
+        previous,
+        ccw,
+    );
     if best.found {
         let course = best.course;
         Choice::Vector(to_vector(course))

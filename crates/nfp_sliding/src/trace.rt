@@ -1,6 +1,7 @@
 // The trace of two polygons, its path in a room that the caller lends, and the path simplified.
 use crate::answer::Traced;
 use centroid::centroid;
+use directions::fill;
 use pass::Margins;
 use pass::Pose;
 use pass_run::run::End;
@@ -44,15 +45,23 @@ fn follow(stationary: &[f64], orbiting: &[f64], settings: Settings, work: &mut [
         smallest: settings.min_translation,
     };
     let limit = settings.max_iterations;
+    let mut dirs = [0.0; 512];
+    fill(stationary, &mut dirs);
+    let mut headings = [0.0; 512];
+    fill(orbiting, &mut headings);
+    let mut moved = [0.0; 512];
     run(
         stationary,
+        &dirs,
         orbiting,
+        &headings,
         margins,
         middle,
         start,
         limit,
         first,
         work,
+        &mut moved,
     )
 }
 

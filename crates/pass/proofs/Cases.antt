@@ -78,3 +78,6 @@ fronted orb by held even e = rw e (moved-front orb by held even)
 
 pub sides : (sn : ℕ) (orb : List Float) (by : Point) {front : List Float} → front ≡ movedOf orb by → Sides sn (count orb) → Sides sn (count front)
 sides sn orb by e d = rw (e, moved-count orb by) d
+
+pub as-many : (orb : List Float) (by : Point) {front : List Float} → front ≡ movedOf orb by → count front ≡ count orb
+as-many orb by e = rw (e, moved-count orb by) refl

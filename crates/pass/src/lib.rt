@@ -19,6 +19,7 @@ ghost use Prim.Native.Nat.{_%_, _≤_};
 ghost use lib.ListN.{length};
 ghost use Rattle.ring.specs.Ring.{count};
 ghost use Rattle.pairs.specs.Pairs.{Sides};
+ghost use Rattle.directions.specs.Directions.{Directed};
 ghost use Rattle.pass.specs.Pass.{scene, regainOf, unstickOf, passAt, passOf};
 
 // What a pass measures by: the contact tolerance, and the smallest move that is made and stored.
@@ -89,7 +90,9 @@ fn unstick(stationary: &[f64], orbiting: &[f64], margins: Margins, pose: Pose) -
 // The pass of the orbiting polygon, as drawn and as moved to the pose's position.
 fn pass_at(
     stationary: &[f64],
+    dirs: &[f64],
     orbiting: &[f64],
+    headings: &[f64],
     moved: &[f64],
     margins: Margins,
     centroid: Point,
@@ -100,6 +103,8 @@ fn pass_at(
     requires { ⌜ length (now orbiting) % 2 ≡ 0 ⌝ }
     requires { ⌜ length (now orbiting) ≤ 512 ⌝ }
     requires { ⌜ Sides (count (now stationary)) (count (now moved)) ⌝ }
+    requires { ⌜ Directed (now dirs) (now stationary) ⌝ }
+    requires { ⌜ (count (now moved) ≡ count (now orbiting)) × Directed (now headings) (now orbiting) ⌝ }
     ensures { λ r.
         ⌜ r ≡ passAt (scene (now (stationary .entry)) (now (orbiting .entry)) margins centroid start)
         (now (moved .entry)) (now (path .entry)) pose ⌝ }
@@ -108,7 +113,18 @@ fn pass_at(
     let from = pose.position;
     let previous = pose.previous;
     let ccw = preferred(centroid, from);
-    match choose(stationary, moved, tol, from, path, previous, ccw) {
+    match choose(
+        stationary,
+        dirs,
+        moved,
+        orbiting,
+        headings,
+        tol,
+        from,
+        path,
+        previous,
+        ccw,
+    ) {
         Choice::Nothing => {
             if has_contact(stationary, moved, tol) {
                 unstick(stationary, orbiting, margins, pose)
@@ -120,28 +136,33 @@ fn pass_at(
     }
 }
 
-// The pass from a pose, with the path so far.
+// The pass from a pose, with the path so far, the directions of both polygons' edges as drawn, and a room for the moved polygon.
 pub fn pass(
     stationary: &[f64],
+    dirs: &[f64],
     orbiting: &[f64],
+    headings: &[f64],
     margins: Margins,
     centroid: Point,
     start: Point,
     path: &[f64],
     pose: Pose,
+    room: &mut [f64],
 ) -> Step
     requires { ⌜ length (now orbiting) % 2 ≡ 0 ⌝ }
-    requires { ⌜ length (now orbiting) ≤ 512 ⌝ }
+    requires { ⌜ (length (now orbiting) ≤ 512) × (length (now orbiting) ≤ length (now room)) ⌝ }
     requires { ⌜ Sides (count (now stationary)) (count (now orbiting)) ⌝ }
+    requires { ⌜ Directed (now dirs) (now stationary) × Directed (now headings) (now orbiting) ⌝ }
     ensures { λ r.
         ⌜ r ≡ passOf (scene (now (stationary .entry)) (now (orbiting .entry)) margins centroid start) (now (path .entry)) pose ⌝ }
 {
-    let mut room = [0.0; 512];
-    move_ring(orbiting, pose.position, &mut room);
+    move_ring(orbiting, pose.position, room);
     let len = orbiting.len();
     pass_at(
         stationary,
+        dirs,
         orbiting,
+        headings,
         &room[..len],
         margins,
         centroid,

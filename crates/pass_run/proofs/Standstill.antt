@@ -2,14 +2,11 @@
 use Prim.Native.Nat.{ℕ, zero, suc, _+_, _*_, _-_, _≤_}
 use native.Mathlib.Omega.{arith}
 use mathlib.Core.Path.{_≡_, refl, sym, ap, _∙_}
-use mathlib.Core.Bool.{Bool, true, false, not, cond, true≢false}
+use mathlib.Core.Bool.{Bool, true, false, cond}
 use mathlib.Core.List.{List}
 use lib.ListN.{length, take}
-use lib.Dec.{T, eqb, ltb}
-use lib.Ieee.{Float, nan, inf, fin, binary64, fits, isNan, eq, toBits, ofBits}
-use lib.Ieee.Bits.{ofBits-toBits}
-use borrow.Author.Tests.{eqb-true}
-use Rattle.plane.specs.declared.Point.{Point}
+use lib.Dec.{ltb}
+use lib.Ieee.{Float}
 use Rattle.ring.specs.Room.{putAt}
 use Rattle.pass.specs.Stop.{passesUsed}
 use Rattle.pass.specs.Pass.{Scene, passOf}
@@ -20,18 +17,6 @@ use Rattle.pass_run.specs.declared.run.State.{State}
 use Rattle.pass_run.specs.declared.run.After.{After}
 use Rattle.pass_run.specs.declared.run.After.the-variants.{Full, Go}
 use Rattle.pass_run.specs.Run.{Afterwards, afterwards, afterBy, afterOf, runOf, done, state}
-
-pub no-nan : (x : Float) → eq x x ≡ true → T (not (isNan x))
-unfolding eq isNan
-no-nan nan h = absurd (let q : _≡_ {A = Bool} false true = h in true≢false (sym q))
-no-nan (inf s) h = tt
-no-nan (fin s m e) h = tt
-
-pub same-bits : (a b : Float) → T (fits binary64 a) → T (fits binary64 b) → eqb (toBits binary64 a) (toBits binary64 b) ≡ true → a ≡ b
-same-bits a b f g h = sym (ofBits-toBits binary64 a f) ∙ ap (ofBits binary64) (eqb-true _ _ h) ∙ ofBits-toBits binary64 b g
-
-pub one-point : (a b : Point) → a .x ≡ b .x → a .y ≡ b .y → a ≡ b
-one-point a b e f = rw (e, f) refl
 
 pub one-pose : (a b : Pose) → a .position ≡ b .position → a .stuck ≡ b .stuck → a .previous ≡ b .previous → a ≡ b
 one-pose a b e f g = rw (e, f, g) refl

@@ -12,9 +12,10 @@ ghost use Prim.Native.Nat.{_*_, _%_, _≤_};
 ghost use lib.ListN.{length};
 ghost use Rattle.ring.specs.Ring.{count};
 ghost use Rattle.pairs.specs.Pairs.{Sides};
+ghost use Rattle.bitwise.specs.Same.{Same};
+ghost use Rattle.directions.specs.Directions.{Directed};
 ghost use Rattle.pass.specs.Pass.{scene};
 ghost use Rattle.pass_run.specs.Run.{afterOf, runOf, InRoom};
-ghost use Rattle.pass_run.specs.Still.{Same};
 
 // Where the trace is, and how many points it has stored.
 pub struct State {
@@ -37,19 +38,23 @@ pub struct End {
     pub stored: usize,
 }
 
-// One pass, and its point stored.
+// One pass, and its point stored; the moved polygon is worked out in the room `moved`.
 fn one_pass(
     stationary: &[f64],
+    dirs: &[f64],
     orbiting: &[f64],
+    headings: &[f64],
     margins: Margins,
     centroid: Point,
     start: Point,
     state: State,
     room: &mut [f64],
+    moved: &mut [f64],
 ) -> After
     requires { ⌜ length (now orbiting) % 2 ≡ 0 ⌝ }
-    requires { ⌜ length (now orbiting) ≤ 512 ⌝ }
+    requires { ⌜ (length (now orbiting) ≤ 512) × (length (now orbiting) ≤ length (now moved)) ⌝ }
     requires { ⌜ Sides (count (now stationary)) (count (now orbiting)) ⌝ }
+    requires { ⌜ Directed (now dirs) (now stationary) × Directed (now headings) (now orbiting) ⌝ }
     requires { ⌜ 2 * state .stored ≤ length (now room) ⌝ }
     ensures { λ r.
         ⌜ (r ≡ afterOf (scene (now (stationary .entry)) (now (orbiting .entry)) margins centroid start)
@@ -63,12 +68,15 @@ fn one_pass(
     let pose = state.pose;
     match pass(
         stationary,
+        dirs,
         orbiting,
+        headings,
         margins,
         centroid,
         start,
         &room[..len],
         pose,
+        moved,
     ) {
         Step::Stop(reason) => After::Halt(reason),
         Step::Stay(next) => After::Go(State { pose: next, stored }),
@@ -100,20 +108,25 @@ fn is_still(next: State, state: State) -> bool
     }
 }
 
-// The passes from a state on, as many as the limit allows.
+// The passes from a state on, as many as the limit allows. The directions are those of both polygons' edges, and `moved` has room for the
+// moved polygon.
 pub fn run(
     stationary: &[f64],
+    dirs: &[f64],
     orbiting: &[f64],
+    headings: &[f64],
     margins: Margins,
     centroid: Point,
     start: Point,
     limit: u64,
     first: State,
     room: &mut [f64],
+    moved: &mut [f64],
 ) -> End
     requires { ⌜ length (now orbiting) % 2 ≡ 0 ⌝ }
-    requires { ⌜ length (now orbiting) ≤ 512 ⌝ }
+    requires { ⌜ (length (now orbiting) ≤ 512) × (length (now orbiting) ≤ length (now moved)) ⌝ }
     requires { ⌜ Sides (count (now stationary)) (count (now orbiting)) ⌝ }
+    requires { ⌜ Directed (now dirs) (now stationary) × Directed (now headings) (now orbiting) ⌝ }
     requires { ⌜ 2 * first .stored ≤ length (now room) ⌝ }
     requires { ⌜ limit ≤ 10000 ⌝ }
     ensures { λ r.
@@ -126,7 +139,18 @@ pub fn run(
     let mut state = first;
     let mut passes = 0;
     while passes < limit {
-        match one_pass(stationary, orbiting, margins, centroid, start, state, room) {
+        match one_pass(
+            stationary,
+            dirs,
+            orbiting,
+            headings,
+            margins,
+            centroid,
+            start,
+            state,
+            room,
+            moved,
+        ) {
             After::Halt(reason) => {
                 return End {
                     full: false,

@@ -1,30 +1,8 @@
 // Whether a pass came to nothing new: the pose after it is the pose before it, bit for bit.
+use bitwise::same_point;
 use pass::Pose;
-use plane::Point;
 use selection::Previous;
-ghost use Rattle.pass_run.specs.Still.{Same};
-
-// Whether two numbers are the same, bit for bit. A NaN is not.
-fn same_number(a: f64, b: f64) -> bool
-    ensures { λ r. ⌜ Same r a b ⌝ }
-{
-    if a == a {
-        if b == b {
-            return f64::to_bits(a) == f64::to_bits(b);
-        }
-    }
-    false
-}
-
-fn same_point(a: Point, b: Point) -> bool
-    ensures { λ r. ⌜ Same r a b ⌝ }
-{
-    if same_number(a.x, b.x) {
-        same_number(a.y, b.y)
-    } else {
-        false
-    }
-}
+ghost use Rattle.bitwise.specs.Same.{Same};
 
 fn same_previous(a: Previous, b: Previous) -> bool
     ensures { λ r. ⌜ Same r a b ⌝ }

@@ -19,10 +19,10 @@ use Rattle.choose.proofs.climb.Statement.{statement}
 use Rattle.choose.proofs.climb.Tie as tie
 
 abbrev Inv-loop : tie.InvT-loop
-Inv-loop stationary orbiting tol from visited previous ccw best₀ frames k₀ best k = Climbing stationary orbiting tol (keeps from visited tol) previous ccw (standing best) k
+Inv-loop stationary dirs orbiting drawn headings tol from visited previous ccw best₀ frames k₀ best k = Climbing stationary orbiting tol (keeps from visited tol) previous ccw (standing best) k
 
 abbrev μ-loop : tie.MeasureT-loop
-μ-loop stationary orbiting tol from visited previous ccw best₀ frames k₀ best k = pairCount (count stationary) (count orbiting) - k
+μ-loop stationary dirs orbiting drawn headings tol from visited previous ccw best₀ frames k₀ best k = pairCount (count stationary) (count orbiting) - k
 
 start-requires : tie.Need-start-requires Inv-loop μ-loop
 start-requires c κs = search needs
@@ -35,7 +35,7 @@ unfolding unset vectorIs unscored lengthOf dotOf sqrtOf add mul ofBits
 loop-holds c = at-first _ _ _ _ _ _ (rw (c .before .start .ensures) refl)
 
 next-within-requires : tie.Need-next-within-requires Inv-loop μ-loop
-next-within-requires c κs = (c .before .before .before .before .before .before .pre, (c .loop .inv .most, c .before .frames-of .ensures))
+next-within-requires c κs = (c .before .before .before .before .before .before .before .before .before .pre .0, (c .loop .inv .most, c .before .frames-of .ensures))
 
 enum-told : tie.Need-enum-told Inv-loop μ-loop
 enum-told c = search needs
@@ -51,12 +51,13 @@ enum-known-j c = search needs
 weigh-contact-requires : tie.Need-weigh-contact-requires Inv-loop μ-loop
 weigh-contact-requires c κs =
     let n = c .before .before .before in
-    (c .before .before .before .before .before .before .before .before .before .before .pre, next-at _ _ _ (n .next-within .ensures) (c .before .j .given .1) .below)
+    let p = n .before .before .before .before .before .before .before .before .before .before .pre in
+    (p .0, (next-at _ _ _ (n .next-within .ensures) (c .before .j .given .1) .below, p .1))
 
 add-k : tie.Need-add-k Inv-loop μ-loop
 add-k c =
     let n = c .before .before .before .before in
-    omega (arith, next-at _ _ _ (n .next-within .ensures) (c .before .before .j .given .1) .below, most _ _ (c .before .before .before .before .before .before .before .before .before .before .before .pre))
+    omega (arith, next-at _ _ _ (n .next-within .ensures) (c .before .before .j .given .1) .below, most _ _ (n .before .before .before .before .before .before .before .before .before .before .pre .0))
 
 loop-less : tie.Need-loop-less Inv-loop μ-loop
 loop-less c =

@@ -4,11 +4,8 @@ use Rattle.choose.proofs.weigh_both.Statement.{statement}
 use Rattle.choose.proofs.weigh_both.Tie as tie
 use Rattle.choose.proofs.Climbing.{both-sides}
 
-along-by-requires : tie.Need-along-by-requires
-along-by-requires c κs = search needs
-
 course-by-requires : tie.Need-course-by-requires
-course-by-requires c κs = c .along-by .ensures
+course-by-requires c κs = c .before .pre
 
 weigh-requires : tie.Need-weigh-requires
 weigh-requires c κs = search needs
@@ -17,7 +14,7 @@ taken-requires : tie.Need-taken-requires
 taken-requires c κs = search needs
 
 course-by-requires-2 : tie.Need-course-by-requires-2
-course-by-requires-2 c κs = c .before .before .before .along-by .ensures
+course-by-requires-2 c κs = c .before .before .before .before .pre
 
 weigh-requires-2 : tie.Need-weigh-requires-2
 weigh-requires-2 c κs = search needs
@@ -36,7 +33,6 @@ pub weigh-both-spec : {M : Type 1} → statement M
 weigh-both-spec =
     tie.close
     (tie.spec
-    along-by-requires
     course-by-requires
     weigh-requires
     taken-requires

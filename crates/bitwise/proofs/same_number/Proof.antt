@@ -1,10 +1,10 @@
--- `pass_run::still::same_number` meets its contract: what has the same bits is the same. Assumes nothing.
+-- `bitwise::same_number` meets its contract: what has the same bits is the same. Assumes nothing.
 use mathlib.Core.Path.{sym}
 use mathlib.Core.Path.{subst}
 use lib.Dec.{T}
-use Rattle.pass_run.proofs.Standstill.{same-bits, no-nan}
-use Rattle.pass_run.proofs.still.same_number.Statement.{statement}
-use Rattle.pass_run.proofs.still.same_number.Tie as tie
+use Rattle.bitwise.proofs.Bits.{same-bits, no-nan}
+use Rattle.bitwise.proofs.same_number.Statement.{statement}
+use Rattle.bitwise.proofs.same_number.Tie as tie
 
 float-to-bits-result : tie.Need-float-to-bits-result
 float-to-bits-result c = no-nan _ (c .before .if1 .taken)

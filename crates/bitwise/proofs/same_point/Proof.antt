@@ -1,8 +1,8 @@
--- `pass_run::still::same_point` meets its contract. Assumes nothing.
+-- `bitwise::same_point` meets its contract. Assumes nothing.
 use borrow.Author.Needs.{needs}
-use Rattle.pass_run.proofs.Standstill.{one-point}
-use Rattle.pass_run.proofs.still.same_point.Statement.{statement}
-use Rattle.pass_run.proofs.still.same_point.Tie as tie
+use Rattle.bitwise.proofs.Bits.{one-point}
+use Rattle.bitwise.proofs.same_point.Statement.{statement}
+use Rattle.bitwise.proofs.same_point.Tie as tie
 
 same-number-requires : tie.Need-same-number-requires
 same-number-requires c κs = search needs

@@ -1,0 +1,2 @@
+-- The definitions that the contracts of directions, and of what stands on them, cite.
+pub mod Directions
