@@ -8,16 +8,23 @@
 //! 5 open_ring, 6 is_simple_polygon, 7 ring_distance, 8 signed_area2,
 //! 9 signed_area_robust, 10 project_point_to_segment (p, a, b),
 //! 11 point_to_segment_distance (p, a, b), 12 point_on_segment (p, a, b and the
-//! tolerance). A value is a float's bits, 0 or 1, a turn as 64-bit two's
-//! complement, or a number of vertices; 0 where refused. The place is 0 where none
-//! is told.
+//! tolerance), 13 mend_ring. A value is a float's bits, 0 or 1, a turn as 64-bit
+//! two's complement, or a number of vertices; 0 where refused. The place is 0 where
+//! none is told.
+//!
+//! Of mend_ring the value has the dropped vertices 65,536 times besides, list b is
+//! the room for their points, and the record goes on with that room at exit, the
+//! length of the room for their indices and whys, and this room at entry and at
+//! exit.
 
 mod corners;
 mod lists;
+mod mending;
 mod sample;
 
 use super::{answer_bits, once, refused, List};
 use crate::calls;
+use crate::mend::mend_ring;
 use crate::refusals::Answer;
 use crate::seeded::Seeded;
 
@@ -34,9 +41,12 @@ pub const SIGNED_AREA_ROBUST: u64 = 9;
 pub const PROJECT_POINT_TO_SEGMENT: u64 = 10;
 pub const POINT_TO_SEGMENT_DISTANCE: u64 = 11;
 pub const POINT_ON_SEGMENT: u64 = 12;
+pub const MEND_RING: u64 = 13;
+
+pub use mending::every;
 
 /// The names of the calls, by their number.
-const NAMES: [&str; 13] = [
+const NAMES: [&str; 14] = [
     "orientation",
     "on_segment",
     "segments_intersect",
@@ -50,6 +60,7 @@ const NAMES: [&str; 13] = [
     "project_point_to_segment",
     "point_to_segment_distance",
     "point_on_segment",
+    "mend_ring",
 ];
 
 /// Words of the header.
@@ -64,12 +75,15 @@ struct Case {
     a: Vec<f64>,
     b: Vec<f64>,
     room: Vec<f64>,
+    /// The room of a ring's report, for indices and whys.
+    dropped: Vec<u64>,
 }
 
 impl Case {
     /// A call that takes one list.
     fn of(call: u64, a: &[f64]) -> Self {
-        Self { call, a: a.to_vec(), b: Vec::new(), room: Vec::new() }
+        let (b, room, dropped) = (Vec::new(), Vec::new(), Vec::new());
+        Self { call, a: a.to_vec(), b, room, dropped }
     }
 }
 
@@ -94,22 +108,44 @@ fn answer(call: u64, a: &[f64], b: &[f64], room: &mut [f64]) -> Answer<u64> {
             calls::point_to_segment_distance(p(0), p(1), p(2)).map(answer_bits)
         }
         POINT_ON_SEGMENT => calls::point_on_segment(p(0), p(1), p(2), a[6]).map(u64::from),
-        _ => unreachable!("there are thirteen calls"),
+        _ => unreachable!("mend_ring has records of its own"),
     }
 }
 
-/// The record of a case.
-fn record(case: &Case) -> Vec<u64> {
-    let mut room = case.room.clone();
-    let answer = answer(case.call, &case.a, &case.b, &mut room);
+/// The record of a case as far as all calls have it: its answer, and the room at
+/// exit.
+fn words_of(case: &Case, answer: Answer<u64>, room: &[f64]) -> Vec<u64> {
     let [number, place] = refused(answer.err());
     let mut words = vec![case.call];
     words.extend([&case.a, &case.b, &case.room].map(|list| list.len() as u64));
     words.extend([number, answer.unwrap_or(0), place]);
-    for list in [&case.a, &case.b, &case.room, &room] {
+    for list in [&case.a[..], &case.b, &case.room, room] {
         words.extend(list.iter().map(|x| x.to_bits()));
     }
     words
+}
+
+/// The record of a ring that is mended.
+fn mended(case: &Case) -> Vec<u64> {
+    let (mut room, mut dropped, mut points) =
+        (case.room.clone(), case.dropped.clone(), case.b.clone());
+    let answer = mend_ring(&case.a, &mut room, &mut dropped, &mut points);
+    let value = |(vertices, gone): (usize, usize)| vertices as u64 + 65_536 * gone as u64;
+    let mut words = words_of(case, answer.map(value), &room);
+    words.extend(points.iter().map(|x| x.to_bits()));
+    words.push(dropped.len() as u64);
+    words.extend([&case.dropped[..], &dropped].concat());
+    words
+}
+
+/// The record of a case.
+fn record(case: &Case) -> Vec<u64> {
+    if case.call == MEND_RING {
+        return mended(case);
+    }
+    let mut room = case.room.clone();
+    let answer = answer(case.call, &case.a, &case.b, &mut room);
+    words_of(case, answer, &room)
 }
 
 /// The list, record by record, none twice.
@@ -117,6 +153,7 @@ pub fn records() -> Vec<Vec<u64>> {
     let seeded = &mut Seeded::new(0x0f17_0011);
     let mut cases = corners::cases(seeded);
     cases.extend(lists::cases(seeded));
+    cases.extend(mending::cases());
     once(cases.iter().map(record).collect())
 }
 
