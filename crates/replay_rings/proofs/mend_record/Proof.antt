@@ -1,19 +1,7 @@
-use Prim.Native.Nat.{ℕ, _+_, _*_, _-_, _/_, _%_, _≤_, _<_}
-use mathlib.Core.Path.{_≡_, refl, sym, ap, _∙_}
-use native.Mathlib.Omega.{arith}
-use lib.ListN.{length, getD}
+-- `replay_rings::mend_record` meets its contract: no length is above 600. Assumes nothing.
 use borrow.Author.Needs.{needs}
 use Rattle.replay_rings.proofs.mend_record.Statement.{statement}
 use Rattle.replay_rings.proofs.mend_record.Tie as tie
-use Rattle.replay_rings.proofs.mend_record.Reads as reads
-use Rattle.replay_rings.proofs.mend_record.Lts as lts
-use Rattle.replay.proofs.same_floats.Reads as same-floats-reads
-use Rattle.replay.proofs.same_words.Reads as same-words-reads
-use Rattle.replay_rings.proofs.agrees.Reads as agrees-reads
-use Rattle.replay_rings.proofs.floats.Reads as floats-reads
-use Rattle.replay_rings.proofs.mend.Reads as mend-reads
-use Rattle.replay_rings.proofs.words.Reads as words-reads
-use Rattle.replay_rings.proofs.words_length.Reads as words-length-reads
 
 floats-requires : tie.Need-floats-requires
 floats-requires c κs = search needs
@@ -79,7 +67,7 @@ returns-2 : tie.Need-returns-2
 returns-2 c = search needs
 
 agrees-requires : tie.Need-agrees-requires
-agrees-requires c κs = search needs
+agrees-requires c κs = c .before .before .before .before .before .before .before .before .before .before .before .before .before .before .before .before .before .before .before .before .before .before .before .before .before .before .pre .2
 
 returns-3 : tie.Need-returns-3
 returns-3 c = search needs
