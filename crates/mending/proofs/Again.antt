@@ -1,16 +1,16 @@
 -- A ring of which no two neighbours are equal as numbers is left as it is; so mending a mended ring drops nothing. Assumes nothing.
 use Prim.Native.Nat.{ℕ, zero, suc, _+_, _*_, _-_, _%_, _≤_, _<_}
-use mathlib.Core.Path.{_≡_, refl, sym, ap, _∙_}
-use mathlib.Core.Bool.{Bool, true, false, _||_}
-use mathlib.Core.List.{List, [], _∷_}
+use mathlib.Core.Path.{_≡_, _∙_}
+use mathlib.Core.Bool.{false}
+use mathlib.Core.List.{List, []}
 use native.Mathlib.Omega.{arith}
 use native.Mathlib.Nat.{mod-eq-of-lt, mod-self}
 use native.Mathlib.Numerals.{add-one}
 use lib.ListN.{length}
 use lib.Ieee.{Float}
 use Rattle.plane.specs.Vector.{sameOf}
-use Rattle.ring.specs.Ring.{count, pointAt, nextOf}
-use Rattle.mending.specs.Mending.{repeatsAt, trailsFrom, goesAt, staying, going, verticesAt, whysAt, mendedOf, droppedOf, droppedPoints}
+use Rattle.ring.specs.Ring.{count, pointAt}
+use Rattle.mending.specs.Mending.{repeatsAt, goesAt, staying, going, verticesAt, whysAt, mendedOf}
 use Rattle.mending.specs.Restoring.{putBack, Differing}
 use Rattle.mending.proofs.Equal.{same-back, refuted}
 use Rattle.mending.proofs.Trailing.{trails-at}

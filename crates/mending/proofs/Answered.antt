@@ -1,18 +1,15 @@
 -- What a ring that is not refused is mended to, all theorems in one, of the call's own definitions. Assumes nothing.
 use Prim.Native.Nat.{ℕ, zero, suc, _+_, _*_, _-_, _≤_, _<_}
-use mathlib.Core.Path.{_≡_, refl, sym, ap, _∙_}
-use mathlib.Core.Bool.{Bool, true, false, not}
-use mathlib.Core.List.{List, [], _∷_}
+use mathlib.Core.Path.{_≡_, refl, ap}
+use mathlib.Core.Bool.{Bool, true, false}
+use mathlib.Core.List.{List}
 use native.Mathlib.Omega.{arith}
-use native.Mathlib.Numerals.{add-one}
-use lib.ListN.{length, getD}
-use lib.Dec.{leb}
-use lib.Ieee.{Float, nan}
-use borrow.Author.Tests.{le-leb, eq-eqb}
+use lib.ListN.{length}
+use lib.Ieee.{Float}
 use Rattle.ring.specs.Ring.{count, pointAt}
 use Rattle.plane.specs.Vector.{sameOf}
 use Rattle.contacts.specs.Contacts.{picks}
-use Rattle.refusals.specs.Refusals.{passed, first}
+use Rattle.refusals.specs.Refusals.{passed}
 use Rattle.refusals.specs.Bounds.{coordinate, coordinates, every}
 use Rattle.refusals.specs.Answers.{answers}
 use Rattle.refusals.proofs.Sized.{row-parts}

@@ -1,6 +1,6 @@
 -- Equality as numbers goes both ways and on, of floats and of points, whatever they are. Assumes nothing.
-use mathlib.Core.Path.{_≡_, refl, sym, _∙_}
-use mathlib.Core.Bool.{Bool, true, false, _&&_, _||_, true≢false}
+use mathlib.Core.Path.{_≡_, refl}
+use mathlib.Core.Bool.{Bool, true, false, _||_}
 use lib.Dec.{T}
 use lib.Ieee.{Float, lt, le, eq}
 use Rattle.laws.proofs.Both.{both}

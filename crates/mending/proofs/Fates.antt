@@ -1,7 +1,7 @@
 -- What becomes of a vertex, test by test. Assumes nothing.
 use Prim.Native.Nat.{ℕ, suc, _-_}
 use mathlib.Core.Path.{_≡_, refl, sym, _∙_}
-use mathlib.Core.Bool.{Bool, true, false, not, _&&_, _||_, cond}
+use mathlib.Core.Bool.{Bool, true, false, not, _||_}
 use mathlib.Core.List.{List}
 use native.Mathlib.Omega.{arith}
 use lib.Dec.{eqb}
@@ -11,7 +11,6 @@ use Rattle.laws.proofs.Both.{both}
 use Rattle.plane.specs.Vector.{sameOf}
 use Rattle.ring.specs.Ring.{pointAt}
 use Rattle.mending.specs.Mending.{whyRun, whyTrailing, repeatsAt, trailsFrom, goesAt, staysAt, whyOf, fateOf}
-use Rattle.mending.specs.declared.Fate.{Fate}
 use Rattle.mending.specs.declared.Fate.the-variants.{Stays, Goes}
 
 -- the first stays

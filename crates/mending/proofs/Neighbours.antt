@@ -1,18 +1,17 @@
 -- No two neighbours of a mended ring are equal as numbers, the last and the first included. Assumes nothing.
-use Prim.Native.Nat.{ℕ, zero, suc, _+_, _*_, _-_, _/_, _%_, _≤_, _<_}
+use Prim.Native.Nat.{ℕ, zero, suc, _+_, _*_, _-_, _%_, _≤_, _<_}
 use mathlib.Core.Path.{_≡_, refl, sym, ap, _∙_}
-use mathlib.Core.Bool.{Bool, true, false, not}
+use mathlib.Core.Bool.{Bool, true, false}
 use mathlib.Core.List.{List, [], _∷_}
 use native.Mathlib.Omega.{arith}
 use native.Mathlib.Nat.{mod-eq-of-lt, mod-self}
 use native.Mathlib.Numerals.{add-one}
 use native.Mathlib.Decide.{decLt, decLe}
 use lib.ListN.{length, getD, List·getD-eq-default}
-use lib.Ieee.{Float, nan}
+use lib.Ieee.{Float}
 use Rattle.plane.specs.Vector.{sameOf}
-use Rattle.plane.specs.declared.Point.{Point}
 use Rattle.ring.specs.Ring.{count, pointAt, nextOf}
-use Rattle.mending.specs.Mending.{repeatsAt, trailsFrom, goesAt, staysAt, staying, verticesAt, mendedOf}
+use Rattle.mending.specs.Mending.{repeatsAt, goesAt, staysAt, staying, verticesAt, mendedOf}
 use Rattle.mending.specs.Restoring.{Differing}
 use Rattle.mending.proofs.Equal.{same-back, same-trans, refuted}
 use Rattle.mending.proofs.Trailing.{trails-at, trails-of, trails-later}

@@ -1,7 +1,7 @@
 -- The numbers of a row that pass a test, by their places: they rise, and between two neighbours, before the first and behind the last none passes.
 -- Past the end the place is the row's end. Assumes nothing.
 use Prim.Native.Nat.{ℕ, zero, suc, _+_, _≤_, _<_}
-use mathlib.Core.Path.{_≡_, refl, sym}
+use mathlib.Core.Path.{_≡_, refl}
 use mathlib.Core.Bool.{Bool, true, false}
 use mathlib.Core.List.{List, [], _∷_}
 use native.Mathlib.Omega.{arith}

@@ -1,16 +1,16 @@
 -- The dropped vertices, put back at their indices, give the ring that was lent. The step: the first i vertices of the ring with what stays of the others, and
 -- what goes of the others put back, are the ring. Assumes nothing.
-use Prim.Native.Nat.{ℕ, zero, suc, _+_, _*_, _≤_, _<_}
-use mathlib.Core.Path.{_≡_, refl, sym, ap, _∙_}
+use Prim.Native.Nat.{ℕ, zero, suc, _+_, _*_, _<_}
+use mathlib.Core.Path.{_≡_, refl, ap, _∙_}
 use mathlib.Core.Bool.{Bool, true, false}
-use mathlib.Core.List.{List, [], _∷_, _++_, append-assoc, append-nil}
+use mathlib.Core.List.{List, _∷_, _++_, append-assoc, append-nil}
 use native.Mathlib.Omega.{arith}
 use native.Mathlib.Numerals.{add-one}
-use lib.ListN.{length, take, drop, getD}
+use lib.ListN.{length, take}
 use lib.Seq.{take-suc, take-all, take-at, drop-at, length-take-le}
 use lib.Ieee.{Float, nan}
 use Rattle.ring.specs.Ring.{count, pointAt}
-use Rattle.mending.specs.Mending.{goesAt, whyOf, stayingFrom, goingFrom, verticesAt, whysAt, mendedOf, droppedOf, droppedPoints}
+use Rattle.mending.specs.Mending.{goesAt, stayingFrom, goingFrom, verticesAt, whysAt, mendedOf, droppedOf, droppedPoints}
 use Rattle.mending.specs.Restoring.{putIn, putBack}
 use Rattle.mending.proofs.Counting.{stay-here, stay-past, stay-end, go-here, go-past, go-end}
 

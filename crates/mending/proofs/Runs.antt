@@ -1,7 +1,7 @@
 -- Why a vertex goes: one of a run equals the vertex that the run begins with, and a trailing one the first. Assumes nothing.
 use Prim.Native.Nat.{ℕ, zero, suc, _-_, _≤_, _<_}
 use mathlib.Core.Path.{_≡_, refl, sym, _∙_}
-use mathlib.Core.Bool.{Bool, true, false, _||_}
+use mathlib.Core.Bool.{Bool, true, false}
 use mathlib.Core.Logic.{_⊎_, inl, inr}
 use mathlib.Core.List.{List}
 use native.Mathlib.Omega.{arith}
@@ -9,7 +9,7 @@ use native.Mathlib.Decide.{decLt}
 use lib.Ieee.{Float}
 use Rattle.plane.specs.Vector.{sameOf}
 use Rattle.ring.specs.Ring.{count, pointAt}
-use Rattle.mending.specs.Mending.{whyRun, whyTrailing, repeatsAt, trailsFrom, goesAt, whyOf}
+use Rattle.mending.specs.Mending.{whyRun, whyTrailing, repeatsAt, goesAt, whyOf}
 use Rattle.mending.specs.Restoring.{Begun}
 use Rattle.mending.proofs.Equal.{same-trans}
 use Rattle.mending.proofs.Trailing.{trails-at}

@@ -1,8 +1,7 @@
 -- Worked examples, by computation: a closing repeat behind a run, with both zeros; a ring of one value; each refusal before the next. Assumes nothing.
-use Prim.Native.Nat.{ℕ}
 use mathlib.Core.Path.{_≡_, refl}
 use mathlib.Core.List.{List, [], _∷_}
-use lib.Ieee.{Float, neg, lt, le, eq, ofBits}
+use lib.Ieee.{Float, eq, ofBits}
 use Rattle.scalar.specs.Float.{float, f0}
 use Rattle.plane.specs.Vector.{sameOf}
 use Rattle.ring.specs.Ring.{pointAt}
