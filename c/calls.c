@@ -331,6 +331,91 @@ static void copies(void) {
     CHECK(place == HELD_COUNT);
 }
 
+/* What mending is lent beside a ring, and what it told. */
+struct mended {
+    double room[7];
+    uint64_t dropped[7];
+    double points[7];
+    uint64_t vertices;
+    uint64_t count;
+    uint64_t place;
+};
+
+/* A ring, with rooms of these lengths that hold nothing of it yet. */
+static uint32_t mend(struct mended *m, const double *ring, size_t n, size_t room_n, size_t dropped_n,
+                     size_t points_n) {
+    size_t i;
+    for (i = 0; i < 7; i++) {
+        m->room[i] = m->points[i] = HELD;
+        m->dropped[i] = HELD_COUNT;
+    }
+    m->vertices = m->count = m->place = HELD_COUNT;
+    return byr_mend_ring(ring, n, m->room, room_n, m->dropped, dropped_n, m->points, points_n, &m->vertices,
+                         &m->count, &m->place);
+}
+
+/* Whether all but the place is as it was. */
+static int unmended(const struct mended *m) {
+    size_t i;
+    for (i = 0; i < 7; i++) {
+        if (m->dropped[i] != HELD_COUNT) {
+            return 0;
+        }
+    }
+    return held(m->room, 0, 7) && held(m->points, 0, 7) && m->vertices == HELD_COUNT && m->count == HELD_COUNT;
+}
+
+/* A ring, the number with which it is refused though no room holds anything, and the
+ * place afterwards. */
+struct unmendable {
+    const double *ring;
+    size_t n;
+    uint32_t number;
+    uint64_t place;
+};
+
+static const struct unmendable UNMENDABLE[] = {
+    {GOOD, 1, BYR_REFUSED_LENGTH, 0},
+    {WRONG, 7, BYR_REFUSED_LENGTH, 0},
+    {WRONG, 513, BYR_REFUSED_LENGTH, 0},
+    {GOOD, 515, BYR_REFUSED_LENGTH, 0},
+    {NULL, 0, BYR_REFUSED_FEW, 0},
+    {WRONG, 514, BYR_REFUSED_MANY, 0},
+    {GOOD, 514, BYR_REFUSED_MANY, 0},
+    {WRONG, 2, BYR_REFUSED_NUMBER, HELD_COUNT},
+    {WRONG, 512, BYR_REFUSED_NUMBER, HELD_COUNT},
+    {GOOD, 2, BYR_REFUSED_REMAINING, HELD_COUNT},
+    {GOOD, 512, BYR_REFUSED_REMAINING, HELD_COUNT},
+    {TRIANGLE, 4, BYR_REFUSED_REMAINING, HELD_COUNT},
+    {TRIANGLE, 6, BYR_REFUSED_FIT, HELD_COUNT},
+};
+
+static void mending(void) {
+    /* The third repeats the second; the last two equal the first, and the last of all the one before it. */
+    static const double drawn[12] = {0, 0, 4, 0, 4, -0.0, 0, 3, -0.0, 0, 0, -0.0};
+    static const double gone[6] = {4, -0.0, -0.0, 0, 0, -0.0};
+    static const uint64_t whys[6] = {2, BYR_WHY_RUN, 4, BYR_WHY_TRAILING, 5, BYR_WHY_RUN};
+    struct mended m;
+    size_t i;
+
+    begin("byr_mend_ring");
+    for (i = 0; i < sizeof UNMENDABLE / sizeof *UNMENDABLE; i++) {
+        row = i + 1;
+        CHECK(mend(&m, UNMENDABLE[i].ring, UNMENDABLE[i].n, 0, 0, 0) == UNMENDABLE[i].number);
+        CHECK(m.place == UNMENDABLE[i].place && unmended(&m));
+    }
+    row = 0;
+    CHECK(mend(&m, drawn, 12, 5, 6, 6) == BYR_REFUSED_FIT && unmended(&m));
+    CHECK(mend(&m, drawn, 12, 6, 5, 6) == BYR_REFUSED_FIT && unmended(&m));
+    CHECK(mend(&m, drawn, 12, 6, 6, 5) == BYR_REFUSED_FIT && unmended(&m));
+    CHECK(mend(&m, drawn, 12, 7, 7, 7) == 0 && m.vertices == 3 && m.count == 3 && m.place == HELD_COUNT);
+    CHECK(same_list(m.room, TRIANGLE, 6) && same_list(m.points, gone, 6));
+    CHECK(memcmp(m.dropped, whys, sizeof whys) == 0);
+    CHECK(held(m.room, 6, 7) && held(m.points, 6, 7) && m.dropped[6] == HELD_COUNT);
+    CHECK(mend(&m, TRIANGLE, 6, 6, 0, 0) == 0 && m.vertices == 3 && m.count == 0);
+    CHECK(same_list(m.room, TRIANGLE, 6) && held(m.points, 0, 7) && m.dropped[0] == HELD_COUNT);
+}
+
 static uint32_t lend_simple(const double *list, size_t n, uint64_t *place) {
     uint32_t simple = HELD_WORD;
     uint32_t number = byr_is_simple_polygon(list, n, &simple, place);
@@ -1517,6 +1602,7 @@ int main(void) {
     predicates();
     distances();
     copies();
+    mending();
     rings();
     whole_points();
     whole_rings();

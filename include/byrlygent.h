@@ -19,7 +19,8 @@
  * Rings are lent open: the last vertex is joined to the first. A closed drawing,
  * whose last vertex repeats the first, goes through byr_open_ring before any other
  * call. Lent as it is, the repeat counts as a vertex with an edge of no length. A
- * drawing in well-known binary is read open, and closed as it is written.
+ * drawing in well-known binary is read open, and closed as it is written. One that
+ * has corners entered twice besides goes through byr_mend_ring.
  *
  * Answers. All functions but byr_abi_version and the scalars return 0, or the
  * number of a refusal, BYR_REFUSED_. Answers are written to cells, and to rooms, on
@@ -36,8 +37,8 @@
  * of one list 1, then 8, then 9 are tested before the next is looked at. Then 2 is
  * tested of all that is lent, and then 3, 4, 5 and 6 follow in the order of their
  * numbers. A function has those that its comment names. byr_write_book goes through
- * its rings in an order of its own, byr_read_book tests 7, then 4, and byr_read_wkb
- * 10, then 4.
+ * its rings in an order of its own, byr_read_book tests 7, then 4, byr_read_wkb 10,
+ * then 4, and byr_mend_ring tests 11 before 5.
  *
  * Place. Every function that takes a list has place as its last pointer. It is
  * written with refusals 1, 8 and 9, and is then the number of the list at fault:
@@ -83,7 +84,8 @@ enum {
     BYR_REFUSED_BOOK = 7,       /* a book is wrong */
     BYR_REFUSED_FEW = 8,        /* a list has too few entries: vertices, points or rings */
     BYR_REFUSED_MANY = 9,       /* a list has too many */
-    BYR_REFUSED_WKB = 10        /* a drawing in well-known binary is wrong, or of another kind */
+    BYR_REFUSED_WKB = 10,       /* a drawing in well-known binary is wrong, or of another kind */
+    BYR_REFUSED_REMAINING = 11  /* of a mended ring fewer than three vertices remain */
 };
 
 /* Why a trace stopped. */
@@ -93,6 +95,12 @@ enum {
     BYR_STOP_SHORT_MOVE = 3, /* the move is below the smallest one */
     BYR_STOP_CLOSED = 4,     /* back at the start */
     BYR_STOP_PASSES = 5      /* passes used up */
+};
+
+/* Why byr_mend_ring drops a vertex. */
+enum {
+    BYR_WHY_RUN = 0,     /* it repeats the vertex before it */
+    BYR_WHY_TRAILING = 1 /* it begins the run that ends the ring, and equals the first vertex */
 };
 
 /* What touches, or is hit: the orbiting polygon's part is named first, and the
@@ -182,7 +190,7 @@ uint32_t byr_point_on_segment(double px, double py, double ax, double ay, double
 
 /* ---- Rings of 0 to 256 vertices. ----
  * Refusals: 1, 9, 2, and 5 where there is a room. No ring is too short, so there is
- * no 8. */
+ * no 8, but for byr_mend_ring. */
 
 /* Writes the ring mirrored at x = 0, in the other order. vertices: how many. */
 uint32_t byr_mirror_polygon(const double *ring, size_t n, double *room, size_t room_n, uint64_t *vertices,
@@ -191,6 +199,19 @@ uint32_t byr_mirror_polygon(const double *ring, size_t n, double *room, size_t r
 /* Writes the ring without its last vertex if there are more than three and the
  * last equals the first, else the ring. vertices: how many are written. */
 uint32_t byr_open_ring(const double *ring, size_t n, double *room, size_t room_n, uint64_t *vertices,
+                       uint64_t *place);
+
+/* Mends a ring of 1 to 256 vertices: of each run of neighbours that are equal as
+ * numbers, -0.0 and 0.0 being equal, the first stays, and then the vertices at the
+ * end that equal the first are dropped. Writes what stays, bit for bit; and by rising
+ * index of each dropped vertex its old index and why, BYR_WHY_, to dropped, and x and
+ * y as they were to points. vertices: how many stay; count: how many are dropped.
+ * Put back one after the other, each at its index, the dropped ones make the ring
+ * that was lent. No two neighbours of the mended ring are equal, the last and the
+ * first included. Refusals: 1, 8 for no vertex at all, 9, 2, then 11 if fewer than
+ * three stay, then 5 if one of the rooms is too short; all rooms are as they were. */
+uint32_t byr_mend_ring(const double *ring, size_t n, double *room, size_t room_n, uint64_t *dropped,
+                       size_t dropped_n, double *points, size_t points_n, uint64_t *vertices, uint64_t *count,
                        uint64_t *place);
 
 /* simple: 1 if there are three vertices or more, and no two edges meet but

@@ -1,5 +1,5 @@
 //! The answer that docs/SCOPE.md gives to each exported function but those of
-//! `book`, `wkb` and `grounds`: the refusals in their order, then the text over the
+//! `book`, `wkb`, `grounds` and `mend`: the refusals in their order, then the text over the
 //! fixed helpers.
 //! Lists are x, y alternating; a room is written on success only, at its front.
 
@@ -16,7 +16,7 @@ pub fn points_of(list: &[f64]) -> Vec<Point> {
 }
 
 /// Writes the points to the front of the room.
-fn put(room: &mut [f64], points: &[Point]) {
+pub(crate) fn put(room: &mut [f64], points: &[Point]) {
     for (place, point) in room.chunks_exact_mut(2).zip(points) {
         place[0] = point.0;
         place[1] = point.1;

@@ -80,6 +80,8 @@ pub struct Kind {
 
 /// A ring.
 pub const RING: Kind = Kind { width: 2, least: 0, most: MOST_VERTICES };
+/// A ring to mend.
+pub const MENDABLE: Kind = Kind { width: 2, least: 1, most: MOST_VERTICES };
 /// A sliding polygon.
 pub const POLYGON: Kind = Kind { width: 2, least: LEAST_VERTICES, most: MOST_VERTICES };
 /// Visited positions, or a list to simplify.

@@ -131,6 +131,19 @@ functions! {
         vertices: *mut u64,
         place: *mut u64,
     ) -> u32;
+    fn byr_mend_ring(
+        ring: *const f64,
+        n: usize,
+        room: *mut f64,
+        room_n: usize,
+        dropped: *mut u64,
+        dropped_n: usize,
+        points: *mut f64,
+        points_n: usize,
+        vertices: *mut u64,
+        count: *mut u64,
+        place: *mut u64,
+    ) -> u32;
     fn byr_is_simple_polygon(ring: *const f64, n: usize, simple: *mut u32, place: *mut u64) -> u32;
     fn byr_ring_distance(
         a: *const f64,

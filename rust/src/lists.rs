@@ -84,6 +84,11 @@ impl Entries {
         Self { list, has, least: 0, most: 256 }
     }
 
+    /// A ring of so many vertices that is to be mended: it has one at least.
+    pub(crate) fn mendable(list: List, has: usize) -> Self {
+        Self { list, has, least: 1, most: 256 }
+    }
+
     /// A list of so many points, which may have none.
     pub(crate) fn points(list: List, has: usize) -> Self {
         Self { list, has, least: 0, most: 10_001 }

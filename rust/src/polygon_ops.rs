@@ -93,6 +93,88 @@ fn copied(vertices: &[impl Into<Point> + Copy], copying: Copying) -> Result<Vec<
     Ok(points(&room, count))
 }
 
+/// Why mending drops a vertex.
+#[derive(Debug, Clone, Copy, PartialEq, Eq)]
+pub enum Why {
+    /// It repeats the vertex before it.
+    Run,
+    /// It begins the run that ends the ring, and equals the first vertex.
+    Trailing,
+}
+
+/// A vertex that mending drops.
+#[derive(Debug, Clone, Copy, PartialEq)]
+pub struct Dropped {
+    /// Its index in the ring that was lent.
+    pub index: usize,
+    /// The vertex, bit for bit.
+    pub point: Point,
+    /// Why it goes.
+    pub why: Why,
+}
+
+/// A mended ring.
+#[derive(Debug, Clone, PartialEq)]
+pub struct Mended {
+    /// The vertices that remain, bit for bit: no two neighbours of them are equal,
+    /// the last and the first included.
+    pub ring: Vec<Point>,
+    /// Those that do not, by rising index. Each inserted at its index, one after the
+    /// other, they make the ring that was lent.
+    pub dropped: Vec<Dropped>,
+}
+
+/// The ring of 1 to 256 vertices without repeated points: of each run of neighbours
+/// that are equal as numbers the first remains, and then those at the end that equal
+/// the first go. A ring of which fewer than three remain is [`Refusal::Remaining`].
+///
+/// ```
+/// use byrlygent::polygon_ops::{mend_ring, Why};
+///
+/// let drawn = [(0.0, 0.0), (4.0, 0.0), (4.0, -0.0), (0.0, 3.0), (0.0, 0.0)];
+/// let mended = mend_ring(&drawn)?;
+/// assert_eq!(mended.ring, [(0.0, 0.0), (4.0, 0.0), (0.0, 3.0)]);
+/// let told: Vec<_> = mended.dropped.iter().map(|gone| (gone.index, gone.why)).collect();
+/// assert_eq!(told, [(2, Why::Run), (4, Why::Trailing)]);
+/// let mut ring = mended.ring;
+/// mended.dropped.iter().for_each(|gone| ring.insert(gone.index, gone.point));
+/// assert_eq!(ring, drawn);
+/// # Ok::<(), byrlygent::Refusal>(())
+/// ```
+///
+/// [`Refusal::Remaining`]: crate::Refusal::Remaining
+pub fn mend_ring(vertices: &[impl Into<Point> + Copy]) -> Result<Mended> {
+    let ring = flat(vertices);
+    let n = ring.len();
+    let (mut room, mut whys, mut spots) = (vec![0.0; n], vec![0; n], vec![0.0; n]);
+    let (mut remaining, mut count, mut place) = (0, 0, 0);
+    // SAFETY: all lists are as long as is said, and all cells are there.
+    let number = unsafe {
+        ffi::byr_mend_ring(
+            ring.as_ptr(),
+            n,
+            room.as_mut_ptr(),
+            n,
+            whys.as_mut_ptr(),
+            n,
+            spots.as_mut_ptr(),
+            n,
+            &mut remaining,
+            &mut count,
+            &mut place,
+        )
+    };
+    among(&[Entries::mendable(List::Ring, vertices.len())], number, place)?;
+    let why = |number: u64| if number == 0 { Why::Run } else { Why::Trailing };
+    let dropped = whys.chunks_exact(2).zip(points(&spots, count));
+    let dropped = dropped.map(|(entry, point)| Dropped {
+        index: entry[0] as usize,
+        point,
+        why: why(entry[1]),
+    });
+    Ok(Mended { ring: points(&room, remaining), dropped: dropped.collect() })
+}
+
 /// Whether the ring has three vertices or more, and no two edges meet but
 /// neighbours, by [`segments_intersect`]. A ring with a closing repeat is not
 /// simple.

@@ -43,6 +43,8 @@ pub enum Refusal {
         /// What is wrong there.
         fault: Fault,
     },
+    /// Refusal 11: of the mended ring fewer than three vertices remain.
+    Remaining,
 }
 
 impl Refusal {
@@ -56,6 +58,7 @@ impl Refusal {
             Self::Few(_) => 8,
             Self::Many(_) => 9,
             Self::Wkb { .. } => 10,
+            Self::Remaining => 11,
         }
     }
 }
@@ -84,6 +87,10 @@ impl fmt::Display for Refusal {
             Self::Wkb { place, fault } => {
                 write!(f, "the drawing is wrong at byte {place}: {fault}")
             }
+            Self::Remaining => f.write_str(
+                "fewer than three vertices remain once repeated points are dropped: the drawing is \
+                 a point or a line",
+            ),
         }
     }
 }
@@ -107,6 +114,7 @@ pub(crate) fn plain(number: u32) -> Result<()> {
         0 => Ok(()),
         2 => Err(Refusal::Number),
         3 => Err(Refusal::Setting),
+        11 => Err(Refusal::Remaining),
         _ => unreachable!("refusal {number}: lists are whole and rooms are long enough"),
     }
 }

@@ -5,6 +5,7 @@ use byrlygent::nfp_sliding::{
     self, Contact, ContactType, Foot, Projection, SlidingNfpConfig, StopReason,
 };
 use byrlygent::outline_book::{read_book, write_book};
+use byrlygent::polygon_ops::{mend_ring, Mended, Why};
 use byrlygent::{polygon_ops, robust, scalar, Point};
 
 const S: [Point; 4] = [(0.0, 0.0), (4.0, 0.0), (4.0, 4.0), (0.0, 4.0)];
@@ -41,6 +42,21 @@ fn rings_of_no_vertex_are_taken() {
     assert_eq!(nfp_sliding::simplify_polygon(&none, TOLERANCE), Ok(vec![]));
     let selected = nfp_sliding::select_translation_vector(&[], None, (0.0, 0.0), (1.0, 0.0));
     assert_eq!(selected, None);
+}
+
+#[test]
+fn a_mended_ring_is_told_bit_for_bit() {
+    let drawn = [(0.0, 0.0), (4.0, 0.0), (4.0, -0.0), (4.0, 4.0), (-0.0, 0.0), (0.0, -0.0)];
+    let mended = mend_ring(&drawn).expect("three remain");
+    let bits =
+        |points: &[Point]| points.iter().map(|p| [p.0, p.1].map(f64::to_bits)).collect::<Vec<_>>();
+    assert_eq!(bits(&mended.ring), bits(&[drawn[0], drawn[1], drawn[3]]));
+    let told: Vec<_> = mended.dropped.iter().map(|gone| (gone.index, gone.why)).collect();
+    assert_eq!(told, [(2, Why::Run), (4, Why::Trailing), (5, Why::Run)]);
+    let mut ring = mended.ring.clone();
+    mended.dropped.iter().for_each(|gone| ring.insert(gone.index, gone.point));
+    assert_eq!(bits(&ring), bits(&drawn));
+    assert_eq!(mend_ring(&mended.ring), Ok(Mended { ring: mended.ring, dropped: vec![] }));
 }
 
 /// A program's own point.

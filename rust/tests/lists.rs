@@ -130,6 +130,19 @@ fn rings_have_0_to_256_vertices() {
 }
 
 #[test]
+fn a_ring_to_mend_has_1_to_256_vertices() {
+    let mended = |has| polygon_ops::mend_ring(&points(has)).err();
+    let none = Entries { list: List::Ring, has: 0, least: 1, most: 256 };
+    assert_eq!(mended(0), Some(Refusal::Few(none)));
+    assert_eq!(
+        [1, 2, 3, 256].map(mended),
+        [Some(Refusal::Remaining), Some(Refusal::Remaining), None, None]
+    );
+    assert_eq!(mended(257), many(List::Ring, 257, 1, 256));
+    assert_eq!(polygon_ops::mend_ring(&wrong(257)).err(), many(List::Ring, 257, 1, 256));
+}
+
+#[test]
 fn lists_of_points_have_0_to_10001() {
     let simplified = |has| nfp_sliding::simplify_polygon(&points(has), TOLERANCE).err();
     assert_eq!([0, 1, 10_001].map(simplified), [None; 3]);

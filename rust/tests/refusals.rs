@@ -45,6 +45,7 @@ fn each_refusal_says_what_to_mend() {
     }
     told(Refusal::Book { place: 56 }, &["byte 56", "write it anew"]);
     told(Refusal::Wkb { place: 1, fault: Fault::Type(6) }, &["byte 1", "type is 6"]);
+    told(Refusal::Remaining, &["fewer than three", "a point or a line"]);
 }
 
 #[test]
@@ -54,8 +55,8 @@ fn refusals_have_the_numbers_of_the_library() {
     assert_eq!(plain.map(Refusal::number), [2, 3, 6, 7]);
     let entries = Entries { list: List::Ring, has: 257, least: 0, most: 256 };
     let wkb = Refusal::Wkb { place: 0, fault: Fault::Short(0) };
-    let rest = [Refusal::Few(entries), Refusal::Many(entries), wkb];
-    assert_eq!(rest.map(Refusal::number), [8, 9, 10]);
+    let rest = [Refusal::Few(entries), Refusal::Many(entries), wkb, Refusal::Remaining];
+    assert_eq!(rest.map(Refusal::number), [8, 9, 10, 11]);
 }
 
 #[test]
@@ -131,4 +132,12 @@ fn a_stored_minus_zero_is_told_at_its_coordinate() {
         let both = with(&with(&book, after, f64::NAN), place, -0.0);
         assert_eq!(read_book(&both), Err(Refusal::Book { place }));
     }
+}
+
+#[test]
+fn a_ring_of_which_fewer_than_three_vertices_remain_is_not_mended() {
+    let line = [(0.0, 0.0), (4.0, 0.0), (4.0, -0.0), (-0.0, 0.0)];
+    assert_eq!(polygon_ops::mend_ring(&line), Err(Refusal::Remaining));
+    assert_eq!(polygon_ops::mend_ring(&[(1.0, 2.0); 256]), Err(Refusal::Remaining));
+    assert_eq!(polygon_ops::mend_ring(&[(1.0, f64::NAN); 4]), Err(Refusal::Number));
 }

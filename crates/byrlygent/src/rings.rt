@@ -1,4 +1,5 @@
 // Segments and rings: the calls of `polygon_ops.rs` and `robust.rs`.
+use handed::mended::hand_mended;
 use handed::refusal::hand_refusal;
 use handed::value::hand_count;
 use handed::value::hand_number;
@@ -9,6 +10,8 @@ ghost use mathlib.Core.Path.{_≡_};
 ghost use lib.ListN.{length};
 ghost use Rattle.plane.specs.Vector.{point};
 ghost use Rattle.handed.specs.Handed.{returned, told, toldPlace, itself, flag};
+ghost use Rattle.handed.specs.Mends.{remainingIn, droppedIn};
+ghost use Rattle.mending.specs.Calls.{mendCall, mendRoom, mendDropped, mendPoints};
 ghost use Rattle.segments.specs.Calls.{orientationCall, onSegmentCall, intersectCall};
 ghost use Rattle.ring_copies.specs.Calls.{mirrorCall, mirrorRoom, openCall, openRoom};
 ghost use Rattle.simple_polygon.specs.Calls.{isSimpleCall};
@@ -144,6 +147,47 @@ pub extern "C" fn byr_open_ring(
     ensures { λ _. ⌜ now (room .exit) ≡ openRoom (now (ring .entry)) (now (room .entry)) ⌝ }
 {
     let no = hand_count(ring_copies::calls::open_ring(ring, room), vertices);
+    hand_refusal(no, place)
+}
+
+// The ring mended in the room, and how many vertices remain; per dropped vertex its old index and why, 0 for one of a run and 1 for a trailing one,
+// in `dropped`, x and y in `points`, and how many were dropped.
+#[no_mangle]
+pub extern "C" fn byr_mend_ring(
+    ring: &[f64],
+    room: &mut [f64],
+    dropped: &mut [u64],
+    points: &mut [f64],
+    vertices: &mut u64,
+    count: &mut u64,
+    place: &mut u64,
+) -> u32
+    ensures { λ r.
+        ⌜ r ≡ returned
+        (mendCall (now (ring .entry)) (length (now (room .entry))) (length (now (dropped .entry))) (length (now (points .entry)))) ⌝ }
+    ensures { λ _.
+        ⌜ now (vertices .exit) ≡ told remainingIn
+        (mendCall (now (ring .entry)) (length (now (room .entry))) (length (now (dropped .entry))) (length (now (points .entry))))
+        (now (vertices .entry)) ⌝ }
+    ensures { λ _.
+        ⌜ now (count .exit) ≡ told droppedIn
+        (mendCall (now (ring .entry)) (length (now (room .entry))) (length (now (dropped .entry))) (length (now (points .entry))))
+        (now (count .entry)) ⌝ }
+    ensures { λ _.
+        ⌜ now (place .exit) ≡ toldPlace
+        (mendCall (now (ring .entry)) (length (now (room .entry))) (length (now (dropped .entry))) (length (now (points .entry))))
+        (now (place .entry)) ⌝ }
+    ensures { λ _. ⌜ now (room .exit) ≡ mendRoom (now (ring .entry)) (now (room .entry)) (now (dropped .entry)) (now (points .entry)) ⌝ }
+    ensures { λ _.
+        ⌜ now (dropped .exit) ≡ mendDropped (now (ring .entry)) (now (room .entry)) (now (dropped .entry)) (now (points .entry)) ⌝ }
+    ensures { λ _.
+        ⌜ now (points .exit) ≡ mendPoints (now (ring .entry)) (now (room .entry)) (now (dropped .entry)) (now (points .entry)) ⌝ }
+{
+    let no = hand_mended(
+        mending::calls::mend_ring(ring, room, dropped, points),
+        vertices,
+        count,
+    );
     hand_refusal(no, place)
 }
 

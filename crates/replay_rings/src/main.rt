@@ -3,15 +3,18 @@
 mod told;
 
 use libc::STDIN_FILENO;
+use mending::calls::mend_ring;
 use plane::Point;
 use replay::Verdict;
 use replay::after;
 use replay::begin;
 use replay::list_length;
 use replay::load;
+use replay::load_words;
 use replay::read;
 use replay::report;
 use replay::same_floats;
+use replay::same_words;
 use replay::word;
 use told::Told;
 ghost use mathlib.Core.Path.{_≡_};
@@ -116,6 +119,82 @@ fn record(header: &[u8; 56], an: usize, bn: usize, rn: usize) -> bool
     }
 }
 
+// n words of the list.
+fn words(n: usize) -> [u64; 600]
+    requires { ⌜ n ≤ 600 ⌝ }
+    ensures { λ r. ⌜ 600 ≡ length r ⌝ }
+{
+    let mut bytes = [0u8; 4800];
+    let mut list = [0u64; 600];
+    read(&mut bytes, 8 * n);
+    load_words(&bytes, n, &mut list);
+    list
+}
+
+// The length of a room of words, which stands before it.
+fn words_length() -> usize
+    ensures { λ r. ⌜ r ≤ 600 ⌝ }
+{
+    let mut bytes = [0u8; 8];
+    read(&mut bytes, 8);
+    list_length(&bytes, 0, 600)
+}
+
+// What mending answers on the first numbers of each list.
+fn mend(
+    ring: &[f64],
+    n: usize,
+    room: &mut [f64],
+    rn: usize,
+    dropped: &mut [u64],
+    dn: usize,
+    points: &mut [f64],
+    pn: usize,
+) -> Told
+    requires { ⌜ (n ≤ length (now ring)) × (rn ≤ length (now room)) × (dn ≤ length (now dropped)) × (pn ≤ length (now points)) ⌝ }
+{
+    told::mended(mend_ring(
+        &ring[..n],
+        &mut room[..rn],
+        &mut dropped[..dn],
+        &mut points[..pn],
+    ))
+}
+
+// One record of mending past its header: the second list is the room of points, whose numbers at exit follow those of the ring's room, and then the room of
+// indices and whys, its length before it.
+fn mend_record(header: &[u8; 56], n: usize, pn: usize, rn: usize) -> bool
+    requires { ⌜ (n ≤ 600) × (pn ≤ 600) × (rn ≤ 600) ⌝ }
+{
+    let ring = floats(n);
+    let mut points = floats(pn);
+    let mut room = floats(rn);
+    let left = floats(rn);
+    let points_left = floats(pn);
+    let dn = words_length();
+    let mut dropped = words(dn);
+    let dropped_left = words(dn);
+    let told = mend(&ring, n, &mut room, rn, &mut dropped, dn, &mut points, pn);
+    if !same_words(&dropped, &dropped_left, dn) {
+        return false;
+    }
+    if !same_floats(&points, &points_left, pn) {
+        return false;
+    }
+    agrees(told, header, &room, &left, rn)
+}
+
+// One record past its header, of mending or of another call.
+fn any_record(header: &[u8; 56], an: usize, bn: usize, rn: usize) -> bool
+    requires { ⌜ (an ≤ 600) × (bn ≤ 600) × (rn ≤ 600) ⌝ }
+{
+    if word(header, 0) == 14 {
+        mend_record(header, an, bn, rn)
+    } else {
+        record(header, an, bn, rn)
+    }
+}
+
 // One record: read, worked out and compared.
 fn step() -> Verdict {
     let mut header = [0u8; 56];
@@ -126,7 +205,7 @@ fn step() -> Verdict {
     let an = list_length(&header, 8, 600);
     let bn = list_length(&header, 16, 600);
     let rn = list_length(&header, 24, 600);
-    if record(&header, an, bn, rn) {
+    if any_record(&header, an, bn, rn) {
         Verdict::Agrees
     } else {
         Verdict::Differs

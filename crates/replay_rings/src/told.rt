@@ -1,4 +1,5 @@
 // What a call answers as three words: the refusal's number or 0, the value or 0, and the place that the refusal tells or 0.
+use mending::answer::Mended;
 use number_bytes::bits_of;
 use plane::Orientation;
 use projection::answer::Projected;
@@ -77,5 +78,17 @@ pub fn count(c: Count) -> Told {
     match c {
         Count::Is(n) => answered(n as u64),
         Count::Refused(r) => refused(r),
+    }
+}
+
+// Both counts in one word, the dropped ones 65,536 times.
+pub fn mended(m: Mended) -> Told {
+    match m {
+        Mended::Is(s) => {
+            let vertices = s.vertices as u64;
+            let dropped = s.dropped as u64;
+            answered(vertices % 65536 + 65536 * (dropped % 65536))
+        }
+        Mended::Refused(r) => refused(r),
     }
 }

@@ -31,6 +31,8 @@ pub const LISTS: [Checked; 7] = [
     Checked { name: "traces", share: 6, check: traces::check },
 ];
 
+/// The check of a record of every small ring to mend.
+pub use rings::check as check_rings;
 /// The check of a record of every small case in whole numbers.
 pub use whole::check as check_whole;
 

@@ -1,16 +1,17 @@
 //! Compares the static library with the oracle: `compare COUNT SEED` makes every
-//! call of the stored replay lists, every small case in whole numbers, and COUNT
-//! seeded ones besides, through both; and a million seeded roots, whatever COUNT is.
+//! call of the stored replay lists, every small case in whole numbers, every small
+//! ring to mend, and COUNT seeded ones besides, through both; and a million seeded
+//! roots, whatever COUNT is.
 //! The table counts cases by call, refusal, stop reason and ground; it ends in how
 //! many agree. The status is 1 unless all do, every exported call was made, and
 //! explanations of every ground, with hits of both kinds and dozens of other pairs
 //! at one distance, were among them.
 
-use compare::lists::{check_whole, scalars, LISTS};
+use compare::lists::{check_rings, check_whole, scalars, LISTS};
 use compare::tally::{Compared, Tally};
 use compare::{ffi, hold_interface, ABI_VERSION};
 use oracle::replay::scalars::seeded_root;
-use oracle::replay::{list, whole};
+use oracle::replay::{list, rings, whole};
 use oracle::seeded::Seeded;
 use std::collections::BTreeSet;
 use std::process::ExitCode;
@@ -29,7 +30,7 @@ fn missing(tally: &Tally) -> BTreeSet<&'static str> {
 const ROOTS: u64 = 1_000_000;
 
 /// Compares the stored records of each list, and its share of so many seeded ones; every
-/// small case in whole numbers; and the roots.
+/// small case in whole numbers, and every small ring to mend; and the roots.
 fn run(count: u64, seed: u64) -> Tally {
     let mut tally = Tally::default();
     // SAFETY: the function takes nothing.
@@ -50,6 +51,9 @@ fn run(count: u64, seed: u64) -> Tally {
     }
     for (place, record) in whole::every().enumerate() {
         tally.add(check_whole(&record), || format!("whole, small case {place}"));
+    }
+    for (place, record) in rings::every().enumerate() {
+        tally.add(check_rings(&record), || format!("rings, small ring {place} to mend"));
     }
     let seeded = &mut Seeded::new(seed);
     for place in 0..ROOTS {

@@ -9,16 +9,23 @@
 //! 9 signed_area_robust, 10 project_point_to_segment (p, a, b),
 //! 11 point_to_segment_distance (p, a, b), 12 point_on_segment (p, a, b and the
 //! tolerance), 13 the foot that project_point_to_segment tells beside its
-//! parameter. A value is a float's bits, 0 or 1, a turn as 64-bit two's
-//! complement, a number of vertices, or a foot's code; 0 where refused. The place
-//! is 0 where none is told.
+//! parameter, 14 mend_ring. A value is a float's bits, 0 or 1, a turn as 64-bit
+//! two's complement, a number of vertices, or a foot's code; 0 where refused. The
+//! place is 0 where none is told.
+//!
+//! Of mend_ring the value has the dropped vertices 65,536 times besides, list b is
+//! the room for their points, and the record goes on with that room at exit, the
+//! length of the room for their indices and whys, and this room at entry and at
+//! exit.
 
 mod corners;
 mod lists;
+mod mending;
 mod sample;
 
 use super::{answer_bits, once, refused, List};
 use crate::calls;
+use crate::mend::mend_ring;
 use crate::refusals::Answer;
 use crate::seeded::Seeded;
 
@@ -36,9 +43,12 @@ pub const PROJECT_POINT_TO_SEGMENT: u64 = 10;
 pub const POINT_TO_SEGMENT_DISTANCE: u64 = 11;
 pub const POINT_ON_SEGMENT: u64 = 12;
 pub const PROJECTED_FOOT: u64 = 13;
+pub const MEND_RING: u64 = 14;
+
+pub use mending::every;
 
 /// The names of the calls, by their number.
-const NAMES: [&str; 14] = [
+const NAMES: [&str; 15] = [
     "orientation",
     "on_segment",
     "segments_intersect",
@@ -53,6 +63,7 @@ const NAMES: [&str; 14] = [
     "point_to_segment_distance",
     "point_on_segment",
     "project_point_to_segment, the foot",
+    "mend_ring",
 ];
 
 /// Words of the header.
@@ -67,12 +78,15 @@ struct Case {
     a: Vec<f64>,
     b: Vec<f64>,
     room: Vec<f64>,
+    /// The room of a ring's report, for indices and whys.
+    dropped: Vec<u64>,
 }
 
 impl Case {
     /// A call that takes one list.
     fn of(call: u64, a: &[f64]) -> Self {
-        Self { call, a: a.to_vec(), b: Vec::new(), room: Vec::new() }
+        let (b, room, dropped) = (Vec::new(), Vec::new(), Vec::new());
+        Self { call, a: a.to_vec(), b, room, dropped }
     }
 }
 
@@ -100,22 +114,44 @@ fn answer(call: u64, a: &[f64], b: &[f64], room: &mut [f64]) -> Answer<u64> {
         PROJECTED_FOOT => {
             calls::project_point_to_segment(p(0), p(1), p(2)).map(|told| u64::from(told.1))
         }
-        _ => unreachable!("there are fourteen"),
+        _ => unreachable!("mend_ring has records of its own"),
     }
 }
 
-/// The record of a case.
-fn record(case: &Case) -> Vec<u64> {
-    let mut room = case.room.clone();
-    let answer = answer(case.call, &case.a, &case.b, &mut room);
+/// The record of a case as far as all calls have it: its answer, and the room at
+/// exit.
+fn words_of(case: &Case, answer: Answer<u64>, room: &[f64]) -> Vec<u64> {
     let [number, place] = refused(answer.err());
     let mut words = vec![case.call];
     words.extend([&case.a, &case.b, &case.room].map(|list| list.len() as u64));
     words.extend([number, answer.unwrap_or(0), place]);
-    for list in [&case.a, &case.b, &case.room, &room] {
+    for list in [&case.a[..], &case.b, &case.room, room] {
         words.extend(list.iter().map(|x| x.to_bits()));
     }
     words
+}
+
+/// The record of a ring that is mended.
+fn mended(case: &Case) -> Vec<u64> {
+    let (mut room, mut dropped, mut points) =
+        (case.room.clone(), case.dropped.clone(), case.b.clone());
+    let answer = mend_ring(&case.a, &mut room, &mut dropped, &mut points);
+    let value = |(vertices, gone): (usize, usize)| vertices as u64 + 65_536 * gone as u64;
+    let mut words = words_of(case, answer.map(value), &room);
+    words.extend(points.iter().map(|x| x.to_bits()));
+    words.push(dropped.len() as u64);
+    words.extend([&case.dropped[..], &dropped].concat());
+    words
+}
+
+/// The record of a case.
+fn record(case: &Case) -> Vec<u64> {
+    if case.call == MEND_RING {
+        return mended(case);
+    }
+    let mut room = case.room.clone();
+    let answer = answer(case.call, &case.a, &case.b, &mut room);
+    words_of(case, answer, &room)
 }
 
 /// The list, record by record, none twice.
@@ -123,6 +159,7 @@ pub fn records() -> Vec<Vec<u64>> {
     let seeded = &mut Seeded::new(0x0f17_0011);
     let mut cases = corners::cases(seeded);
     cases.extend(lists::cases(seeded));
+    cases.extend(mending::cases());
     once(cases.iter().map(record).collect())
 }
 

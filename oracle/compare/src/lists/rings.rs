@@ -1,8 +1,8 @@
 //! Segments and rings, through the library.
 
-use super::{told_place, with_cell, with_cells, Told, Words};
+use super::{on_success, told_place, with_cell, with_cells, Told, Words};
 use crate::ffi;
-use crate::lent::{floats, words, Room};
+use crate::lent::{floats, words, Cell, Room};
 use crate::tally::Compared;
 use oracle::replay::rings::{self, HEADER};
 
@@ -90,8 +90,50 @@ fn on_rings(call: u64, a: &Room<u64>, b: &Room<u64>, room: &mut Room<u64>) -> (&
     }
 }
 
+/// A record of mend_ring through the library.
+fn mended(record: &[u64]) -> Compared {
+    let (number, value, place) = (record[4], record[5], record[6]);
+    let mut rest = Words(&record[HEADER..]);
+    let (lent, spots) = (rest.take(record[1]), rest.take(record[2]));
+    let [before, after] = [0, 1].map(|_| rest.take(record[3]));
+    let spots_after = rest.take(record[2]);
+    let length = rest.take(1)[0];
+    let [whys, whys_after] = [0, 1].map(|_| rest.take(length));
+    let ring = words(lent);
+    let [mut room, mut dropped, mut points] = [before, whys, spots].map(words);
+    let (lengths, mut told) = ([room.len(), dropped.len(), points.len()], [u64::HELD; 3]);
+    let [vertices, count, at] = &mut told;
+    // SAFETY: all lists are as long as is said, and every pointer has its cell.
+    let returned = unsafe {
+        let rooms = (room.room(), dropped.room(), points.room());
+        ffi::byr_mend_ring(
+            ring.list(),
+            ring.len(),
+            rooms.0,
+            lengths[0],
+            rooms.1,
+            lengths[1],
+            rooms.2,
+            lengths[2],
+            vertices,
+            count,
+            at,
+        )
+    };
+    let [remaining, gone] = on_success(number, [value % 65_536, value / 65_536]);
+    let cells = [remaining, gone, told_place(number, place)];
+    let rooms = [after, whys_after, spots_after].map(|room| Some(room.to_vec()));
+    let oracle = (number, cells, rooms, Some(lent));
+    let left = [floats(&room), dropped.contents().map(<[u64]>::to_vec), floats(&points)];
+    let library = (u64::from(returned), told.map(Cell::told), left, ring.contents());
+    Compared::of("mend_ring", number, oracle, library)
+}
+
 /// The record's call through the library.
 pub fn check(record: &[u64]) -> Compared {
+    if record[0] == rings::MEND_RING {
+        return mended(record);
+    }
     let (number, value, place) = (record[4], record[5], record[6]);
     let mut rest = Words(&record[HEADER..]);
     let lists = [1, 2].map(|place| rest.take(record[place]));

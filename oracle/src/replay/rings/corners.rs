@@ -245,7 +245,7 @@ pub fn cases(seeded: &mut Seeded) -> Vec<Case> {
     for triple in triples(seeded) {
         all.extend(THREE_POINT_CALLS.map(|call| Case::of(call, &triple)));
     }
-    let footed = [feet(), short_segments(), edged(&feet()[0])].concat();
+    let footed = [feet(), edged(&feet()[0])].concat();
     all.extend(footed.iter().map(|list| Case::of(super::PROJECTED_FOOT, list)));
     let meeting = pairs(seeded);
     all.extend(meeting.iter().map(|pair| Case::of(super::SEGMENTS_INTERSECT, pair)));

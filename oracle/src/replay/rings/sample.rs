@@ -1,8 +1,9 @@
 //! Seeded cases for a long run.
 
 use super::corners::{seeded_in_line, seeded_list};
-use super::{Case, IS_SIMPLE_POLYGON, MIRROR_POLYGON, OPEN_RING, POINT_ON_SEGMENT, RING_DISTANCE};
-use super::{SEGMENTS_INTERSECT, SIGNED_AREA2, SIGNED_AREA_ROBUST};
+use super::mending::{lent, repeated};
+use super::{Case, IS_SIMPLE_POLYGON, MEND_RING, MIRROR_POLYGON, OPEN_RING, POINT_ON_SEGMENT};
+use super::{RING_DISTANCE, SEGMENTS_INTERSECT, SIGNED_AREA2, SIGNED_AREA_ROBUST};
 use crate::replay::polygons::{damaged, near, polygon, tolerance};
 use crate::replay::{float_room, with, EDGES};
 use crate::seeded::Seeded;
@@ -83,6 +84,12 @@ pub fn case(seeded: &mut Seeded, call: u64) -> Case {
         RING_DISTANCE => {
             let a = any_ring(seeded);
             Case { b: any_ring(seeded), ..Case::of(call, &a) }
+        }
+        MEND_RING => {
+            let whole = any_ring(seeded);
+            let ring = repeated(seeded, &whole);
+            let [room, dropped, points] = [(); 3].map(|()| near(seeded, ring.len()).min(MOST_ROOM));
+            lent(&ring, room, dropped, points)
         }
         SEGMENTS_INTERSECT => {
             let list = segments(seeded);
