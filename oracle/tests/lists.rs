@@ -1,7 +1,7 @@
 //! The replay lists in the repository are the ones that the oracle writes, keep
 //! their bounds, and hold every outcome there is.
 
-use oracle::replay::{book, bytes, list, rings, scalars, sliding, traces, whole, wkb};
+use oracle::replay::{book, bytes, discs, list, rings, scalars, sliding, traces, whole, wkb};
 use oracle::seeded::Seeded;
 use std::collections::BTreeSet;
 
@@ -49,6 +49,20 @@ fn ring_records_keep_their_bounds() {
         let [a, b, room] = [1, 2, 3].map(|place| record[place] as usize);
         assert!(a <= 600 && b <= 600 && room <= 600);
         assert_eq!(record.len(), rings::HEADER + a + b + 2 * room);
+    }
+}
+
+#[test]
+fn discs_are_as_written() {
+    as_written("replay_discs", discs::records());
+}
+
+#[test]
+fn disc_records_keep_their_bounds() {
+    for record in discs::records().into_iter().chain(long("discs", 4_000)) {
+        let [room] = lengths(&record, [1]);
+        assert!(room <= discs::MOST_ROOM);
+        assert_eq!(record.len(), discs::HEADER + 2 * room);
     }
 }
 
@@ -350,7 +364,7 @@ fn traces_end_in_every_way() {
 
 #[test]
 fn long_runs_are_decided_by_the_seed() {
-    for name in ["scalars", "rings", "whole", "book", "wkb", "sliding", "traces"] {
+    for name in ["scalars", "rings", "whole", "discs", "book", "wkb", "sliding", "traces"] {
         assert!(long(name, 50) == long(name, 50));
     }
     assert!(list("ring").is_none());

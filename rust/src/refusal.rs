@@ -43,6 +43,8 @@ pub enum Refusal {
         /// What is wrong there.
         fault: Fault,
     },
+    /// Refusal 12: a quarter of a disc cannot have so many vertices.
+    Quarter(u64),
 }
 
 impl Refusal {
@@ -56,6 +58,7 @@ impl Refusal {
             Self::Few(_) => 8,
             Self::Many(_) => 9,
             Self::Wkb { .. } => 10,
+            Self::Quarter(_) => 12,
         }
     }
 }
@@ -65,7 +68,7 @@ impl fmt::Display for Refusal {
         match self {
             Self::Number => f.write_str(
                 "a number is out of bounds: coordinates must be finite and from -1000000 to \
-                 1000000, moves and positions finite",
+                 1000000, moves and positions finite, the radius of a disc finite and above 0",
             ),
             Self::Setting => f.write_str(
                 "a setting is out of bounds: the tolerance must be above 0 and at most 1, the \
@@ -84,6 +87,11 @@ impl fmt::Display for Refusal {
             Self::Wkb { place, fault } => {
                 write!(f, "the drawing is wrong at byte {place}: {fault}")
             }
+            Self::Quarter(has) => write!(
+                f,
+                "a quarter of a disc cannot have {has} vertices: it may have 1, 2, 4, 8, 16, 32 or \
+                 64"
+            ),
         }
     }
 }

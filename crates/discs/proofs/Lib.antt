@@ -1,0 +1,6 @@
+-- The modules that belong to no one function.
+pub mod Turned
+pub mod Round
+pub mod Drawn
+pub mod Screened
+pub mod Worked

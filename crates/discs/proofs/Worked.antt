@@ -1,0 +1,1 @@
+-- Discs that are computed, so that the definitions say what they should. Assumes nothing.
