@@ -1,20 +1,19 @@
 -- The vertices go round once, counter-clockwise, by their table entries: from each entry to the next, the last to the first included, the
 -- turn about the origin is to the left, and the first quarter's lie in the first quadrant. Assumes nothing.
 use Prim.Native.Nat.{ℕ, zero, suc, _+_, _*_, _<_}
-use mathlib.Core.Path.{_≡_, refl, sym}
-use mathlib.Core.Logic.{⊎-elim}
+use mathlib.Core.Path.{_≡_, refl}
 use mathlib.Core.Bool.{Bool, true, _&&_}
 use native.Mathlib.Omega.{arith}
-use lib.Dec.{eqb}
+use native.Mathlib.Nat.{zero-add}
 use lib.IntN.{ℤ, pos, _*ℤ_}
 use lib.Signed.{ltZ, leZ}
-use borrow.Author.Tests.{eqb-true}
-use Rattle.laws.proofs.Both.{both, one-of}
+use Rattle.laws.proofs.Both.{both}
 use Rattle.ring.specs.Ring.{nextOf}
 use Rattle.ring.specs.Each.{each}
 use Rattle.disc_table.specs.Table.{tableX, tableY, entryOf}
 use Rattle.disc_table.specs.declared.Entry.{Entry}
 use Rattle.discs.specs.Disc.{quarterOk, quarterTurn, turnedBy, entryAt}
+use Rattle.discs.proofs.Seven.{of-seven}
 
 -- the turn from e to f about the origin is to the left: e.x * f.y is above f.x * e.y
 unfoldable pub turnsLeft : Entry → Entry → Bool
@@ -45,23 +44,16 @@ round m = each (leftAt m) 0 (4 * m) && each (rightAt m) 0 m
 
 -- computed for all seven
 seven : (m : ℕ) → quarterOk m ≡ true → round m ≡ true
-unfolding quarterOk round leftAt rightAt each turnsLeft firstQuadrant entryAt turnedBy quarterTurn entryOf tableX tableY
-seven m h =
-    ⊎-elim (λ t. rw (eqb-true m 1 t)) (λ h2.
-    ⊎-elim (λ t. rw (eqb-true m 2 t)) (λ h4.
-    ⊎-elim (λ t. rw (eqb-true m 4 t)) (λ h8.
-    ⊎-elim (λ t. rw (eqb-true m 8 t)) (λ h16.
-    ⊎-elim (λ t. rw (eqb-true m 16 t)) (λ h32.
-    ⊎-elim (λ t. rw (eqb-true m 32 t)) (λ t. rw (eqb-true m 64 t))
-    (one-of _ _ h32)) (one-of _ _ h16)) (one-of _ _ h8)) (one-of _ _ h4)) (one-of _ _ h2)) (one-of _ _ h)
+unfolding round leftAt rightAt each turnsLeft firstQuadrant entryAt turnedBy quarterTurn entryOf tableX tableY
+seven m h = of-seven (λ k. round k ≡ true) m refl refl refl refl refl refl refl h
 
 module _ (m : ℕ) (h : quarterOk m ≡ true) where
   -- each turn is to the left
   pub counter-clockwise : (i : ℕ) → i < 4 * m → turnsLeft (entryAt m i) (entryAt m (nextOf i (4 * m))) ≡ true
   unfolding round leftAt
-  counter-clockwise i l = each-at (leftAt m) 0 (4 * m) i (both _ _ (seven m h) .0) l
+  counter-clockwise i l = rw (zero-add i) at (each-at (leftAt m) 0 (4 * m) i (both (each (leftAt m) 0 (4 * m)) (each (rightAt m) 0 m) (seven m h) .0) l)
 
   -- and a quarter of the vertices lies in the first quadrant, so that the next quarter's lie in the next
   pub first-quarter : (j : ℕ) → j < m → firstQuadrant (entryAt m j) ≡ true
   unfolding round rightAt
-  first-quarter j l = each-at (rightAt m) 0 m j (both _ _ (seven m h) .1) l
+  first-quarter j l = rw (zero-add j) at (each-at (rightAt m) 0 m j (both (each (leftAt m) 0 (4 * m)) (each (rightAt m) 0 m) (seven m h) .1) l)

@@ -1,32 +1,21 @@
--- What the tests of the call say: which quarters are taken, and that the disc fits the room. Assumes nothing.
+-- What the tests of the call say: the quarter is one of the seven, and the disc fits the room. Assumes nothing.
 use Prim.Native.Nat.{ℕ, _*_, _≤_}
 use mathlib.Core.Path.{_≡_, refl}
-use mathlib.Core.Logic.{⊎-elim}
 use mathlib.Core.Bool.{Bool, true}
-use native.Mathlib.Omega.{arith}
-use lib.Dec.{leb, eqb}
+use mathlib.Core.List.{List}
+use lib.ListN.{take}
+use lib.Dec.{leb}
 use lib.Ieee.{Float}
-use borrow.Author.Tests.{eqb-true, leb-true}
-use Rattle.laws.proofs.Both.{one-of}
+use borrow.Author.Tests.{leb-true}
 use Rattle.plane.specs.declared.Point.{Point}
+use Rattle.ring.specs.Room.{laid}
 use Rattle.refusals.specs.Refusals.{passed, first}
 use Rattle.refusals.specs.Screens.{wrongPosition, wrongNumber, shortRoom}
 use Rattle.refusals.specs.declared.Refusal.{Refusal}
 use Rattle.refusals.proofs.Sized.{row-parts, holds}
 use Rattle.discs.specs.Disc.{quarterOk, discOf}
-use Rattle.discs.specs.Calls.{wrongQuarter, wrongRadius, ofDisc, ofVertices}
-
--- a quarter has at most 64 vertices
-pub quarter-most : (m : ℕ) → quarterOk m ≡ true → m ≤ 64
-unfolding quarterOk
-quarter-most m h =
-    ⊎-elim (λ t. omega (arith, eqb-true m 1 t)) (λ h2.
-    ⊎-elim (λ t. omega (arith, eqb-true m 2 t)) (λ h4.
-    ⊎-elim (λ t. omega (arith, eqb-true m 4 t)) (λ h8.
-    ⊎-elim (λ t. omega (arith, eqb-true m 8 t)) (λ h16.
-    ⊎-elim (λ t. omega (arith, eqb-true m 16 t)) (λ h32.
-    ⊎-elim (λ t. omega (arith, eqb-true m 32 t)) (λ t. omega (arith, eqb-true m 64 t))
-    (one-of _ _ h32)) (one-of _ _ h16)) (one-of _ _ h8)) (one-of _ _ h4)) (one-of _ _ h2)) (one-of _ _ h)
+use Rattle.discs.specs.Calls.{wrongQuarter, wrongRadius, ofDisc, ofVertices, discRefusal}
+use Rattle.discs.proofs.Drawn.{disc-front}
 
 module _ (centre : Point) (radius : Float) (m : ℕ) where
   -- what is lent passes, so the quarter is one of the seven
@@ -44,3 +33,18 @@ module _ (centre : Point) (radius : Float) (m : ℕ) where
       let q : passed (ofVertices centre radius m size) ≡ true = rw (← e, ← h) t in
       let p = row-parts (wrongNumber (discOf centre radius m)) (shortRoom (2 * (4 * m)) size) q in
       leb-true _ _ (holds (leb (2 * (4 * m)) size) 4 0 refl (p .1))
+
+  -- the tests of the code are those of the definition: what is tested is the front of the array that the disc was drawn in
+  pub tested : (size : ℕ) (d : List Float) {a b n : Refusal} {l : List Float} → l ≡ laid (discOf centre radius m) d → a ≡ wrongNumber (take (2 * (4 * m)) l)
+      → b ≡ shortRoom (2 * (4 * m)) size → n ≡ first a b → n ≡ ofVertices centre radius m size
+  unfolding ofVertices
+  tested size d e p q h = rw (h, p, q, e, disc-front centre radius m d)
+
+  -- what is copied is the disc
+  pub copied : (room d : List Float) {l out : List Float} → l ≡ laid (discOf centre radius m) d → out ≡ laid (take (2 * (4 * m)) l) room
+      → out ≡ laid (discOf centre radius m) room
+  copied room d e h = rw (h, e, disc-front centre radius m d)
+
+  pub disc-row : (size : ℕ) → discRefusal centre radius m size ≡ first (ofDisc centre radius m) (ofVertices centre radius m size)
+  unfolding discRefusal
+  disc-row size = refl

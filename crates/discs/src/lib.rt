@@ -5,17 +5,29 @@ use disc_table::Entry;
 use plane::Point;
 use ring::room::put;
 ghost use mathlib.Core.Path.{_≡_};
-ghost use Prim.Native.Nat.{_*_, _<_, _≤_};
+ghost use Prim.Native.Nat.{_*_, _^_, _<_, _≤_};
+ghost use lib.IntN.{negℤ, natAbs};
 ghost use lib.ListN.{length};
 ghost use Rattle.ring.specs.Room.{laid};
 ghost use Rattle.discs.specs.Disc.{Narrow, quarterTurn, turnedBy, entryAt, reachOf, vertexOf, discOf};
+
+// A number of an entry, negated as a whole number.
+fn negated(n: i32) -> i32
+    requires { ⌜ natAbs n ≤ 2 ^ 30 ⌝ }
+    ensures { λ r. ⌜ r ≡ negℤ n ⌝ }
+{
+    -n
+}
 
 // (X, Y) turned to (-Y, X).
 fn quarter_turn(e: Entry) -> Entry
     requires { ⌜ Narrow e ⌝ }
     ensures { λ r. ⌜ r ≡ quarterTurn e ⌝ }
 {
-    Entry { x: -e.y, y: e.x }
+    Entry {
+        x: negated(e.y),
+        y: e.x,
+    }
 }
 
 // An entry turned by up to three quarters.

@@ -55,12 +55,7 @@ fn make(header: &[u8; 56], room: &mut [f64], rn: usize) -> Count
         y: float_of(word(header, 40)),
     };
     let radius = float_of(word(header, 48));
-    discs::calls::make_disc(
-        centre,
-        radius,
-        word(header, 0) as usize,
-        &mut room[..rn],
-    )
+    discs::calls::make_disc(centre, radius, word(header, 0) as usize, &mut room[..rn])
 }
 
 // One record past its header.
