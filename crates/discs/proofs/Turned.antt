@@ -66,4 +66,4 @@ pub at-narrow : (m i : ℕ) → i < 4 * m → Narrow (entryAt m i)
 unfolding entryAt
 at-narrow m i h =
     let j : i % m < m = mod-lt i (omega arith) in
-    turned-narrow (i / m) (entryOf (i % m * 256 / m)) (entry-narrow (i % m * 256 / m) refl (place-most m (i % m) j))
+    turned-narrow _ _ (entry-narrow (i % m * 256 / m) refl (place-most m (i % m) j))
