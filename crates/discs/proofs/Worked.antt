@@ -1,15 +1,14 @@
 -- Discs that are computed, so that the definitions say what they should. Assumes nothing.
-use Prim.Native.Nat.{ℕ}
 use mathlib.Core.Path.{_≡_, refl}
-use mathlib.Core.List.{List, [], _∷_}
+use mathlib.Core.List.{[], _∷_}
 use lib.IntN.{pos, negsuc}
-use lib.Ieee.{Float, fin, neg, ofInt, ofBits, add, mul, div, lt, le, eq}
+use lib.Ieee.{Float, neg, ofInt, ofBits, add, mul, div, lt, le, eq}
 use Rattle.scalar.specs.Float.{float, f0, f1}
 use Rattle.plane.specs.Vector.{point}
 use Rattle.ring.specs.Points.{points}
-use Rattle.refusals.specs.Refusals.{refuse, none}
+use Rattle.refusals.specs.Refusals.{refuse}
 use Rattle.refusals.specs.Bounds.{coordinate, finite, every}
-use Rattle.refusals.specs.Answers.{Outcome, answers, refuses}
+use Rattle.refusals.specs.Answers.{answers, refuses}
 use Rattle.disc_table.specs.Table.{tableX, tableY, entryOf}
 use Rattle.disc_table.specs.declared.Entry.{Entry}
 use Rattle.discs.specs.Disc.{quarterOk, quarterTurn, turnedBy, entryAt, reachOf, vertexOf, discOf}
@@ -28,7 +27,6 @@ about-zero : discOf (point (neg f0) (neg f0)) f1 1 ≡ f1 ∷ f0 ∷ f0 ∷ f1 �
 unfolding f-1 discOf points vertexOf reachOf entryAt turnedBy quarterTurn entryOf tableX tableY ofInt ofBits add mul div neg
 about-zero = refl
 
--- 2, -3, 3.5
 f-3 : Float
 f-3 = neg (float 0x4008_0000_0000_0000)
 

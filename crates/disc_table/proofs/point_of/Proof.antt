@@ -1,14 +1,13 @@
 -- `disc_table::point_of` meets its contract: the constants at 2k and 2k + 1 are right. Assumes nothing.
-use Prim.Native.Nat.{ℕ, _+_, _*_, _≤_}
+use Prim.Native.Nat.{ℕ}
 use mathlib.Core.Path.{_≡_}
 use native.Mathlib.Omega.{arith}
 use borrow.Author.Needs.{needs}
 use lib.IntN.{pos}
-use lib.ListN.{getD}
 use mir.Syntax.{w32}
 use mir.Val.{SFits, toZ}
 use mir.Facts.{toZ-pos}
-use Rattle.disc_table.specs.Table.{tableX, tableY, entryOf}
+use Rattle.disc_table.specs.Table.{entryOf}
 use Rattle.disc_table.specs.declared.Entry.{Entry}
 use Rattle.disc_table.proofs.Rule.{Right, table, entry-right}
 use Rattle.disc_table.proofs.point_of.Statement.{statement}

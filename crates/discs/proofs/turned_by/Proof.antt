@@ -1,5 +1,4 @@
 -- `discs::turned_by` meets its contract: one quarter after the other. Assumes nothing.
-use Prim.Native.Nat.{ℕ}
 use mathlib.Core.Path.{_≡_}
 use native.Mathlib.Omega.{arith}
 use Rattle.discs.specs.Disc.{turnedBy}
