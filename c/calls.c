@@ -1596,6 +1596,84 @@ static void writing_wkb(void) {
     CHECK(memcmp(room, WKB, 77) == 0 && place == HELD_COUNT);
 }
 
+/* ---- Discs ---- */
+
+/* A disc that is refused with this number, in a room that is long enough, and in none
+ * with this other: nothing is written. */
+struct disc {
+    double x;
+    double y;
+    double radius;
+    uint64_t m;
+    uint32_t number;
+    uint32_t without_room;
+};
+
+static const struct disc REFUSED_DISCS[] = {
+    {1, 2, 3, 0, BYR_REFUSED_QUARTER, BYR_REFUSED_QUARTER},
+    {1, 2, 3, 3, BYR_REFUSED_QUARTER, BYR_REFUSED_QUARTER},
+    {1, 2, 3, 128, BYR_REFUSED_QUARTER, BYR_REFUSED_QUARTER},
+    {1, 2, 3, 0x100000001, BYR_REFUSED_QUARTER, BYR_REFUSED_QUARTER},
+    {NAN, 2, -3, 3, BYR_REFUSED_QUARTER, BYR_REFUSED_QUARTER},
+    {1, 2, 0.0, 1, BYR_REFUSED_NUMBER, BYR_REFUSED_NUMBER},
+    {1, 2, -0.0, 1, BYR_REFUSED_NUMBER, BYR_REFUSED_NUMBER},
+    {1, 2, -3, 2, BYR_REFUSED_NUMBER, BYR_REFUSED_NUMBER},
+    {1, 2, NAN, 2, BYR_REFUSED_NUMBER, BYR_REFUSED_NUMBER},
+    {1, 2, INFINITY, 4, BYR_REFUSED_NUMBER, BYR_REFUSED_NUMBER},
+    {NAN, 2, 3, 1, BYR_REFUSED_NUMBER, BYR_REFUSED_NUMBER},
+    {1, -INFINITY, 3, 1, BYR_REFUSED_NUMBER, BYR_REFUSED_NUMBER},
+    {999999, 0, 1.5, 64, BYR_REFUSED_NUMBER, BYR_REFUSED_NUMBER},
+    {0, -999999, 1.5, 1, BYR_REFUSED_NUMBER, BYR_REFUSED_NUMBER},
+    {1, 2, 3, 1, 0, BYR_REFUSED_ROOM},
+};
+
+static void refused_discs(void) {
+    double room[520];
+    size_t n = sizeof REFUSED_DISCS / sizeof *REFUSED_DISCS;
+    for (row = 1; row <= n; row++) {
+        const struct disc *d = &REFUSED_DISCS[row - 1];
+        uint64_t vertices = HELD_COUNT;
+        hold(room, 520);
+        CHECK(byr_make_disc(d->x, d->y, d->radius, d->m, NULL, 0, &vertices) == d->without_room);
+        CHECK(vertices == HELD_COUNT);
+        CHECK(byr_make_disc(d->x, d->y, d->radius, d->m, room, 520, &vertices) == d->number);
+        CHECK(d->number == 0 || (vertices == HELD_COUNT && held(room, 0, 520)));
+    }
+    row = 0;
+}
+
+static void discs(void) {
+    static const double four[8] = {5, 2, 3, 4, 1, 2, 3, 0};
+    static const double unit[8] = {1, 0, 0, 1, -1, 0, 0, -1};
+    static const double small = 5e-324;
+    const double x = 644245094 / 1073741824.0;
+    const double y = 858993459 / 1073741824.0;
+    const double eight[16] = {1, 0, x, y, 0, 1, -y, x, -1, 0, -x, -y, 0, -1, y, -x};
+    double room[520];
+    uint64_t vertices = HELD_COUNT;
+    size_t i;
+
+    begin("byr_make_disc");
+    refused_discs();
+    hold(room, 520);
+    CHECK(byr_make_disc(3, 2, 2, 1, room, 7, &vertices) == BYR_REFUSED_ROOM);
+    CHECK(vertices == HELD_COUNT && held(room, 0, 520));
+    CHECK(byr_make_disc(3, 2, 2, 1, room, 8, &vertices) == 0 && vertices == 4);
+    CHECK(same_list(room, four, 8) && held(room, 8, 520));
+    /* An entry 0 is +0.0, whatever the quarter and the centre's zero. */
+    CHECK(byr_make_disc(-0.0, -0.0, 1, 1, room, 520, &vertices) == 0 && same_list(room, unit, 8));
+    CHECK(byr_make_disc(0, 0, 1, 2, room, 17, &vertices) == 0 && vertices == 8);
+    CHECK(same_list(room, eight, 16) && held(room, 16, 520));
+    CHECK(byr_make_disc(0, 0, 1e6, 64, room, 511, &vertices) == BYR_REFUSED_ROOM && vertices == 8);
+    CHECK(byr_make_disc(0, 0, 1e6, 64, room, 512, &vertices) == 0 && vertices == 256);
+    CHECK(room[0] == 1e6 && room[129] == 1e6 && held(room, 512, 520));
+    /* A radius too small for its centre: all vertices are it. */
+    CHECK(byr_make_disc(1e6, -1e6, small, 64, room, 512, &vertices) == 0 && vertices == 256);
+    for (i = 0; i < 512; i += 2) {
+        CHECK(same(room[i], 1e6) && same(room[i + 1], -1e6));
+    }
+}
+
 int main(void) {
     interface();
     scalars();
@@ -1604,6 +1682,7 @@ int main(void) {
     copies();
     mending();
     rings();
+    discs();
     whole_points();
     whole_rings();
     contacts();

@@ -38,7 +38,7 @@
  * tested of all that is lent, and then 3, 4, 5 and 6 follow in the order of their
  * numbers. A function has those that its comment names. byr_write_book goes through
  * its rings in an order of its own, byr_read_book tests 7, then 4, byr_read_wkb 10,
- * then 4, and byr_mend_ring tests 11 before 5.
+ * then 4, byr_mend_ring tests 11 before 5, and byr_make_disc 12, 2, then 4.
  *
  * Place. Every function that takes a list has place as its last pointer. It is
  * written with refusals 1, 8 and 9, and is then the number of the list at fault:
@@ -78,14 +78,15 @@ enum {
     BYR_REFUSED_LENGTH = 1,     /* a list fits no whole number of entries, or the rings of a book do not add up */
     BYR_REFUSED_NUMBER = 2,     /* a lent number is out of its bounds */
     BYR_REFUSED_SETTING = 3,    /* a tolerance or another setting is out of its bounds */
-    BYR_REFUSED_ROOM = 4,       /* a room of a trace, book or drawing is too short, or not of the form asked */
+    BYR_REFUSED_ROOM = 4,       /* a room of a trace, book, drawing or disc is too short, or not of the form asked */
     BYR_REFUSED_FIT = 5,        /* the answer has more entries than its room */
     BYR_REFUSED_SHORT_PATH = 6, /* the path of a trace has under three points */
     BYR_REFUSED_BOOK = 7,       /* a book is wrong */
     BYR_REFUSED_FEW = 8,        /* a list has too few entries: vertices, points or rings */
     BYR_REFUSED_MANY = 9,       /* a list has too many */
     BYR_REFUSED_WKB = 10,       /* a drawing in well-known binary is wrong, or of another kind */
-    BYR_REFUSED_REMAINING = 11  /* of a mended ring fewer than three vertices remain */
+    BYR_REFUSED_REMAINING = 11, /* of a mended ring fewer than three vertices remain */
+    BYR_REFUSED_QUARTER = 12    /* a quarter of a disc cannot have so many vertices */
 };
 
 /* Why a trace stopped. */
@@ -229,6 +230,20 @@ uint32_t byr_signed_area2(const double *ring, size_t n, double *area2, uint64_t 
 
 /* area: the signed area by a compensated sum, 0.0 below three vertices. */
 uint32_t byr_signed_area_robust(const double *ring, size_t n, double *area, uint64_t *place);
+
+/* ---- Discs ---- */
+
+/* Writes a disc of 4 * m vertices, m being 1, 2, 4, 8, 16, 32 or 64, counter-clockwise
+ * from the vertex right of the centre (cx,cy). In the first quarter j from 0 to m - 1
+ * gives k = j * 256 / m and the whole numbers
+ *     X = 2^30 * (65536 - k*k) / (65536 + k*k),  Y = 2^30 * 512 * k / (65536 + k*k),
+ * rounded down; each next quarter turns (X,Y) to (-Y,X). The vertex is
+ * cx + radius * (X / 2^30), cy + radius * (Y / 2^30), each step rounded once: the same
+ * bits on every machine. vertices: how many. Vertices of a radius too small for its
+ * centre may be equal. Refusals: 12 for another m; 2 for a radius or centre that is not
+ * finite, a radius not above 0, a vertex that is no coordinate; 4. */
+uint32_t byr_make_disc(double cx, double cy, double radius, uint64_t m, double *room, size_t room_n,
+                       uint64_t *vertices);
 
 /* ---- Whole numbers ----
  * The same for parts with whole coordinates, each at most 1000000 in size: no float

@@ -7,13 +7,14 @@
 //! other order. `calls` gives docs/SCOPE.md's answers over `fixed`; `book` is no
 //! text of theirs, but the outline book written down from docs/SCOPE.md, `wkb` the
 //! well-known binary, `grounds` why a move is clear or not, `whole` the predicates
-//! in whole numbers, and `mend` the mending of a ring.
+//! in whole numbers, `mend` the mending of a ring, and `discs` the discs from a table.
 
 #![allow(clippy::duplicate_mod)] // The text is compiled three times on purpose.
 
 pub mod answers;
 pub mod book;
 pub mod calls;
+pub mod discs;
 pub mod explain;
 pub mod fixed;
 pub mod grounds;

@@ -1,7 +1,7 @@
 //! The replay lists in the repository are the ones that the oracle writes, keep
 //! their bounds, and hold every outcome there is.
 
-use oracle::replay::{book, bytes, list, rings, scalars, sliding, traces, whole, wkb};
+use oracle::replay::{book, bytes, discs, list, rings, scalars, sliding, traces, whole, wkb};
 use oracle::seeded::Seeded;
 use std::collections::BTreeSet;
 
@@ -56,6 +56,20 @@ fn ring_records_keep_their_bounds() {
         } else {
             assert_eq!(record.len(), common);
         }
+    }
+}
+
+#[test]
+fn discs_are_as_written() {
+    as_written("replay_discs", discs::records());
+}
+
+#[test]
+fn disc_records_keep_their_bounds() {
+    for record in discs::records().into_iter().chain(long("discs", 4_000)) {
+        let [room] = lengths(&record, [1]);
+        assert!(room <= discs::MOST_ROOM);
+        assert_eq!(record.len(), discs::HEADER + 2 * room);
     }
 }
 
@@ -367,7 +381,7 @@ fn traces_end_in_every_way() {
 
 #[test]
 fn long_runs_are_decided_by_the_seed() {
-    for name in ["scalars", "rings", "whole", "book", "wkb", "sliding", "traces"] {
+    for name in ["scalars", "rings", "whole", "discs", "book", "wkb", "sliding", "traces"] {
         assert!(long(name, 50) == long(name, 50));
     }
     assert!(list("ring").is_none());

@@ -155,6 +155,15 @@ functions! {
     ) -> u32;
     fn byr_signed_area2(ring: *const f64, n: usize, area2: *mut f64, place: *mut u64) -> u32;
     fn byr_signed_area_robust(ring: *const f64, n: usize, area: *mut f64, place: *mut u64) -> u32;
+    fn byr_make_disc(
+        cx: f64,
+        cy: f64,
+        radius: f64,
+        m: u64,
+        room: *mut f64,
+        room_n: usize,
+        vertices: *mut u64,
+    ) -> u32;
     fn byr_whole_turn(
         ax: i32,
         ay: i32,

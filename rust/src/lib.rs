@@ -1,5 +1,5 @@
 //! Byrlygent for Rust: the sliding no-fit polygon and the ring predicates of
-//! u-nesting, these also in whole numbers, the outline book, and drawings in
+//! u-nesting, these also in whole numbers, discs, the outline book, and drawings in
 //! well-known binary, over the static library that is proved in Rattle. What each
 //! call answers and refuses is proved there, for all inputs; here points are copied
 //! to plain lists of numbers and back, and refusals are put into words, and nothing
@@ -25,6 +25,8 @@
 //! edge of no length. A drawing in well-known binary is read open, and closed as it
 //! is written: [`wkb`].
 //!
+//! Discs are made here, so that they have the same bits in every drawing: [`discs`].
+//!
 //! Parts whose coordinates are whole numbers have predicates of their own, without a
 //! float: [`whole`].
 //!
@@ -45,6 +47,7 @@
 //! Each call first compares the number of the archive's interface with the one
 //! that this crate is written for, and panics where they differ.
 
+pub mod discs;
 mod ffi;
 mod lent;
 mod lists;

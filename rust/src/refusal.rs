@@ -45,6 +45,8 @@ pub enum Refusal {
     },
     /// Refusal 11: of the mended ring fewer than three vertices remain.
     Remaining,
+    /// Refusal 12: a quarter of a disc cannot have so many vertices.
+    Quarter(u64),
 }
 
 impl Refusal {
@@ -59,6 +61,7 @@ impl Refusal {
             Self::Many(_) => 9,
             Self::Wkb { .. } => 10,
             Self::Remaining => 11,
+            Self::Quarter(_) => 12,
         }
     }
 }
@@ -68,7 +71,7 @@ impl fmt::Display for Refusal {
         match self {
             Self::Number => f.write_str(
                 "a number is out of bounds: coordinates must be finite and from -1000000 to \
-                 1000000, moves and positions finite",
+                 1000000, moves and positions finite, the radius of a disc finite and above 0",
             ),
             Self::Setting => f.write_str(
                 "a setting is out of bounds: the tolerance must be above 0 and at most 1, the \
@@ -90,6 +93,11 @@ impl fmt::Display for Refusal {
             Self::Remaining => f.write_str(
                 "fewer than three vertices remain once repeated points are dropped: the drawing is \
                  a point or a line",
+            ),
+            Self::Quarter(has) => write!(
+                f,
+                "a quarter of a disc cannot have {has} vertices: it may have 1, 2, 4, 8, 16, 32 or \
+                 64"
             ),
         }
     }

@@ -1,5 +1,6 @@
 //! Each refusal, and the words that it has for a person; tests/lists.rs has those
-//! of lists with too few entries or too many, and tests/wkb.rs those of drawings.
+//! of lists with too few entries or too many, tests/discs.rs those of discs, and
+//! tests/wkb.rs those of drawings.
 
 use byrlygent::nfp_sliding::{self, compute_nfp_sliding, SlidingNfpConfig, StopReason};
 use byrlygent::outline_book::{read_book, write_book};
@@ -31,7 +32,7 @@ fn each_refusal_says_what_to_mend() {
         let text = refusal.to_string();
         assert!(parts.iter().all(|part| text.contains(part)), "{text}");
     };
-    told(Refusal::Number, &["out of bounds", "finite", "-1000000 to 1000000"]);
+    told(Refusal::Number, &["out of bounds", "finite", "-1000000 to 1000000", "above 0"]);
     told(Refusal::Setting, &["above 0 and at most 1", "not negative", "at most 10000"]);
     let reasons = [
         (StopReason::NoContact, "lost contact"),
@@ -55,8 +56,9 @@ fn refusals_have_the_numbers_of_the_library() {
     assert_eq!(plain.map(Refusal::number), [2, 3, 6, 7]);
     let entries = Entries { list: List::Ring, has: 257, least: 0, most: 256 };
     let wkb = Refusal::Wkb { place: 0, fault: Fault::Short(0) };
-    let rest = [Refusal::Few(entries), Refusal::Many(entries), wkb, Refusal::Remaining];
-    assert_eq!(rest.map(Refusal::number), [8, 9, 10, 11]);
+    let rest = [Refusal::Few(entries), Refusal::Many(entries), wkb];
+    assert_eq!(rest.map(Refusal::number), [8, 9, 10]);
+    assert_eq!([Refusal::Remaining, Refusal::Quarter(3)].map(Refusal::number), [11, 12]);
 }
 
 #[test]

@@ -1,6 +1,7 @@
 //! The replay lists, each with the check of one of its records.
 
 mod book;
+mod discs;
 mod rings;
 pub mod scalars;
 mod sliding;
@@ -21,10 +22,11 @@ pub struct Checked {
 }
 
 /// All lists; the shares add up to a hundred.
-pub const LISTS: [Checked; 7] = [
+pub const LISTS: [Checked; 8] = [
     Checked { name: "scalars", share: 12, check: scalars::check },
-    Checked { name: "rings", share: 24, check: rings::check },
+    Checked { name: "rings", share: 20, check: rings::check },
     Checked { name: "whole", share: 8, check: whole::check },
+    Checked { name: "discs", share: 4, check: discs::check },
     Checked { name: "sliding", share: 30, check: sliding::check },
     Checked { name: "book", share: 10, check: book::check },
     Checked { name: "wkb", share: 10, check: wkb::check },

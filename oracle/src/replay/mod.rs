@@ -2,6 +2,7 @@
 //! little-endian 64-bit words without a header.
 
 pub mod book;
+pub mod discs;
 mod lengths;
 mod polygons;
 pub mod rings;
@@ -66,6 +67,7 @@ pub fn list(name: &str) -> Option<List> {
         "book" => Some(book::LIST),
         "book_equal" => Some(book::EQUAL),
         "book_one" => Some(book::ONE),
+        "discs" => Some(discs::LIST),
         "sliding" => Some(sliding::LIST),
         "traces" => Some(traces::LIST),
         "whole" => Some(whole::LIST),
