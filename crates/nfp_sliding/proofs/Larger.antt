@@ -1,6 +1,6 @@
--- A bigger buffer does not change a path: where a call succeeds, or answers refusal 6, so does every call of the same polygons with larger rooms and, unless
--- its passes were used up, with a higher limit, and it stores the same points. By induction on the passes: a pass reads the path and not the room,
--- and a room that had space for a point still has. Assumes nothing.
+-- A bigger buffer does not change a path: where a call succeeds, or answers refusal 6, so does every call of the same polygons with larger
+-- rooms and, unless its passes were used up, with a higher limit, and it stores the same points. By induction on the passes: a pass reads
+-- the path and not the room, and a room that had space for a point still has. Assumes nothing.
 use Prim.Native.Nat.{ℕ, zero, suc, _+_, _*_, _-_, _≤_, _<_}
 use native.Mathlib.Omega.{arith}
 use native.Mathlib.Nat.{not-suc-le-zero}
@@ -45,18 +45,19 @@ module _ (s : Scene) (room room' : ℕ) (longer : room ≤ room') where
       → (traceOf s room k passes pose path .reason ≡ passesUsed → k' ≡ k)
       → traceOf s room' k' passes pose path ≡ traceOf s room k passes pose path
 
-  pub same-trace : (k : ℕ) → Claim k
+  pub grown-trace : (k : ℕ) → Claim k
   unfolding traceOf
-  same-trace zero k' passes pose path l f u = let e : k' ≡ 0 = u refl in rw e refl
-  same-trace (suc k) zero passes pose path l f u = absurd (not-suc-le-zero l)
-  same-trace (suc k) (suc k') passes pose path l f u = by (same-trace k) (passOf s path pose) f u
+  grown-trace zero k' passes pose path l f u = let e : k' ≡ 0 = u refl in rw e refl
+  grown-trace (suc k) zero passes pose path l f u = absurd (not-suc-le-zero l)
+  grown-trace (suc k) (suc k') passes pose path l f u = by (grown-trace k) (passOf s path pose) f u
     where
       at : ℕ → ℕ → Step → Trace
       at size n step = follow step size passes path (traceOf s size n (passes + 1))
 
       stored : Claim k → (q : Pose) (b : Bool) → ltb (room - length path) 2 ≡ b
           → cond b (ended true 0 (passes + 1) path) (traceOf s room k (passes + 1) q (path ++ coordinatesOf (q .position))) .full ≡ false
-          → (cond b (ended true 0 (passes + 1) path) (traceOf s room k (passes + 1) q (path ++ coordinatesOf (q .position))) .reason ≡ passesUsed
+          → (cond b (ended true 0 (passes + 1) path) (traceOf s room k (passes + 1) q (path ++ coordinatesOf (q .position))) .reason
+          ≡ passesUsed
           → suc k' ≡ suc k)
           → at room' k' (Store q)
           ≡ cond b (ended true 0 (passes + 1) path) (traceOf s room k (passes + 1) q (path ++ coordinatesOf (q .position)))
@@ -81,12 +82,14 @@ module _ (st orb : List Float) (s : Settings) (work : ℕ) where
   abbrev tol : Float
   tol = s .«contact_tolerance»
 
-  same-traced : (limit' work' : ℕ) → work ≤ work' → s .«max_iterations» ≤ limit' → it .full ≡ false → (it .reason ≡ passesUsed → limit' ≡ s .«max_iterations»)
+  grown-traced : (limit' work' : ℕ) → work ≤ work' → s .«max_iterations» ≤ limit' → it .full ≡ false
+      → (it .reason ≡ passesUsed → limit' ≡ s .«max_iterations»)
       → tracedOf st orb (limitedTo s limit') work' ≡ it
   unfolding tracedOf traceFrom
-  same-traced limit' work' w l f u =
+  grown-traced limit' work' w l f u =
       let start = startOf (ccwOf st) (ccwOf orb) in
-      same-trace (scene (ccwOf st) (ccwOf orb) (marginsOf s) (centroidOf (ccwOf st)) start) work work' w (s .«max_iterations») limit' 0 (atStart start)
+      grown-trace (scene (ccwOf st) (ccwOf orb) (marginsOf s) (centroidOf (ccwOf st)) start) work work' w (s .«max_iterations») limit' 0
+      (atStart start)
       (coordinatesOf start) l f u
 
   -- what a complete answer tells of the trace
@@ -119,14 +122,16 @@ module _ (st orb : List Float) (s : Settings) (work : ℕ) where
       by false e d = absurd d
 
   -- what is lent passes with the other limit and the other rooms
-  same-row : (result limit' work' result' : ℕ) → passed (ofTrace st orb s work result) ≡ true → limit' ≤ 10000 → passed (wrongWork work') ≡ true
+  same-row : (result limit' work' result' : ℕ) → passed (ofTrace st orb s work result) ≡ true → limit' ≤ 10000
+      → passed (wrongWork work') ≡ true
       → passed (wrongResult work' result') ≡ true → passed (ofTrace st orb (limitedTo s limit') work' result') ≡ true
   unfolding ofTrace settingsOk
   same-row result limit' work' result' h b w r =
       let rooms = first (wrongWork work) (wrongResult work result) in
       let a = row-parts (ofTwoPolygons st orb) (first (wrongSettings s) rooms) h in
       let c = row-parts (wrongSettings s) rooms (a .1) in
-      let p = both (toleranceOk tol) (smallestOk (s .«min_translation») && leb (s .«max_iterations») 10000) (holds (settingsOk s) 3 0 refl (c .0)) in
+      let p = both (toleranceOk tol) (smallestOk (s .«min_translation») && leb (s .«max_iterations») 10000)
+      (holds (settingsOk s) 3 0 refl (c .0)) in
       let q = both (smallestOk (s .«min_translation»)) (leb (s .«max_iterations») 10000) (p .1) in
       rw (a .0, p .0, q .0, le-leb limit' 10000 b, w) r
 
@@ -157,7 +162,8 @@ module _ (t : Trace) (tol : Float) where
   outline-counts f w = rw f (by (brief t) refl)
     where
       by : (b : Bool) → brief t ≡ b
-          → Counts (cond b (tooShort (t .passes) (t .reason)) (traces (count (simplified (t .path) tol)) (count (t .path)) (t .passes) (t .reason)))
+          → Counts (cond b (tooShort (t .passes) (t .reason)) (traces (count (simplified (t .path) tol)) (count (t .path)) (t .passes)
+          (t .reason)))
           (t .path) (cond b [] (simplified (t .path) tol))
       by true e = (let l : count (t .path) < 3 = ltb-true _ _ e in omega (arith, w), refl)
       by false e = (w, (omega (arith, simplified-even (t .path) tol (omega (arith, w)))))
@@ -173,9 +179,10 @@ larger st orb s work result limit' work' result' c g =
     let tol = s .«contact_tolerance» in
     let e = complete st orb s (length work) (length result) c in
     let ready = lent-ready st orb s (length work) (length result) refl refl (e .taken) in
-    let row = same-row st orb s (length work) (length result) limit' (length work') (length result') (e .taken) (g .bounded) (g .whole) (g .enough) in
+    let row = same-row st orb s (length work) (length result) limit' (length work') (length result') (e .taken) (g .bounded) (g .whole)
+    (g .enough) in
     let same : tracedOf st orb (limitedTo s limit') (length work') ≡ t =
-    same-traced st orb s (length work) limit' (length work') (g .longer) (g .higher) (e .left-room) (λ u. g .unless-used (e .used u)) in
+    grown-traced st orb s (length work) limit' (length work') (g .longer) (g .higher) (e .left-room) (λ u. g .unless-used (e .used u)) in
     let fits : length (t .path) ≤ length work = from-fits (ccwOf st) (ccwOf orb) s work (ready .0 .room) in
     let whole : length (t .path) ≡ 2 * count (t .path) = from-whole (ccwOf st) (ccwOf orb) s work (ready .0 .room) in
     record {

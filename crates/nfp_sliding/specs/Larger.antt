@@ -1,4 +1,4 @@
--- A trace in larger rooms and under a larger pass limit: which answers it is about, what may grow, and what stays as it is. Definitions only.
+-- A trace in larger rooms and under a larger limit: which answers this is about, what may grow, and what stays. Definitions only.
 use Prim.Native.Nat.{ℕ, _*_, _≤_, _<_}
 use mathlib.Core.Path.{_≡_}
 use mathlib.Core.Bool.{true}
