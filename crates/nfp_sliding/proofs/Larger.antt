@@ -10,7 +10,7 @@ use mathlib.Core.List.{List, [], _++_}
 use lib.ListN.{length}
 use lib.Dec.{ltb, leb}
 use lib.Ieee.{Float}
-use borrow.Author.Tests.{ltb-true, ltb-false, le-ltb, le-leb}
+use borrow.Author.Tests.{ltb-true, ltb-false, le-ltb, le-leb, leb-true}
 use Rattle.laws.proofs.Both.{both}
 use Rattle.refusals.specs.Refusals.{passed, first}
 use Rattle.refusals.specs.Bounds.{toleranceOk, smallestOk, settingsOk}
@@ -181,6 +181,7 @@ larger st orb s work result limit' work' result' c g =
     let ready = lent-ready st orb s (length work) (length result) refl refl (e .taken) in
     let row = same-row st orb s (length work) (length result) limit' (length work') (length result') (e .taken) (g .bounded) (g .whole)
     (g .enough) in
+    let enough : length work' ≤ length result' = leb-true _ _ (holds (leb (length work') (length result')) 4 0 refl (g .enough)) in
     let same : tracedOf st orb (limitedTo s limit') (length work') ≡ t =
     grown-traced st orb s (length work) limit' (length work') (g .longer) (g .higher) (e .left-room) (λ u. g .unless-used (e .used u)) in
     let fits : length (t .path) ≤ length work = from-fits (ccwOf st) (ccwOf orb) s work (ready .0 .room) in
@@ -190,8 +191,8 @@ larger st orb s work result limit' work' result' c g =
       outline = outlineOf t tol;
       answer = rw (row, same) (sym (e .answered));
       counts = rw (e .answered) (outline-counts t tol (e .left-room) whole);
-      path-fits = fits;
-      outline-fits = omega (arith, outline-short t tol, ready .1);
+      path-fits = (fits, (omega (arith, g .longer)));
+      outline-fits = ((omega (arith, outline-short t tol, ready .1)), (omega (arith, outline-short t tol, g .longer, enough)));
       stored = rw (e .taken) refl;
       stored' = rw (row, same) refl;
       written = rw (e .taken) (outline-laid t tol result (e .left-room));

@@ -54,8 +54,8 @@ pub record Unchanged (st orb : List Float) (s s' : Settings) (work result work' 
   pub outline : List Float
   pub answer : traceCall st orb s' (length work') (length result') ≡ traceCall st orb s (length work) (length result)
   pub counts : Counts (traceCall st orb s (length work) (length result)) path outline
-  pub path-fits : length path ≤ length work
-  pub outline-fits : length outline ≤ length result
+  pub path-fits : (length path ≤ length work) × (length path ≤ length work')
+  pub outline-fits : (length outline ≤ length result) × (length outline ≤ length result')
   pub stored : traceWork st orb s work (length result) ≡ laid path work
   pub stored' : traceWork st orb s' work' (length result') ≡ laid path work'
   pub written : traceResult st orb s (length work) result ≡ laid outline result
