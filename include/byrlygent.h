@@ -390,7 +390,9 @@ uint32_t byr_simplify_polygon(const double *list, size_t n, double tolerance, do
  * Refusal 5, a point was to be stored and the work room is full: it holds the
  * stored points; passes is written.
  * Refusal 6, fewer than three points at the end: the work room holds the path;
- * passes and stop are written. */
+ * passes and stop are written.
+ * Success and refusal 6 are the same, with the same points, in longer rooms and,
+ * unless stop is BYR_STOP_PASSES, with a higher max_iterations. */
 uint32_t byr_compute_nfp_sliding(const double *stationary, size_t sn, const double *orbiting, size_t on,
                                  double contact_tolerance, double min_translation, uint64_t max_iterations,
                                  double *work, size_t work_n, double *result, size_t result_n,

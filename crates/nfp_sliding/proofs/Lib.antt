@@ -3,4 +3,5 @@ pub mod Same
 pub mod Traced
 pub mod Told
 pub mod Ends
+pub mod Larger
 pub mod Worked

@@ -1,3 +1,4 @@
 -- The definitions that the contracts of nfp_sliding cite.
 pub mod Path
 pub mod Calls
+pub mod Larger

@@ -1,5 +1,5 @@
 -- The loops over the points, over plain lists and numbers: what stays of one point more, and the room as it fills. Assumes nothing.
-use Prim.Native.Nat.{ℕ, zero, suc, _+_, _*_, _-_, _≤_, _<_}
+use Prim.Native.Nat.{ℕ, zero, suc, _+_, _*_, _-_, _%_, _≤_, _<_}
 use mathlib.Core.Path.{_≡_, refl, ap, _∙_}
 use mathlib.Core.Bool.{Bool, true, false, cond}
 use mathlib.Core.List.{List, [], _∷_, _++_, append-nil}
@@ -48,6 +48,20 @@ module _ (r : List Float) (tol : Float) where
   unfolding survivors
   bounded zero = omega arith
   bounded (suc k) = rw length-append (omega (arith, bounded k, piece-most k))
+
+  -- points are kept whole
+  piece-even : (k : ℕ) → length (piece r tol k) % 2 ≡ 0
+  unfolding piece
+  piece-even k = go (staysOf r tol k)
+    where
+      go : (b : Bool) → length (cond b (getD r (2 * k) nan ∷ getD r (2 * k + 1) nan ∷ []) []) % 2 ≡ 0
+      go true = refl
+      go false = refl
+
+  pub even : (k : ℕ) → length (survivors r tol k) % 2 ≡ 0
+  unfolding survivors
+  even zero = refl
+  even (suc k) = rw length-append (omega (arith, even k, piece-even k))
 
   -- after i points k numbers are written, and the rest of the room is as it came
   pub record Gathering (d room : List Float) (k i : ℕ) : Type 0 where

@@ -12,7 +12,7 @@ use borrow.Author.Tests.{lt-ltb, le-ltb}
 use Rattle.ring.specs.Ring.{count}
 use Rattle.ring.specs.Room.{laid}
 use Rattle.simplify.specs.Simplify.{survivors, simplified}
-use Rattle.simplify.proofs.Survive.{bounded}
+use Rattle.simplify.proofs.Survive.{bounded, even}
 
 module _ (r : List Float) (tol : Float) where
   pub few : count r < 3 → simplified r tol ≡ r
@@ -53,3 +53,13 @@ module _ (r : List Float) (tol : Float) where
       go true b = omega arith
       go false true = omega arith
       go false false = omega (arith, bounded r tol (count r))
+
+  -- and it holds whole points
+  pub simplified-even : length r % 2 ≡ 0 → length (simplified r tol) % 2 ≡ 0
+  unfolding simplified
+  simplified-even h = go (ltb (count r) 3) (ltb (count (survivors r tol (count r))) 3)
+    where
+      go : (a b : Bool) → length (cond a r (cond b r (survivors r tol (count r)))) % 2 ≡ 0
+      go true b = h
+      go false true = h
+      go false false = even r tol (count r)

@@ -13,24 +13,29 @@ use crate::lent::Cell;
 use crate::tally::Compared;
 use oracle::refusals::Refusal;
 
-/// A list: its name, how large a share of a run it gets, and the check of a
-/// record.
+/// A law that calls of a record are held to, beside its answer: nothing where it
+/// says nothing of the record.
+pub type Law = fn(&[u64]) -> Option<Compared>;
+
+/// A list: its name, how large a share of a run it gets, the check of a record, and
+/// the laws that its calls are held to.
 pub struct Checked {
     pub name: &'static str,
     pub share: u64,
     pub check: fn(&[u64]) -> Compared,
+    pub laws: &'static [Law],
 }
 
 /// All lists; the shares add up to a hundred.
 pub const LISTS: [Checked; 8] = [
-    Checked { name: "scalars", share: 12, check: scalars::check },
-    Checked { name: "rings", share: 20, check: rings::check },
-    Checked { name: "whole", share: 8, check: whole::check },
-    Checked { name: "discs", share: 4, check: discs::check },
-    Checked { name: "sliding", share: 30, check: sliding::check },
-    Checked { name: "book", share: 10, check: book::check },
-    Checked { name: "wkb", share: 10, check: wkb::check },
-    Checked { name: "traces", share: 6, check: traces::check },
+    Checked { name: "scalars", share: 12, check: scalars::check, laws: &[] },
+    Checked { name: "rings", share: 20, check: rings::check, laws: &[] },
+    Checked { name: "whole", share: 8, check: whole::check, laws: &[] },
+    Checked { name: "discs", share: 4, check: discs::check, laws: &[] },
+    Checked { name: "sliding", share: 30, check: sliding::check, laws: &[] },
+    Checked { name: "book", share: 10, check: book::check, laws: &[] },
+    Checked { name: "wkb", share: 10, check: wkb::check, laws: &[] },
+    Checked { name: "traces", share: 6, check: traces::check, laws: &[traces::larger] },
 ];
 
 /// The check of a record of every small ring to mend.

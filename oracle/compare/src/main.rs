@@ -2,12 +2,13 @@
 //! call of the stored replay lists, every small case in whole numbers, every small
 //! ring to mend, and COUNT seeded ones besides, through both; and a million seeded
 //! roots, whatever COUNT is.
+//! Calls of some lists are held to laws besides, which call the library twice.
 //! The table counts cases by call, refusal, stop reason and ground; it ends in how
 //! many agree. The status is 1 unless all do, every exported call was made, and
 //! explanations of every ground, with hits of both kinds and dozens of other pairs
 //! at one distance, were among them.
 
-use compare::lists::{check_rings, check_whole, scalars, LISTS};
+use compare::lists::{check_rings, check_whole, scalars, Checked, LISTS};
 use compare::tally::{Compared, Tally};
 use compare::{ffi, hold_interface, ABI_VERSION};
 use oracle::replay::scalars::seeded_root;
@@ -29,6 +30,13 @@ fn missing(tally: &Tally) -> BTreeSet<&'static str> {
 /// How many roots are compared besides.
 const ROOTS: u64 = 1_000_000;
 
+/// Compares a record of the list, and holds its call to the laws.
+fn compare(tally: &mut Tally, checked: &Checked, record: &[u64], origin: impl Fn() -> String) {
+    tally.add((checked.check)(record), &origin);
+    let held = checked.laws.iter().filter_map(|law| law(record));
+    held.for_each(|compared| tally.add(compared, &origin));
+}
+
 /// Compares the stored records of each list, and its share of so many seeded ones; every
 /// small case in whole numbers, and every small ring to mend; and the roots.
 fn run(count: u64, seed: u64) -> Tally {
@@ -40,13 +48,13 @@ fn run(count: u64, seed: u64) -> Tally {
         let list = list(checked.name).expect("each of these is a list");
         for (place, record) in (list.stored)().iter().enumerate() {
             let origin = || format!("{}, stored record {place}", checked.name);
-            tally.add((checked.check)(record), origin);
+            compare(&mut tally, &checked, record, origin);
         }
         let seeded = &mut Seeded::new(seed);
         for place in 0..count * checked.share / 100 {
             let record = (list.long)(seeded, place);
             let origin = || format!("{}, seed {seed}, record {place}", checked.name);
-            tally.add((checked.check)(&record), origin);
+            compare(&mut tally, &checked, &record, origin);
         }
     }
     for (place, record) in whole::every().enumerate() {

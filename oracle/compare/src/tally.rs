@@ -185,6 +185,6 @@ impl fmt::Display for Tally {
         write!(f, "{}", self.explanations)?;
         self.differences.iter().try_for_each(|told| writeln!(f, "DIFFERENCE {told}"))?;
         let (cases, agree) = self.totals();
-        write!(f, "{} calls, {cases} cases, {agree} agree", self.rows.len())
+        write!(f, "{} calls and laws, {cases} cases, {agree} agree", self.rows.len())
     }
 }
