@@ -1,6 +1,7 @@
 //! The replay lists, each with the check of one of its records.
 
 mod book;
+mod mirrors;
 mod rings;
 pub mod scalars;
 mod sliding;
@@ -25,13 +26,22 @@ pub struct Checked {
     pub laws: &'static [Law],
 }
 
+/// The laws of rings and segments.
+const RINGS: [Law; 5] = [
+    mirrors::twice,
+    mirrors::rings_exchanged,
+    mirrors::segments_exchanged,
+    mirrors::segments_mirrored,
+    mirrors::area_negated,
+];
+
 /// All lists; the shares add up to a hundred.
 pub const LISTS: [Checked; 7] = [
     Checked { name: "scalars", share: 12, check: scalars::check, laws: &[] },
-    Checked { name: "rings", share: 24, check: rings::check, laws: &[] },
+    Checked { name: "rings", share: 24, check: rings::check, laws: &RINGS },
     Checked { name: "whole", share: 8, check: whole::check, laws: &[] },
     Checked { name: "sliding", share: 30, check: sliding::check, laws: &[] },
-    Checked { name: "book", share: 10, check: book::check, laws: &[] },
+    Checked { name: "book", share: 10, check: book::check, laws: &[mirrors::book_mirrored] },
     Checked { name: "wkb", share: 10, check: wkb::check, laws: &[] },
     Checked { name: "traces", share: 6, check: traces::check, laws: &[traces::larger] },
 ];
