@@ -5,4 +5,5 @@ pub mod Exchange
 pub mod Opposite
 pub mod Sides
 pub mod Area
+pub mod Terms
 pub mod Worked

@@ -25,12 +25,12 @@ pub back : {x y : Float} → Opposite x y → Opposite y x
 back (turned x) = subst (Opposite (neg x)) (neg-neg x) (turned (neg x))
 back (zeros s t) = zeros t s
 
-round-both : (a c : ℕ) → Opposite (round binary64 false a c) (round binary64 true a c)
-round-both a c = subst (Opposite (round binary64 false a c)) (sym (round-minus binary64 a c)) (turned _)
+round-neg : (s : Bool) (a c : ℕ) → round binary64 (not s) a c ≡ neg (round binary64 s a c)
+round-neg false a c = round-minus binary64 a c
+round-neg true a c = sym (ap neg (round-minus binary64 a c) ∙ neg-neg (round binary64 false a c))
 
 round-not : (s : Bool) (a c : ℕ) → Opposite (round binary64 s a c) (round binary64 (not s) a c)
-round-not false a c = round-both a c
-round-not true a c = back (round-both a c)
+round-not s a c = subst (Opposite (round binary64 s a c)) (sym (round-neg s a c)) (turned (round binary64 s a c))
 
 zero-at-one : (s : Bool) → round binary64 s 0 1 ≡ fin s 0 (pos 0)
 unfolding round
@@ -46,16 +46,17 @@ round-zeros s t a b c d e f C D = rw (round-zero s a c e C, round-zero t b d f D
 -- ---- sums
 
 -- of one sign, and of two
-one-sign : (s : Bool) (a b c : ℕ) → sum binary64 s a s b c ≡ round binary64 s (a + b) c
+pub one-sign : (s : Bool) (a b c : ℕ) → sum binary64 s a s b c ≡ round binary64 s (a + b) c
 unfolding sum
 one-sign false a b c = refl
 one-sign true a b c = refl
 
-plus-minus : (a b c : ℕ) → sum binary64 false a true b c ≡ cond (ltb a b) (round binary64 true (b - a) c) (round binary64 false (a - b) c)
+pub plus-minus : (a b c : ℕ) → sum binary64 false a true b c ≡ cond (ltb a b) (round binary64 true (b - a) c)
+    (round binary64 false (a - b) c)
 unfolding sum
 plus-minus a b c = refl
 
-minus-plus : (a b c : ℕ)
+pub minus-plus : (a b c : ℕ)
     → sum binary64 true a false b c ≡ cond (ltb a b) (round binary64 false (b - a) c) (round binary64 (ltb b a) (a - b) c)
 unfolding sum
 minus-plus a b c = refl
@@ -164,19 +165,23 @@ unlike-not true false = refl
 unlike-not false true = refl
 unlike-not false false = refl
 
-infinite : (s t b : Bool) → Opposite (cond b nan (inf (unlike s t))) (cond b nan (inf (unlike (not s) t)))
-infinite s t true = unfold neg in turned nan
-infinite s t false = rw (unlike-not s t) (unfold neg in turned (inf (unlike s t)))
+infinite-neg : (b s t : Bool) → cond b nan (inf (unlike (not s) t)) ≡ neg (cond b nan (inf (unlike s t)))
+unfolding neg
+infinite-neg true s t = refl
+infinite-neg false s t = ap inf (unlike-not s t)
 
-mul-turned : (x y : Float) → Opposite (x ⊗ y) (neg x ⊗ y)
+-- a negated factor negates the product, bit for bit
+pub mul-neg : (x y : Float) → neg x ⊗ y ≡ neg (x ⊗ y)
 unfolding mul neg
-mul-turned nan y = turned nan
-mul-turned (inf s) nan = turned nan
-mul-turned (inf s) (inf t) = infinite s t false
-mul-turned (inf s) (fin t n d) = infinite s t (eqb n 0)
-mul-turned (fin s m e) nan = turned nan
-mul-turned (fin s m e) (inf t) = infinite s t (eqb m 0)
-mul-turned (fin s m e) (fin t n d) = rw (unlike-not s t) (round-not (unlike s t) (m * up e * (n * up d)) (down e * down d))
+mul-neg nan y = refl
+mul-neg (inf s) nan = refl
+mul-neg (inf s) (inf t) = ap inf (unlike-not s t)
+mul-neg (inf s) (fin t n d) = infinite-neg (eqb n 0) s t
+mul-neg (fin s m e) nan = refl
+mul-neg (fin s m e) (inf t) = infinite-neg (eqb m 0) s t
+mul-neg (fin s m e) (fin t n d) =
+    ap (λ (b : Bool). round binary64 b (m * up e * (n * up d)) (down e * down d)) (unlike-not s t)
+    ∙ round-neg (unlike s t) (m * up e * (n * up d)) (down e * down d)
 
 zeros-mul : (s t : Bool) (y : Float) → Opposite (fin s 0 (pos 0) ⊗ y) (fin t 0 (pos 0) ⊗ y)
 unfolding mul neg
@@ -188,7 +193,7 @@ zeros-mul s t (fin u n d) =
     (omega (arith, down-pos d)) (omega (arith, down-pos d))
 
 pub mul-opposite : {x x' : Float} (y : Float) → Opposite x x' → Opposite (x ⊗ y) (x' ⊗ y)
-mul-opposite y (turned x) = mul-turned x y
+mul-opposite y (turned x) = subst (Opposite (x ⊗ y)) (sym (mul-neg x y)) (turned (x ⊗ y))
 mul-opposite y (zeros s t) = zeros-mul s t y
 
 unlike-back : (s t : Bool) → unlike s t ≡ unlike t s

@@ -60,8 +60,8 @@ even = refl
 moves : Exchanged {A = Float} 1 0 (refuses (refuse 1 0)) (refuses (refuse 1 1))
 moves = (refl, refl)
 
--- The area of a mirrored ring is added up from the other end, and may be another number: of the ring (0,0.1), (0.1,0), (0.2,0.1), (0,0.3) it
--- is 0.06, and of its mirror the next number up.
+-- The area of a mirrored ring is added up from the other end, and may be another number: of the ring (0,0.1), (0.1,0), (0.2,0.1), (0,0.3)
+-- it is 0.06, and of its mirror the next number up.
 abbrev tenth : Float
 tenth = float 0x3fb9_9999_9999_999a
 
