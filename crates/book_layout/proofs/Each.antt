@@ -9,7 +9,7 @@ use Rattle.number_bytes.specs.Bytes.{Each}
 use Rattle.number_bytes.proofs.Each.{each-take, each-drop}
 
 module _ {A : Type 0} (P : A → Type 0) where
-  each-append : (l m : List A) → Each P l → Each P m → Each P (l ++ m)
+  pub each-append : (l m : List A) → Each P l → Each P m → Each P (l ++ m)
   each-append [] m h k = k
   each-append (a ∷ l) m h k = (h .0, each-append l m (h .1) k)
 

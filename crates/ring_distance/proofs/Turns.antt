@@ -26,7 +26,7 @@ pub to : {s r q : Float} → Squares s r → r ≡ q → Squares s q
 to S e = record { square = S .square; is = S .is ∙ e }
 
 -- a segment more
-with-segment : (p a b : Point) {s r t : Float} → Squares s r → t ≡ nearerOf s (squaredDistance p a b)
+pub with-segment : (p a b : Point) {s r t : Float} → Squares s r → t ≡ nearerOf s (squaredDistance p a b)
     → Squares t (smallerOf r (segmentDistanceOf p a b))
 unfolding squaredFrom dotOf
 with-segment p a b S e =

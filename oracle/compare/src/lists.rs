@@ -2,6 +2,7 @@
 
 mod book;
 mod discs;
+mod mirrors;
 mod rings;
 pub mod scalars;
 mod sliding;
@@ -26,14 +27,23 @@ pub struct Checked {
     pub laws: &'static [Law],
 }
 
+/// The laws of rings and segments.
+const RINGS: [Law; 5] = [
+    mirrors::twice,
+    mirrors::rings_exchanged,
+    mirrors::segments_exchanged,
+    mirrors::segments_mirrored,
+    mirrors::area_negated,
+];
+
 /// All lists; the shares add up to a hundred.
 pub const LISTS: [Checked; 8] = [
     Checked { name: "scalars", share: 12, check: scalars::check, laws: &[] },
-    Checked { name: "rings", share: 20, check: rings::check, laws: &[] },
+    Checked { name: "rings", share: 20, check: rings::check, laws: &RINGS },
     Checked { name: "whole", share: 8, check: whole::check, laws: &[] },
     Checked { name: "discs", share: 4, check: discs::check, laws: &[] },
     Checked { name: "sliding", share: 30, check: sliding::check, laws: &[] },
-    Checked { name: "book", share: 10, check: book::check, laws: &[] },
+    Checked { name: "book", share: 10, check: book::check, laws: &[mirrors::book_mirrored] },
     Checked { name: "wkb", share: 10, check: wkb::check, laws: &[] },
     Checked { name: "traces", share: 6, check: traces::check, laws: &[traces::larger] },
 ];

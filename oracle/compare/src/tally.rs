@@ -39,7 +39,7 @@ impl Compared {
         let number = u32::try_from(number).expect("a refusal's number is small");
         let difference = (oracle != library).then(|| {
             let [oracle, library] = [format!("{oracle:x?}"), format!("{library:x?}")];
-            format!("{call}: the oracle has {oracle:.MOST$}, the library {library:.MOST$}")
+            format!("{call}: expected {oracle:.MOST$}, the library has {library:.MOST$}")
         });
         Self { call, number, stop: None, explained: None, difference }
     }

@@ -1,8 +1,8 @@
 //! The outline book, through the library.
 
-use super::{told_place, Words, BYTE};
+use super::{told_place, with_cells, Told, Words, BYTE};
 use crate::ffi;
-use crate::lent::{words, Cell, Room};
+use crate::lent::{words, Room};
 use crate::tally::Compared;
 use oracle::replay::book::{HEADER, WRITE};
 
@@ -10,37 +10,48 @@ use oracle::replay::book::{HEADER, WRITE};
 const COUNT: u32 = 0xdead_beef;
 
 /// So many counts, a word each.
-fn counts(rest: &mut Words, length: u64) -> Vec<u32> {
+pub fn taken(rest: &mut Words, length: u64) -> Vec<u32> {
     rest.take(length).iter().map(|&word| word as u32).collect()
+}
+
+/// What the library tells of writing these rings, with these counts, to the room.
+pub fn write(list: &Room<u64>, counts: &Room<u32>, room: &mut Room<u8>) -> Told {
+    let (room_n, n, rings) = (room.len(), list.len(), counts.len());
+    let (list, counts, room) = (list.list(), counts.list(), room.room());
+    // SAFETY: all lists are as long as is said, and every pointer has its cell.
+    with_cells(|length, place| unsafe {
+        ffi::byr_write_book(list, n, counts, rings, room, room_n, length, place)
+    })
+}
+
+/// What the library tells of reading this file to rooms for numbers and counts.
+pub fn read(file: &Room<u8>, numbers: &mut Room<u64>, counts: &mut Room<u32>) -> Told {
+    let (file_n, numbers_n, counts_n) = (file.len(), numbers.len(), counts.len());
+    let (file, numbers, counts) = (file.list(), numbers.room(), counts.room());
+    // SAFETY: all lists are as long as is said, and every pointer has its cell.
+    with_cells(|rings, place| unsafe {
+        ffi::byr_read_book(file, file_n, numbers, numbers_n, counts, counts_n, rings, place)
+    })
+}
+
+/// Counts, between margins.
+pub fn vertices(counts: &[u32]) -> Room<u32> {
+    Room::new(counts, COUNT)
 }
 
 /// A call to write, through the library.
 fn writing(record: &[u64]) -> Compared {
     let (number, value, at) = (record[5], record[6], record[7]);
     let mut rest = Words(&record[HEADER..]);
-    let (coordinates, vertices) = (rest.take(record[1]), counts(&mut rest, record[2]));
+    let (coordinates, counts) = (rest.take(record[1]), taken(&mut rest, record[2]));
     let [before, after] = [0, 1].map(|_| rest.bytes(record[3]));
-    let (list, lent) = (words(coordinates), Room::new(&vertices, COUNT));
+    let (list, lent) = (words(coordinates), vertices(&counts));
     let mut room = Room::new(&before, BYTE);
-    let (room_n, mut length, mut place) = (room.len(), u64::HELD, u64::HELD);
-    // SAFETY: all lists are as long as is said, and every pointer has its cell.
-    let returned = unsafe {
-        ffi::byr_write_book(
-            list.list(),
-            list.len(),
-            lent.list(),
-            lent.len(),
-            room.room(),
-            room_n,
-            &mut length,
-            &mut place,
-        )
-    };
+    let (returned, length, place) = write(&list, &lent, &mut room);
     let told = [(number == 0).then_some(value), told_place(number, at)];
-    let oracle = (number, told, Some(&after[..]), Some(coordinates), Some(&vertices[..]));
+    let oracle = (number, told, Some(&after[..]), Some(coordinates), Some(&counts[..]));
     let read = (list.contents(), lent.contents());
-    let cells = [length.told(), place.told()];
-    let library = (u64::from(returned), cells, room.contents(), read.0, read.1);
+    let library = (u64::from(returned), [length, place], room.contents(), read.0, read.1);
     Compared::of("write_book", number, oracle, library)
 }
 
@@ -49,31 +60,17 @@ fn reading(record: &[u64]) -> Compared {
     let (number, value, at) = (record[5], record[6], record[7]);
     let mut rest = Words(&record[HEADER..]);
     let file = rest.bytes(record[1]);
-    let [before, after] = [0, 1].map(|_| (rest.take(record[3]), counts(&mut rest, record[4])));
+    let [before, after] = [0, 1].map(|_| (rest.take(record[3]), taken(&mut rest, record[4])));
     let book = Room::new(&file, BYTE);
-    let (mut numbers, mut vertices) = (words(before.0), Room::new(&before.1, COUNT));
-    let (numbers_n, vertices_n) = (numbers.len(), vertices.len());
-    let (mut rings, mut place) = (u64::HELD, u64::HELD);
-    // SAFETY: all lists are as long as is said, and every pointer has its cell.
-    let returned = unsafe {
-        ffi::byr_read_book(
-            book.list(),
-            book.len(),
-            numbers.room(),
-            numbers_n,
-            vertices.room(),
-            vertices_n,
-            &mut rings,
-            &mut place,
-        )
-    };
+    let (mut numbers, mut counts) = (words(before.0), vertices(&before.1));
+    let (returned, rings, place) = read(&book, &mut numbers, &mut counts);
     let told = [(number == 0).then_some(value), told_place(number, at)];
     let oracle = (number, told, Some(after.0), Some(&after.1[..]), Some(&file[..]));
     let library = (
         u64::from(returned),
-        [rings.told(), place.told()],
+        [rings, place],
         numbers.contents(),
-        vertices.contents(),
+        counts.contents(),
         book.contents(),
     );
     Compared::of("read_book", number, oracle, library)

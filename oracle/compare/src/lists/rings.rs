@@ -7,7 +7,12 @@ use crate::tally::Compared;
 use oracle::replay::rings::{self, HEADER};
 
 /// The name of the call and what the library answers; writes the room.
-fn answer(call: u64, a: &Room<u64>, b: &Room<u64>, room: &mut Room<u64>) -> (&'static str, Told) {
+pub fn answer(
+    call: u64,
+    a: &Room<u64>,
+    b: &Room<u64>,
+    room: &mut Room<u64>,
+) -> (&'static str, Told) {
     if matches!(call, rings::MIRROR_POLYGON..=rings::SIGNED_AREA_ROBUST) {
         on_rings(call, a, b, room)
     } else {

@@ -34,7 +34,7 @@ fn input(a: &[Point], b: &[Point], point: Point) -> Input {
 }
 
 /// Every list of n of these numbers as x, y alternating, last number fastest.
-fn all_rings(n: usize, numbers: &[f64]) -> Vec<Vec<Point>> {
+pub fn all_rings(n: usize, numbers: &[f64]) -> Vec<Vec<Point>> {
     let k = numbers.len();
     let digit = |code: usize, place: usize| numbers[code / k.pow(place as u32) % k];
     let corner = |code: usize, i: usize| {

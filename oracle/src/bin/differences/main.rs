@@ -5,6 +5,7 @@
 mod answers;
 mod findings;
 mod inputs;
+mod mirrors;
 
 use answers::{Answer, Function, FUNCTIONS, PASSES};
 use inputs::Input;
@@ -95,4 +96,5 @@ fn main() {
     report(&groups, |function| function.swapped);
     println!("\n== findings");
     findings::print();
+    mirrors::print();
 }

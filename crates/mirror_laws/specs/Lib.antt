@@ -1,0 +1,3 @@
+-- The definitions that the mirror laws cite.
+pub mod Mirrored
+pub mod Exchanged
