@@ -1,0 +1,7 @@
+-- The modules that belong to no one function.
+pub mod Places
+pub mod Laying
+pub mod Screened
+pub mod Counts
+pub mod Rounds
+pub mod Inspections
