@@ -1,6 +1,6 @@
 -- The theorems over shifts on one path with one k: the places of one differ; so many as n divided by k, rounded up, inspect every place, from any
 -- start; and from start 0 no place is inspected more than once oftener than another. Assumes nothing.
-use Prim.Native.Nat.{ℕ, zero, suc, _+_, _*_, _-_, _≤_, _<_}
+use Prim.Native.Nat.{ℕ, zero, suc, _+_, _*_, _-_, _%_, _≤_, _<_}
 use mathlib.Core.Path.{_≡_, refl, sym}
 use native.Mathlib.Omega.{arith}
 use native.Mathlib.Nat.{lt-div-mul-add}
@@ -9,7 +9,7 @@ use lib.ListN.{length, getD}
 use borrow.Author.Tests.{le-leb, lt-leb}
 use Rattle.inspection.specs.Places.{placeAfter, placesFrom, perShift, shiftPlaces, followingStart}
 use Rattle.inspection.specs.Shifts.{shiftsFrom, timesIn, times, roundedUp}
-use Rattle.inspection.proofs.Places.{after-below, places-length, place-at, On, on}
+use Rattle.inspection.proofs.Places.{after-below, places-length, place-at, On, on, remainder}
 use Rattle.inspection.proofs.Counts.{run-times}
 use Rattle.inspection.proofs.Rounds.{Gone, gone, meets}
 
@@ -29,6 +29,24 @@ module _ (n k : ℕ) where
       go : Dec (k ≤ n) → perShift n k ≤ n
       go (yes h) = omega (arith, takes-k h)
       go (no h) = omega (arith, takes-all (omega arith))
+
+  -- the following start is a place of the path: the start and the shift's places on, taken round
+  pub following-is : (start : ℕ) → start < n → followingStart n k start ≡ (start + perShift n k) % n
+  following-is start h = remainder n start (perShift n k) h per-most
+
+  pub following-below : (start : ℕ) → start < n → followingStart n k start < n
+  following-below start h = after-below n start (perShift n k) h
+
+  -- a shift that inspects all leaves the start where it is
+  pub stays : (start : ℕ) → start < n → n ≤ k → followingStart n k start ≡ start
+  stays start h l = go (decLe k n)
+    where
+      round : placeAfter n start n ≡ start
+      round = omega (arith, on n start n h (omega arith) .past (omega arith))
+
+      go : Dec (k ≤ n) → followingStart n k start ≡ start
+      go (yes q) = let e : perShift n k ≡ n = omega (arith, takes-k q) in rw e round
+      go (no q) = rw (takes-all (omega arith)) round
 
   -- two places of one shift differ
   pub differ : (start i j : ℕ) → start < n → i < length (shiftPlaces n k start) → j < length (shiftPlaces n k start)

@@ -5,3 +5,5 @@ pub mod Screened
 pub mod Counts
 pub mod Rounds
 pub mod Inspections
+pub mod Runs
+pub mod Worked

@@ -1,9 +1,10 @@
 -- The places of a path from one of them on: each is below n, so many are so many, and the i-th is i on, taken round once. Assumes nothing.
-use Prim.Native.Nat.{ℕ, zero, suc, _+_, _-_, _≤_, _<_}
+use Prim.Native.Nat.{ℕ, zero, suc, _+_, _%_, _≤_, _<_}
 use mathlib.Core.Path.{_≡_, refl, sym, _∙_}
 use mathlib.Core.List.{List, [], _∷_, _++_}
 use native.Mathlib.Omega.{arith}
-use native.Mathlib.Decide.{decLt, decLe}
+use native.Mathlib.Nat.{mod-eq-of-lt, add-mod-right}
+use native.Mathlib.Decide.{decLt}
 use lib.ListN.{length, getD, length-append, List·getD-append}
 use lib.Seq.{getD-at}
 use borrow.Author.Tests.{lt-ltb, le-ltb}
@@ -47,12 +48,12 @@ place-at n p (suc m) i h = go (decLt i m) (place-at n p m i)
         let e : m ≡ i = omega arith in
         rw (← e) (getD-at (placesFrom n p m) (placeAfter n p m) [] 0 m (places-length n p m))
 
--- fewer than n places on: the sum, or the sum less n
+-- up to n places on: the sum, or the sum less n
 pub record On (n p i at : ℕ) : Type 0 where
   pub short : p + i < n → at ≡ p + i
   pub past : n ≤ p + i → at + n ≡ p + i
 
-one-more : (n p i at : ℕ) → p < n → suc i < n → On n p i at → On n p (suc i) (nextPlace n at)
+one-more : (n p i at : ℕ) → p < n → suc i ≤ n → On n p i at → On n p (suc i) (nextPlace n at)
 one-more n p i at h l before =
     record {
       short = λ s. omega (arith, before .short (omega arith), one-on n at (omega (arith, before .short (omega arith))));
@@ -63,7 +64,20 @@ one-more n p i at h l before =
     go (yes s) t = let e = before .short s in omega (arith, round n at (omega arith))
     go (no s) t = let e = before .past (omega arith) in omega (arith, one-on n at (omega arith))
 
-pub on : (n p i : ℕ) → p < n → i < n → On n p i (placeAfter n p i)
+pub on : (n p i : ℕ) → p < n → i ≤ n → On n p i (placeAfter n p i)
 unfolding placeAfter
 on n p zero h l = record { short = λ s. omega arith; past = λ s. omega arith }
 on n p (suc i) h l = one-more n p i (placeAfter n p i) h l (on n p i h (omega arith))
+
+-- which is the remainder of the sum
+pub remainder : (n p i : ℕ) → p < n → i ≤ n → placeAfter n p i ≡ (p + i) % n
+remainder n p i h l = go (decLt (p + i) n)
+  where
+    at : On n p i (placeAfter n p i)
+    at = on n p i h l
+
+    go : Dec (p + i < n) → placeAfter n p i ≡ (p + i) % n
+    go (yes s) = at .short s ∙ sym (mod-eq-of-lt s)
+    go (no s) =
+        let e : p + i ≡ placeAfter n p i + n = sym (at .past (omega arith)) in
+        rw (e, add-mod-right) (sym (mod-eq-of-lt (after-below n p i h)))

@@ -83,7 +83,7 @@ gone n (suc L) h = one-further n L (gone n L h)
 -- the stretch from the first place on is that up to the start, and then the one from there
 led : (n start L p : ℕ) → start < n → timesIn p (placesFrom n 0 (start + L)) ≡ timesIn p (placesFrom n 0 start) + timesIn p (placesFrom n start L)
 led n start L p h =
-    let e : placeAfter n 0 start ≡ start = omega (arith, on n 0 start (omega arith) h .short (omega arith)) in
+    let e : placeAfter n 0 start ≡ start = omega (arith, on n 0 start (omega arith) (omega arith) .short (omega arith)) in
     rw (places-more n 0 start L, e) (times-append p (placesFrom n 0 start) (placesFrom n start L))
 
 -- up to the start no place is met twice, and none from the start on at all
