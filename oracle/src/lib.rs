@@ -6,8 +6,8 @@
 //! text and of Rust's library, `swapped` the fixed ones with the two zeros in the
 //! other order. `calls` gives docs/SCOPE.md's answers over `fixed`; `book` is no
 //! text of theirs, but the outline book written down from docs/SCOPE.md, `wkb` the
-//! well-known binary, `grounds` why a move is clear or not, and `whole` the
-//! predicates in whole numbers.
+//! well-known binary, `grounds` why a move is clear or not, `whole` the predicates in
+//! whole numbers, and `inspection` the places that a shift inspects.
 
 #![allow(clippy::duplicate_mod)] // The text is compiled three times on purpose.
 
@@ -17,6 +17,7 @@ pub mod calls;
 pub mod explain;
 pub mod fixed;
 pub mod grounds;
+pub mod inspection;
 pub mod printer;
 pub mod refusals;
 pub mod replay;

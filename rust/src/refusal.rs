@@ -43,6 +43,9 @@ pub enum Refusal {
         /// What is wrong there.
         fault: Fault,
     },
+    /// Refusal 13: the places of a path or of a shift, or the start, are out of their
+    /// bounds.
+    Inspection,
 }
 
 impl Refusal {
@@ -56,6 +59,7 @@ impl Refusal {
             Self::Few(_) => 8,
             Self::Many(_) => 9,
             Self::Wkb { .. } => 10,
+            Self::Inspection => 13,
         }
     }
 }
@@ -84,6 +88,10 @@ impl fmt::Display for Refusal {
             Self::Wkb { place, fault } => {
                 write!(f, "the drawing is wrong at byte {place}: {fault}")
             }
+            Self::Inspection => f.write_str(
+                "the inspection is out of bounds: a path must have 1 to 10001 places, a shift 1 \
+                 to 64, and the start must be below the path's number",
+            ),
         }
     }
 }
@@ -107,6 +115,7 @@ pub(crate) fn plain(number: u32) -> Result<()> {
         0 => Ok(()),
         2 => Err(Refusal::Number),
         3 => Err(Refusal::Setting),
+        13 => Err(Refusal::Inspection),
         _ => unreachable!("refusal {number}: lists are whole and rooms are long enough"),
     }
 }

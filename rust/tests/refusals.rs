@@ -45,6 +45,7 @@ fn each_refusal_says_what_to_mend() {
     }
     told(Refusal::Book { place: 56 }, &["byte 56", "write it anew"]);
     told(Refusal::Wkb { place: 1, fault: Fault::Type(6) }, &["byte 1", "type is 6"]);
+    told(Refusal::Inspection, &["1 to 10001 places", "1 to 64", "start must be below"]);
 }
 
 #[test]
@@ -54,8 +55,8 @@ fn refusals_have_the_numbers_of_the_library() {
     assert_eq!(plain.map(Refusal::number), [2, 3, 6, 7]);
     let entries = Entries { list: List::Ring, has: 257, least: 0, most: 256 };
     let wkb = Refusal::Wkb { place: 0, fault: Fault::Short(0) };
-    let rest = [Refusal::Few(entries), Refusal::Many(entries), wkb];
-    assert_eq!(rest.map(Refusal::number), [8, 9, 10]);
+    let rest = [Refusal::Few(entries), Refusal::Many(entries), wkb, Refusal::Inspection];
+    assert_eq!(rest.map(Refusal::number), [8, 9, 10, 13]);
 }
 
 #[test]

@@ -2,3 +2,4 @@
 pub mod Handed
 pub mod Explanations
 pub mod Traces
+pub mod Places

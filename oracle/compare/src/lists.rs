@@ -1,6 +1,7 @@
 //! The replay lists, each with the check of one of its records.
 
 mod book;
+pub mod places;
 mod rings;
 pub mod scalars;
 mod sliding;
@@ -21,13 +22,14 @@ pub struct Checked {
 }
 
 /// All lists; the shares add up to a hundred.
-pub const LISTS: [Checked; 7] = [
+pub const LISTS: [Checked; 8] = [
     Checked { name: "scalars", share: 12, check: scalars::check },
     Checked { name: "rings", share: 24, check: rings::check },
     Checked { name: "whole", share: 8, check: whole::check },
-    Checked { name: "sliding", share: 30, check: sliding::check },
+    Checked { name: "sliding", share: 29, check: sliding::check },
     Checked { name: "book", share: 10, check: book::check },
     Checked { name: "wkb", share: 10, check: wkb::check },
+    Checked { name: "places", share: 1, check: places::check },
     Checked { name: "traces", share: 6, check: traces::check },
 ];
 

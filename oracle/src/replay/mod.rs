@@ -3,6 +3,7 @@
 
 pub mod book;
 mod lengths;
+pub mod places;
 mod polygons;
 pub mod rings;
 pub mod scalars;
@@ -66,6 +67,7 @@ pub fn list(name: &str) -> Option<List> {
         "book" => Some(book::LIST),
         "book_equal" => Some(book::EQUAL),
         "book_one" => Some(book::ONE),
+        "places" => Some(places::LIST),
         "sliding" => Some(sliding::LIST),
         "traces" => Some(traces::LIST),
         "whole" => Some(whole::LIST),
