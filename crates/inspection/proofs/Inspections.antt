@@ -1,7 +1,7 @@
 -- The theorems over shifts on one path with one k: the places of one differ; so many as n divided by k, rounded up, inspect every place, from any
 -- start; and from start 0 no place is inspected more than once oftener than another. Assumes nothing.
 use Prim.Native.Nat.{ℕ, zero, suc, _+_, _*_, _-_, _%_, _≤_, _<_}
-use mathlib.Core.Path.{_≡_, refl, sym}
+use mathlib.Core.Path.{_≡_, refl}
 use native.Mathlib.Omega.{arith}
 use native.Mathlib.Nat.{lt-div-mul-add}
 use native.Mathlib.Decide.{decLt, decLe}

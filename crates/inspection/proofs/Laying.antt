@@ -1,8 +1,8 @@
 -- The loop of `lay`, over plain lists and numbers: d is the room as it came, room as it is. The invariant: the first i places from the start
 -- on stand at the room's front, the rest of the room is as it came, and the place is the one that follows them. Assumes nothing.
-use Prim.Native.Nat.{ℕ, suc, _+_, _≤_, _<_}
+use Prim.Native.Nat.{ℕ, _+_, _≤_, _<_}
 use mathlib.Core.Path.{_≡_, refl}
-use mathlib.Core.List.{List, [], _∷_, _++_}
+use mathlib.Core.List.{List, _++_}
 use native.Mathlib.Omega.{arith}
 use native.Mathlib.Numerals.{add-one}
 use lib.ListN.{length, drop, set, length-set}

@@ -4,7 +4,7 @@ use Prim.Native.Nat.{ℕ, zero, suc, _+_, _*_, _≤_, _<_}
 use mathlib.Core.Path.{_≡_, refl}
 use native.Mathlib.Omega.{arith}
 use native.Mathlib.Decide.{decLt}
-use Rattle.inspection.specs.Places.{nextPlace, placeAfter, placesFrom}
+use Rattle.inspection.specs.Places.{placeAfter, placesFrom}
 use Rattle.inspection.specs.Shifts.{timesIn}
 use Rattle.inspection.proofs.Places.{one-on, round, on}
 use Rattle.inspection.proofs.Counts.{one-time, no-time, times-append, places-more}

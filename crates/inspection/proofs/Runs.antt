@@ -1,16 +1,16 @@
 -- The theorems carried to calls: what a call that is not refused says and writes is the definition's, so calls one after the other are the shifts
 -- that the theorems speak of; and two answers to one call are equal. Assumes nothing.
-use Prim.Native.Nat.{ℕ, zero, suc, _+_, _≤_, _<_}
+use Prim.Native.Nat.{ℕ, _+_, _≤_, _<_}
 use mathlib.Core.Path.{_≡_, refl, sym, ap, _∙_}
 use mathlib.Core.Bool.{Bool, true, false}
-use mathlib.Core.List.{List, [], _∷_, _++_}
+use mathlib.Core.List.{List, _++_}
 use native.Mathlib.Omega.{arith}
 use lib.ListN.{length, take, drop, getD, List·getD-append}
 use lib.Seq.{take-at}
 use Rattle.ring.specs.Room.{laid}
 use Rattle.refusals.specs.Refusals.{passed}
-use Rattle.refusals.specs.Answers.{answers, left}
-use Rattle.inspection.specs.Places.{perShift, placesFrom, shiftPlaces, followingStart}
+use Rattle.refusals.specs.Answers.{answers}
+use Rattle.inspection.specs.Places.{perShift, shiftPlaces, followingStart}
 use Rattle.inspection.specs.Calls.{Shift, nextRefusal, inspected, nextPlacesCall, nextPlacesRoom}
 use Rattle.inspection.specs.Shifts.{shiftsFrom, times, roundedUp}
 use Rattle.inspection.specs.Runs.{Run, ended, called}

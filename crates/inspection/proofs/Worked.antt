@@ -1,10 +1,9 @@
 -- Worked examples, by computation: a path of 24 places with five a shift, a path of three with five a shift, and what is refused. Assumes nothing.
 use mathlib.Core.Path.{_≡_, refl}
-use mathlib.Core.List.{List, [], _∷_}
-use Prim.Native.Nat.{ℕ}
+use mathlib.Core.List.{[], _∷_}
 use Rattle.refusals.specs.Answers.{answers, refuses}
 use Rattle.refusals.specs.Refusals.{refuse}
-use Rattle.inspection.specs.Places.{nextPlace, placeAfter, placesFrom, perShift, shiftPlaces, followingStart}
+use Rattle.inspection.specs.Places.{nextPlace, placeAfter, placesFrom, perShift}
 use Rattle.inspection.specs.Shifts.{shiftsFrom, timesIn, times, roundedUp}
 use Rattle.inspection.specs.Calls.{ofShift, nextRefusal, nextPlacesCall, nextPlacesRoom}
 

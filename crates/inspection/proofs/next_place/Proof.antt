@@ -1,5 +1,4 @@
 -- `inspection::next_place` meets its contract: one on, or round. Assumes nothing.
-use native.Mathlib.Omega.{arith}
 use borrow.Author.Needs.{needs}
 use Rattle.inspection.proofs.Places.{one-on, round}
 use Rattle.inspection.proofs.next_place.Statement.{statement}

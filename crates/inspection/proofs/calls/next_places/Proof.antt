@@ -1,10 +1,8 @@
 -- `inspection::calls::next_places` meets its contract: the tests, then the places. Assumes nothing.
 use borrow.Author.Needs.{needs}
-use Prim.Native.Nat.{_<_, _≤_}
 use mathlib.Core.Path.{_≡_}
 use lib.ListN.{length}
 use Rattle.refusals.proofs.Calls.{goes, stops, wrote, kept}
-use Rattle.inspection.specs.Places.{perShift}
 use Rattle.inspection.specs.Calls.{nextRefusal}
 use Rattle.inspection.proofs.Screened.{screened, passing, shift-is}
 use Rattle.inspection.proofs.calls.next_places.Statement.{statement}
