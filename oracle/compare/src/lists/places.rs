@@ -67,8 +67,8 @@ fn shown(n: u64, k: u64, start: u64, shifts: u64) -> Option<Shown> {
 /// Paths, shifts and starts of which the laws are counted out, with how many shifts: up
 /// to 40 places all of them, twice round from start 0; and some of the longest paths.
 pub fn runs() -> impl Iterator<Item = [u64; 4]> {
-    let small = (1..=40).flat_map(|n| (1..=MOST_INSPECTED).map(move |k| (n, k)));
-    let long = [9_999, 10_000, 10_001].into_iter().flat_map(|n| [63, 64].map(|k| (n, k)));
+    let small = (1..=40_u64).flat_map(|n| (1..=MOST_INSPECTED).map(move |k| (n, k)));
+    let long = [9_999_u64, 10_000, 10_001].into_iter().flat_map(|n| [63, 64].map(|k| (n, k)));
     let starts = |n: u64| (0..n).step_by(n.div_ceil(40) as usize);
     small.chain(long).flat_map(move |(n, k)| {
         let once = n.div_ceil(k);
