@@ -25,19 +25,23 @@ pub fn check(record: &[u64]) -> Compared {
     Compared::of("next_places", number, oracle, library)
 }
 
-/// The places of one shift; the start becomes the following one.
+/// The places of one shift, nothing where it is refused; the start becomes the
+/// following one.
 fn shift(n: u64, k: u64, start: &mut u64) -> Option<Vec<u64>> {
     let (mut room, mut count) = ([u64::HELD; MOST_INSPECTED as usize], u64::HELD);
     // SAFETY: the room is as long as is said, and both cells are there.
     let number =
         unsafe { ffi::byr_next_places(n, k, start, room.as_mut_ptr(), room.len(), &mut count) };
-    (number == 0).then(|| room[..count as usize].to_vec())
+    if number != 0 {
+        return None;
+    }
+    room.get(..count as usize).map(<[u64]>::to_vec)
 }
 
 /// What shifts one after the other showed.
 #[derive(Debug, PartialEq)]
 struct Shown {
-    /// The places of each shift differ, and are of the path.
+    /// The places of each shift differ.
     differ: bool,
     /// n divided by k, rounded up, shifts inspected every place.
     every: bool,
@@ -46,13 +50,16 @@ struct Shown {
     evenly: bool,
 }
 
-/// What so many shifts one after the other show on a path of n from this start.
+/// What so many shifts one after the other show on a path of n from this start; nothing
+/// where one is refused or gives what is no place.
 fn shown(n: u64, k: u64, start: u64, shifts: u64) -> Option<Shown> {
     let (mut from, mut times) = (start, vec![0_u64; n as usize]);
     let mut shown = Shown { differ: true, every: false, evenly: true };
     for done in 1..=shifts {
         let mut places = shift(n, k, &mut from)?;
-        places.iter().for_each(|&place| times[place as usize] += 1);
+        for &place in &places {
+            *times.get_mut(place as usize)? += 1;
+        }
         places.sort_unstable();
         shown.differ &= places.windows(2).all(|pair| pair[0] < pair[1]);
         let (least, most) = times.iter().fold((u64::MAX, 0), |(a, b), &t| (a.min(t), b.max(t)));
