@@ -13,7 +13,7 @@ use Rattle.refusals.specs.Answers.{answers}
 use Rattle.inspection.specs.Places.{perShift, shiftPlaces, followingStart}
 use Rattle.inspection.specs.Calls.{Shift, nextRefusal, inspected, nextPlacesCall, nextPlacesRoom}
 use Rattle.inspection.specs.Shifts.{shiftsFrom, times, roundedUp}
-use Rattle.inspection.specs.Runs.{Run, ended, called}
+use Rattle.inspection.specs.Runs.{Run, noCalls, callThen}
 use Rattle.inspection.specs.declared.answer.Inspected.{Inspected}
 use Rattle.inspection.specs.declared.answer.Inspected.the-variants as inspected-is
 use Rattle.inspection.proofs.Places.{places-length}
@@ -58,8 +58,8 @@ module _ (n k : ℕ) where
   -- calls one after the other are shifts one after the other
   pub run-is : {start : ℕ} {shifts : List (List ℕ)} → Run n k start shifts → shifts ≡ shiftsFrom n k start (length shifts)
   unfolding shiftsFrom
-  run-is ended = refl
-  run-is {start} (called room told h rest) =
+  run-is noCalls = refl
+  run-is {start} (callThen room told h rest) =
       let t = answered n k start room told h in
       let e = run-is rest in
       let w : take (told .places) (nextPlacesRoom n k start room) ≡ shiftPlaces n k start =
