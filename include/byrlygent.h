@@ -433,7 +433,8 @@ uint32_t byr_write_wkb(const double *ring, size_t n, uint8_t *room, size_t room_
  * start 0 no place is inspected more than once oftener than another.
  *
  * Refusals: 13 for n, k or start, then 5. With a refusal start is as it was. */
-uint32_t byr_next_places(uint64_t n, uint64_t k, uint64_t *start, uint64_t *room, size_t room_n, uint64_t *count);
+uint32_t byr_next_places(uint64_t n, uint64_t k, uint64_t *start, uint64_t *room, size_t room_n,
+                         uint64_t *count);
 
 #ifdef __cplusplus
 }
