@@ -1674,6 +1674,80 @@ static void discs(void) {
     }
 }
 
+/* ---- Places to inspect ---- */
+
+/* What a shift is lent, and with which number it is refused in a room of 5 words. */
+struct shift {
+    uint64_t n;
+    uint64_t k;
+    uint64_t start;
+    uint32_t number;
+};
+
+static const struct shift SHIFTS[] = {
+    {0, 5, 0, BYR_REFUSED_INSPECTION},
+    {10002, 5, 0, BYR_REFUSED_INSPECTION},
+    {UINT64_MAX, 5, 0, BYR_REFUSED_INSPECTION},
+    {24, 0, 0, BYR_REFUSED_INSPECTION},
+    {24, 65, 0, BYR_REFUSED_INSPECTION},
+    {24, UINT64_MAX, 0, BYR_REFUSED_INSPECTION},
+    {24, 5, 24, BYR_REFUSED_INSPECTION},
+    {24, 64, UINT64_MAX, BYR_REFUSED_INSPECTION},
+    {24, 6, 23, BYR_REFUSED_FIT},
+    {6, 64, 0, BYR_REFUSED_FIT},
+    {10001, 64, 10000, BYR_REFUSED_FIT},
+};
+
+static void refused_shifts(void) {
+    uint64_t room[5] = {HELD_COUNT, HELD_COUNT, HELD_COUNT, HELD_COUNT, HELD_COUNT};
+    uint64_t count = HELD_COUNT;
+    size_t i;
+    int k;
+
+    for (i = 0; i < sizeof SHIFTS / sizeof *SHIFTS; i++) {
+        const struct shift *s = &SHIFTS[i];
+        uint64_t start = s->start;
+        row = i + 1;
+        CHECK(byr_next_places(s->n, s->k, &start, room, 5, &count) == s->number);
+        CHECK(start == s->start && count == HELD_COUNT);
+        for (k = 0; k < 5; k++) {
+            CHECK(room[k] == HELD_COUNT);
+        }
+    }
+    row = 0;
+}
+
+/* A path of 24 places, five a shift, in a room of seven words: five shifts inspect all,
+ * and the first place twice. Then a path of three, and the longest one. */
+static void places(void) {
+    uint64_t room[64];
+    uint64_t start = 0;
+    uint64_t count = HELD_COUNT;
+    uint64_t met = 0;
+    int k;
+
+    begin("byr_next_places");
+    refused_shifts();
+    for (k = 0; k < 64; k++) {
+        room[k] = HELD_COUNT;
+    }
+    while (met < 25) {
+        CHECK(byr_next_places(24, 5, &start, room, 7, &count) == 0 && count == 5);
+        for (k = 0; k < 5; k++) {
+            CHECK(room[k] == met % 24);
+            met += 1;
+        }
+        CHECK(start == met % 24 && room[5] == HELD_COUNT && room[6] == HELD_COUNT);
+    }
+    CHECK(byr_next_places(24, 5, &start, NULL, 0, &count) == BYR_REFUSED_FIT && start == 1 && count == 5);
+    start = 2;
+    CHECK(byr_next_places(3, 5, &start, room, 3, &count) == 0 && count == 3 && start == 2);
+    CHECK(room[0] == 2 && room[1] == 0 && room[2] == 1 && room[3] == 23);
+    start = 10000;
+    CHECK(byr_next_places(10001, 64, &start, room, 64, &count) == 0 && count == 64 && start == 63);
+    CHECK(room[0] == 10000 && room[1] == 0 && room[63] == 62);
+}
+
 int main(void) {
     interface();
     scalars();
@@ -1683,6 +1757,7 @@ int main(void) {
     mending();
     rings();
     discs();
+    places();
     whole_points();
     whole_rings();
     contacts();

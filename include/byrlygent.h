@@ -1,6 +1,6 @@
 /*
  * Byrlygent: the sliding no-fit polygon, ring predicates in floats and in whole
- * numbers, the outline book, and drawings in well-known binary.
+ * numbers, the outline book, drawings in well-known binary, and places to inspect.
  * Link libbyrlygent.a; of other libraries it needs only C's memcpy and memset.
  *
  * Every function is total: whatever is lent, it answers or refuses, and writes
@@ -38,7 +38,8 @@
  * tested of all that is lent, and then 3, 4, 5 and 6 follow in the order of their
  * numbers. A function has those that its comment names. byr_write_book goes through
  * its rings in an order of its own, byr_read_book tests 7, then 4, byr_read_wkb 10,
- * then 4, byr_mend_ring tests 11 before 5, and byr_make_disc 12, 2, then 4.
+ * then 4, byr_mend_ring tests 11 before 5, byr_make_disc 12, 2, then 4, and
+ * byr_next_places 13, then 5.
  *
  * Place. Every function that takes a list has place as its last pointer. It is
  * written with refusals 1, 8 and 9, and is then the number of the list at fault:
@@ -86,7 +87,8 @@ enum {
     BYR_REFUSED_MANY = 9,       /* a list has too many */
     BYR_REFUSED_WKB = 10,       /* a drawing in well-known binary is wrong, or of another kind */
     BYR_REFUSED_REMAINING = 11, /* of a mended ring fewer than three vertices remain */
-    BYR_REFUSED_QUARTER = 12    /* a quarter of a disc cannot have so many vertices */
+    BYR_REFUSED_QUARTER = 12,   /* a quarter of a disc cannot have so many vertices */
+    BYR_REFUSED_INSPECTION = 13 /* the places of a path or of a shift, or the start, are out of their bounds */
 };
 
 /* Why a trace stopped. */
@@ -466,6 +468,23 @@ uint32_t byr_read_wkb(const uint8_t *wkb, size_t n, double *room, size_t room_n,
  * bytes, 16 a vertex and 29; 4125 at most. Refusals: 1, 8 and 9 at place 0, 2, 4. */
 uint32_t byr_write_wkb(const double *ring, size_t n, uint8_t *room, size_t room_n, uint64_t *length,
                        uint64_t *place);
+
+/* ---- Places to inspect ---- */
+
+/* The places of a path of n, 1 to 10001, that the next shift inspects: k, 1 to 64, or
+ * all n if n is smaller, in path order from start on, the last place on to the first. A
+ * place is 0 to n - 1, and so is start; a new path begins at start 0. room gets the
+ * places, and count is how many they are. start is read, and on success holds the
+ * following start, with which the next shift on the same path goes on; where k is n or
+ * above, it stays where it is.
+ *
+ * Of shifts with one n and one k, each started where the one before left off: the places
+ * of one differ; n / k of them, rounded up, inspect every place at least once; and from
+ * start 0 no place is inspected more than once oftener than another.
+ *
+ * Refusals: 13 for n, k or start, then 5. With a refusal start is as it was. */
+uint32_t byr_next_places(uint64_t n, uint64_t k, uint64_t *start, uint64_t *room, size_t room_n,
+                         uint64_t *count);
 
 #ifdef __cplusplus
 }

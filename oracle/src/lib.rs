@@ -7,7 +7,8 @@
 //! other order. `calls` gives docs/SCOPE.md's answers over `fixed`; `book` is no
 //! text of theirs, but the outline book written down from docs/SCOPE.md, `wkb` the
 //! well-known binary, `grounds` why a move is clear or not, `whole` the predicates
-//! in whole numbers, `mend` the mending of a ring, and `discs` the discs from a table.
+//! in whole numbers, `mend` the mending of a ring, `discs` the discs from a table, and
+//! `inspection` the places that a shift inspects.
 
 #![allow(clippy::duplicate_mod)] // The text is compiled three times on purpose.
 
@@ -18,6 +19,7 @@ pub mod discs;
 pub mod explain;
 pub mod fixed;
 pub mod grounds;
+pub mod inspection;
 pub mod mend;
 pub mod printer;
 pub mod refusals;

@@ -1,7 +1,7 @@
 //! The replay lists in the repository are the ones that the oracle writes, keep
 //! their bounds, and hold every outcome there is.
 
-use oracle::replay::{book, bytes, discs, list, rings, scalars, sliding, traces, whole, wkb};
+use oracle::replay::{book, bytes, discs, list, places, rings, scalars, sliding, traces, whole, wkb};
 use oracle::seeded::Seeded;
 use std::collections::BTreeSet;
 
@@ -92,6 +92,28 @@ fn whole_records_keep_their_bounds() {
 #[test]
 fn book_is_as_written() {
     as_written("replay_book", book::records());
+}
+
+#[test]
+fn places_are_as_written() {
+    as_written("replay_places", places::records());
+}
+
+#[test]
+fn place_records_keep_their_bounds_and_meet_every_outcome() {
+    for records in [places::records(), long("places", 4_000)] {
+        let mut met = BTreeSet::new();
+        for record in records {
+            let room = record[3] as usize;
+            assert!(room <= 80);
+            assert_eq!(record.len(), places::HEADER + 2 * room);
+            met.extend((places::LIST.counted)(&record));
+        }
+        let ends = ["within the path", "up to the last place", "round the end"];
+        for outcome in ["refusal 0", "refusal 5", "refusal 13"].into_iter().chain(ends) {
+            assert!(met.contains(&format!("next_places: {outcome}")), "{outcome}");
+        }
+    }
 }
 
 #[test]
@@ -381,7 +403,7 @@ fn traces_end_in_every_way() {
 
 #[test]
 fn long_runs_are_decided_by_the_seed() {
-    for name in ["scalars", "rings", "whole", "discs", "book", "wkb", "sliding", "traces"] {
+    for name in ["scalars", "rings", "whole", "discs", "book", "wkb", "places", "sliding", "traces"] {
         assert!(long(name, 50) == long(name, 50));
     }
     assert!(list("ring").is_none());

@@ -415,6 +415,14 @@ functions! {
         length: *mut u64,
         place: *mut u64,
     ) -> u32;
+    fn byr_next_places(
+        n: u64,
+        k: u64,
+        start: *mut u64,
+        room: *mut u64,
+        room_n: usize,
+        count: *mut u64,
+    ) -> u32;
 }
 
 #[cfg(test)]

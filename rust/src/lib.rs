@@ -1,9 +1,9 @@
 //! Byrlygent for Rust: the sliding no-fit polygon and the ring predicates of
-//! u-nesting, these also in whole numbers, discs, the outline book, and drawings in
-//! well-known binary, over the static library that is proved in Rattle. What each
-//! call answers and refuses is proved there, for all inputs; here points are copied
-//! to plain lists of numbers and back, and refusals are put into words, and nothing
-//! else.
+//! u-nesting, these also in whole numbers, discs, the outline book, drawings in
+//! well-known binary, and places to inspect, over the static library that is proved in
+//! Rattle. What each call answers and refuses is proved there, for all inputs; here
+//! points are copied to plain lists of numbers and back, and refusals are put into
+//! words, and nothing else.
 //!
 //! Modules and names are u-nesting's. A program that traced with
 //! `u_nesting_d2::nfp_sliding` changes that import, and gets a [`Refusal`] where
@@ -30,6 +30,8 @@
 //! Parts whose coordinates are whole numbers have predicates of their own, without a
 //! float: [`whole`].
 //!
+//! Which places of a path a shift inspects, so that none is forgotten: [`inspection`].
+//!
 //! A list with too few entries or too many is refused by name:
 //!
 //! ```
@@ -49,6 +51,7 @@
 
 pub mod discs;
 mod ffi;
+pub mod inspection;
 mod lent;
 mod lists;
 pub mod nfp_sliding;

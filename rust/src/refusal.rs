@@ -47,6 +47,9 @@ pub enum Refusal {
     Remaining,
     /// Refusal 12: a quarter of a disc cannot have so many vertices.
     Quarter(u64),
+    /// Refusal 13: the places of a path or of a shift, or the start, are out of their
+    /// bounds.
+    Inspection,
 }
 
 impl Refusal {
@@ -62,6 +65,7 @@ impl Refusal {
             Self::Wkb { .. } => 10,
             Self::Remaining => 11,
             Self::Quarter(_) => 12,
+            Self::Inspection => 13,
         }
     }
 }
@@ -99,6 +103,10 @@ impl fmt::Display for Refusal {
                 "a quarter of a disc cannot have {has} vertices: it may have 1, 2, 4, 8, 16, 32 or \
                  64"
             ),
+            Self::Inspection => f.write_str(
+                "the inspection is out of bounds: a path must have 1 to 10001 places, a shift 1 \
+                 to 64, and the start must be below the path's number",
+            ),
         }
     }
 }
@@ -123,6 +131,7 @@ pub(crate) fn plain(number: u32) -> Result<()> {
         2 => Err(Refusal::Number),
         3 => Err(Refusal::Setting),
         11 => Err(Refusal::Remaining),
+        13 => Err(Refusal::Inspection),
         _ => unreachable!("refusal {number}: lists are whole and rooms are long enough"),
     }
 }

@@ -47,6 +47,7 @@ fn each_refusal_says_what_to_mend() {
     told(Refusal::Book { place: 56 }, &["byte 56", "write it anew"]);
     told(Refusal::Wkb { place: 1, fault: Fault::Type(6) }, &["byte 1", "type is 6"]);
     told(Refusal::Remaining, &["fewer than three", "a point or a line"]);
+    told(Refusal::Inspection, &["1 to 10001 places", "1 to 64", "start must be below"]);
 }
 
 #[test]
@@ -58,7 +59,8 @@ fn refusals_have_the_numbers_of_the_library() {
     let wkb = Refusal::Wkb { place: 0, fault: Fault::Short(0) };
     let rest = [Refusal::Few(entries), Refusal::Many(entries), wkb];
     assert_eq!(rest.map(Refusal::number), [8, 9, 10]);
-    assert_eq!([Refusal::Remaining, Refusal::Quarter(3)].map(Refusal::number), [11, 12]);
+    let last = [Refusal::Remaining, Refusal::Quarter(3), Refusal::Inspection];
+    assert_eq!(last.map(Refusal::number), [11, 12, 13]);
 }
 
 #[test]

@@ -5,10 +5,12 @@ use mathlib.Core.Bool.{true, false}
 use mathlib.Core.Option.{Option, none, some}
 use lib.Ieee.{Float, binary64, ofBits, nan}
 use Rattle.grounds.specs.Calls.{Account}
+use Rattle.inspection.specs.Calls.{Shift}
 use Rattle.refusals.specs.Answers.{Outcome, answers, refuses}
-use Rattle.refusals.specs.Refusals.{refusedBook, refusedFew, refusedSetting, tellsPlace, refuse}
+use Rattle.refusals.specs.Refusals.{refusedBook, refusedFew, refusedSetting, refusedInspection, tellsPlace, refuse}
 use Rattle.handed.specs.Handed.{refusalIn, returned, told, toldFound, placeOf, toldPlace, itself, flag, isFound, hitDistance, hitKind, hitStationary, hitOrbiting}
 use Rattle.handed.specs.Explanations.{hitIn, withHit, othersTold, groundIn, nearIn, betweenIn, farIn}
+use Rattle.handed.specs.Places.{placesIn, followingIn}
 
 -- a book of two rings: 0, the count, and no place
 abbrev read : Outcome ℕ
@@ -173,3 +175,18 @@ unexplained-counts :
     × (told farIn unexplained 9 ≡ 9)
 unfolding told othersTold withHit
 unexplained-counts = (refl, refl, refl, refl)
+
+-- a shift of five places from 20 of 24: 0, the start that follows and the count; and one that is refused: 13, and both as they were
+abbrev shift : Outcome Shift
+shift = answers (record { places = 5; following = 1 })
+
+shift-told : (returned shift ≡ 0) × (told followingIn shift 20 ≡ 1) × (told placesIn shift 9 ≡ 5)
+unfolding refusalIn told
+shift-told = (refl, refl, refl)
+
+abbrev no-shift : Outcome Shift
+no-shift = refuses (refuse refusedInspection 0)
+
+no-shift-told : (returned no-shift ≡ 13) × (told followingIn no-shift 20 ≡ 20) × (told placesIn no-shift 9 ≡ 9)
+unfolding refusalIn told
+no-shift-told = (refl, refl, refl)

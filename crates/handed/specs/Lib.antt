@@ -3,3 +3,4 @@ pub mod Handed
 pub mod Explanations
 pub mod Traces
 pub mod Mends
+pub mod Places

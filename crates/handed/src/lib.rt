@@ -2,6 +2,7 @@
 pub mod explained;
 pub mod found;
 pub mod mended;
+pub mod places;
 pub mod refusal;
 pub mod trace;
 pub mod value;

@@ -1,18 +1,19 @@
 //! Compares the static library with the oracle: `compare COUNT SEED` makes every
 //! call of the stored replay lists, every small case in whole numbers, every small
-//! ring to mend, and COUNT seeded ones besides, through both; and a million seeded
-//! roots, whatever COUNT is.
+//! ring to mend, every shift on a path of up to 40 places, and COUNT seeded ones
+//! besides, through both; counts out the laws of shifts one after the other; and
+//! makes a million seeded roots, whatever COUNT is.
 //! Calls of some lists are held to laws besides, which call the library twice.
 //! The table counts cases by call, refusal, stop reason and ground; it ends in how
 //! many agree. The status is 1 unless all do, every exported call was made, and
 //! explanations of every ground, with hits of both kinds and dozens of other pairs
 //! at one distance, were among them.
 
-use compare::lists::{check_rings, check_whole, scalars, Checked, LISTS};
+use compare::lists::{check_rings, check_whole, places, scalars, Checked, LISTS};
 use compare::tally::{Compared, Tally};
 use compare::{ffi, hold_interface, ABI_VERSION};
 use oracle::replay::scalars::seeded_root;
-use oracle::replay::{list, rings, whole};
+use oracle::replay::{list, places::every as every_shift, rings, whole};
 use oracle::seeded::Seeded;
 use std::collections::BTreeSet;
 use std::process::ExitCode;
@@ -30,6 +31,9 @@ fn missing(tally: &Tally) -> BTreeSet<&'static str> {
 /// How many roots are compared besides.
 const ROOTS: u64 = 1_000_000;
 
+/// Most places of the paths of which every shift is compared.
+const SMALL_PATH: u64 = 40;
+
 /// Compares a record of the list, and holds its call to the laws.
 fn compare(tally: &mut Tally, checked: &Checked, record: &[u64], origin: impl Fn() -> String) {
     tally.add((checked.check)(record), &origin);
@@ -38,7 +42,8 @@ fn compare(tally: &mut Tally, checked: &Checked, record: &[u64], origin: impl Fn
 }
 
 /// Compares the stored records of each list, and its share of so many seeded ones; every
-/// small case in whole numbers, and every small ring to mend; and the roots.
+/// small case in whole numbers, and every small ring to mend; every shift on a small
+/// path, and the laws of shifts; and the roots.
 fn run(count: u64, seed: u64) -> Tally {
     let mut tally = Tally::default();
     // SAFETY: the function takes nothing.
@@ -62,6 +67,12 @@ fn run(count: u64, seed: u64) -> Tally {
     }
     for (place, record) in rings::every().enumerate() {
         tally.add(check_rings(&record), || format!("rings, small ring {place} to mend"));
+    }
+    for (place, record) in every_shift(SMALL_PATH).enumerate() {
+        tally.add(places::check(&record), || format!("places, small case {place}"));
+    }
+    for run in places::runs() {
+        tally.add(places::laws(run), || format!("places, n, k, start and shifts {run:?}"));
     }
     let seeded = &mut Seeded::new(seed);
     for place in 0..ROOTS {

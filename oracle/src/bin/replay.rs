@@ -9,8 +9,8 @@ use std::collections::BTreeMap;
 use std::io::{BufWriter, Result, Write};
 use std::process::ExitCode;
 
-const USAGE: &str = "give the name of a list: scalars, rings, whole, discs, book, wkb, sliding
-or traces;
+const USAGE: &str = "give the name of a list: scalars, rings, whole, discs, book, wkb, places,
+sliding or traces;
 after it, `long COUNT SEED` for so many seeded records";
 
 /// Writes records and counts what they hold.
