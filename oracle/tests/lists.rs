@@ -1,7 +1,9 @@
 //! The replay lists in the repository are the ones that the oracle writes, keep
 //! their bounds, and hold every outcome there is.
 
-use oracle::replay::{book, bytes, discs, list, places, rings, scalars, sliding, traces, whole, wkb};
+use oracle::replay::{
+    book, bytes, discs, list, places, rings, scalars, sliding, traces, whole, wkb,
+};
 use oracle::seeded::Seeded;
 use std::collections::BTreeSet;
 
@@ -403,7 +405,8 @@ fn traces_end_in_every_way() {
 
 #[test]
 fn long_runs_are_decided_by_the_seed() {
-    for name in ["scalars", "rings", "whole", "discs", "book", "wkb", "places", "sliding", "traces"] {
+    for name in ["scalars", "rings", "whole", "discs", "book", "wkb", "places", "sliding", "traces"]
+    {
         assert!(long(name, 50) == long(name, 50));
     }
     assert!(list("ring").is_none());
