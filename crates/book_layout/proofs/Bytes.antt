@@ -61,15 +61,7 @@ unfolding entries
 length-entries at [] ps m = refl
 length-entries at (n ∷ ns) [] m = absurd (omega (arith, m))
 length-entries at (n ∷ ns) (p ∷ ps) m =
-    let a = entries (at + vertexBytes * n) ns ps in
-    length-append (bytesOf fieldBytes at) (bytesOf fieldBytes n ++ (bytesOf fieldBytes p ++ a))
-    ∙ (let e = length-append (bytesOf fieldBytes n) (bytesOf fieldBytes p ++ a) in
-    let e' = length-append (bytesOf fieldBytes p) a in
-    let e'' = length-entries (at + vertexBytes * n) ns ps (omega (arith, m)) in
-    let d = length-bytesOf fieldBytes at in
-    let d' = length-bytesOf fieldBytes n in
-    let d'' = length-bytesOf fieldBytes p in
-    omega arith)
+    simp (length-append, length-bytesOf, length-entries (at + vertexBytes * n) ns ps (omega (arith, m))) (omega arith)
 
 -- the first entry, and what follows it
 module _ (at n p : ℕ) (ns ps q : List ℕ) where
