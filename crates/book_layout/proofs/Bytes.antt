@@ -9,7 +9,7 @@ use Rattle.reading.specs.Reading.{Vertex, flat, vertices}
 use Rattle.number_bytes.specs.Bytes.{bytesOf, numberOf, Each}
 use Rattle.number_bytes.proofs.Bytes.{length-bytesOf, take-number, drop-number}
 use Rattle.refusals.specs.Rings.{verticesMost}
-use Rattle.book_layout.specs.Layout.{fieldBytes, coordinateBytes, vertexBytes, entryBytes, coordBytes, body, entries, Corner, Outline, PartNumber, coordsIn, countsIn, partsIn, ringsIn}
+use Rattle.book_layout.specs.Layout.{fieldBytes, coordinateBytes, vertexBytes, entryBytes, coordBytes, body, entries, Corner, Outline, PartNumber, coordsIn, fieldsIn, countsIn, partsIn, ringsIn}
 use Rattle.reading.proofs.Leasts.{vertices-flat, length-flat}
 
 -- ---- the coordinates
@@ -100,7 +100,7 @@ module _ (at n p : ℕ) (ns ps q : List ℕ) where
 
 pub counts-back : (at : ℕ) (ns ps q : List ℕ) → length ps ≡ length ns → Each (λ (n : ℕ). n ≤ verticesMost) ns
     → countsIn (length ns) (entries at ns ps ++ q) ≡ ns
-unfolding countsIn
+unfolding fieldsIn
 counts-back at [] ps q m h = refl
 counts-back at (n ∷ ns) [] q m h = absurd (omega (arith, m))
 counts-back at (n ∷ ns) (p ∷ ps) q m h =
@@ -108,7 +108,7 @@ counts-back at (n ∷ ns) (p ∷ ps) q m h =
     (ap (λ (l : List ℕ). n ∷ l) (counts-back (at + vertexBytes * n) ns ps q (omega (arith, m)) (h .1)))
 
 pub parts-back : (at : ℕ) (ns ps q : List ℕ) → length ps ≡ length ns → Each PartNumber ps → partsIn (length ns) (entries at ns ps ++ q) ≡ ps
-unfolding partsIn
+unfolding fieldsIn
 parts-back at [] [] q m h = refl
 parts-back at [] (p ∷ ps) q m h = absurd (omega (arith, m))
 parts-back at (n ∷ ns) [] q m h = absurd (omega (arith, m))

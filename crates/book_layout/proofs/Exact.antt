@@ -21,7 +21,7 @@ use Rattle.refusals.proofs.Sized.{row-parts}
 use Rattle.book_layout.proofs.Passing.{held}
 use Rattle.reading.proofs.Leasts.{least-again}
 use Rattle.book_layout.proofs.Checks.{layout-pass}
-use Rattle.book_layout.proofs.Found.{length-countsIn, parts-hold, entries-are, rings-counts, rings-body, rings-kept}
+use Rattle.book_layout.proofs.Found.{length-fieldsIn, parts-hold, entries-are, rings-counts, rings-body, rings-kept}
 
 -- what a passed check tells
 pub record Checked (f : List ℕ) : Type 0 where
@@ -100,7 +100,7 @@ module _ (f : List ℕ) (bytes : Each Byte f) (ok : bookCheck f passes) where
 
   number : length (ringsOf f) ≡ ringCount f
   unfolding countsOf
-  number = sym (length-map (ringsOf f) length) ∙ ap length lengths ∙ length-countsIn (ringCount f) (drop (entryOffset f) f)
+  number = sym (length-map (ringsOf f) length) ∙ ap length lengths ∙ length-fieldsIn fieldBytes (ringCount f) (drop (entryOffset f) f)
 
   the-body : body (ringsOf f) ≡ take (entryOffset f) f
   unfolding ringsOf

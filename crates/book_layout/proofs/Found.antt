@@ -13,7 +13,7 @@ use Rattle.number_bytes.specs.Bytes.{bytesOf, numberOf, Byte, Each}
 use Rattle.number_bytes.proofs.Bytes.{bytes-take, number-lt}
 use Rattle.number_bytes.proofs.Each.{each-take, each-drop}
 use Rattle.refusals.specs.Rings.{verticesLeast, verticesMost, within, total}
-use Rattle.book_layout.specs.Layout.{fieldBytes, coordinateBytes, vertexBytes, entryBytes, coordBytes, body, entries, coordinateBits, Coordinate, Corner, PartNumber, coordsIn, countsIn, partsIn, ringsIn}
+use Rattle.book_layout.specs.Layout.{fieldBytes, coordinateBytes, vertexBytes, entryBytes, coordBytes, body, entries, coordinateBits, Coordinate, Corner, PartNumber, coordsIn, fieldsIn, countsIn, partsIn, ringsIn}
 use Rattle.book_layout.specs.Faults.{fault, entriesCheck, coordsCheck, leastCheck, _passes}
 use Rattle.refusals.proofs.Counts.{is-within}
 use Rattle.refusals.proofs.Sized.{row-parts}
@@ -90,18 +90,13 @@ rings-kept (n ∷ ns) f at z c =
 
 -- ---- the entries
 
-pub length-countsIn : (k : ℕ) (f : List ℕ) → length (countsIn k f) ≡ k
-unfolding countsIn
-length-countsIn zero f = refl
-length-countsIn (suc k) f = ap suc (length-countsIn k (drop entryBytes f))
-
-pub length-partsIn : (k : ℕ) (f : List ℕ) → length (partsIn k f) ≡ k
-unfolding partsIn
-length-partsIn zero f = refl
-length-partsIn (suc k) f = ap suc (length-partsIn k (drop entryBytes f))
+pub length-fieldsIn : (p k : ℕ) (f : List ℕ) → length (fieldsIn p k f) ≡ k
+unfolding fieldsIn
+length-fieldsIn p zero f = refl
+length-fieldsIn p (suc k) f = ap suc (length-fieldsIn p k (drop entryBytes f))
 
 pub parts-hold : (k : ℕ) (f : List ℕ) → Each Byte f → entryBytes * k ≤ length f → Each PartNumber (partsIn k f)
-unfolding partsIn
+unfolding fieldsIn
 parts-hold zero f h s = tt
 parts-hold (suc k) f h s =
     let g = drop (2 * fieldBytes) f in
@@ -112,7 +107,7 @@ parts-hold (suc k) f h s =
 
 pub entries-are : (k at before : ℕ) (f : List ℕ) → Each Byte f → entryBytes * k ≤ length f → entriesCheck k at before f passes
     → (take (entryBytes * k) f ≡ entries before (countsIn k f) (partsIn k f)) × Each (λ (n : ℕ). (verticesLeast ≤ n) × (n ≤ verticesMost)) (countsIn k f)
-unfolding entriesCheck countsIn partsIn entries
+unfolding entriesCheck fieldsIn entries
 entries-are zero at before f h s c = (refl, tt)
 entries-are (suc k) at before f h s t =
     let o = numberOf (take fieldBytes f) in

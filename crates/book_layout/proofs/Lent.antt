@@ -20,7 +20,7 @@ use Rattle.reading.proofs.Places.{length-ringOf}
 use Rattle.number_bytes.specs.Bytes.{numberOf, Each, Byte, Formed}
 use Rattle.number_bytes.proofs.Each.{each-take, each-drop}
 use Rattle.refusals.specs.Rings.{verticesLeast, verticesMost, within, total, sizedAll}
-use Rattle.book_layout.specs.Layout.{coordinateBytes, vertexBytes, coordinateBits, Coordinate, Outline, PartNumber, Accepted, coordsIn, ringsIn, ringCount, entryOffset, coordsOf, countsOf, partsOf, ringsOf}
+use Rattle.book_layout.specs.Layout.{fieldBytes, coordinateBytes, vertexBytes, coordinateBits, Coordinate, Outline, PartNumber, Accepted, coordsIn, ringsIn, ringCount, entryOffset, coordsOf, countsOf, partsOf, ringsOf}
 use Rattle.book_layout.specs.Faults.{_passes, bookCheck}
 use Rattle.book_layout.specs.Writer.{ringsFrom, bookSize, writeRefusal, Held}
 use Rattle.book_layout.specs.Reader.{numbersOf}
@@ -28,7 +28,7 @@ use Rattle.laws.proofs.Both.{both}
 use Rattle.refusals.proofs.Counts.{within-true, is-within}
 use Rattle.refusals.proofs.Sized.{row-parts, holds}
 use Rattle.refusals.proofs.RingRow.{rings-taken, taken-rings}
-use Rattle.book_layout.proofs.Found.{corners, coords-hold, length-coordsIn, length-countsIn, length-partsIn}
+use Rattle.book_layout.proofs.Found.{corners, coords-hold, length-coordsIn, length-fieldsIn}
 use Rattle.book_layout.proofs.Exact.{checked, listing}
 
 -- ---- the writer's tests
@@ -190,11 +190,11 @@ coordinates-read (b ∷ l) h = rw (stored b (h .0 .bounded) .0) (coordinates-rea
 
 pub length-counts : (f : List ℕ) → length (countsOf f) ≡ ringCount f
 unfolding countsOf
-length-counts f = length-countsIn (ringCount f) (drop (entryOffset f) f)
+length-counts f = length-fieldsIn fieldBytes (ringCount f) (drop (entryOffset f) f)
 
 pub length-parts : (f : List ℕ) → length (partsOf f) ≡ ringCount f
 unfolding partsOf
-length-parts f = length-partsIn (ringCount f) (drop (entryOffset f) f)
+length-parts f = length-fieldsIn (2 * fieldBytes) (ringCount f) (drop (entryOffset f) f)
 
 pub length-numbers : (f : List ℕ) → length (numbersOf f) ≡ entryOffset f / coordinateBytes
 unfolding coordsOf

@@ -13,7 +13,7 @@ use Rattle.reading.specs.Reading.{Vertex, ord, less, best, bestOf, leastReading
 use Rattle.reading.specs.Lent.{kept, ringOf}
 use Rattle.number_bytes.specs.Bytes.{bytesOf, numberOf}
 use Rattle.refusals.specs.Rings.{total}
-use Rattle.book_layout.specs.Layout.{coordBytes, body, entries, layout, bookOf, coordinateBits, coordsIn, countsIn, partsIn, coordsOf, countsOf, partsOf, ringCount, entryOffset}
+use Rattle.book_layout.specs.Layout.{coordBytes, body, entries, layout, bookOf, coordinateBits, coordsIn, fieldsIn, coordsOf, countsOf, partsOf, ringCount, entryOffset}
 use Rattle.book_layout.specs.Writer.{ringsFrom, writeRefusal}
 use Rattle.book_layout.specs.Reader.{readRefusal}
 use Rattle.book_layout.specs.Faults.{faultAt, entriesCheck, coordsCheck, leastCheck, bookCheck}
@@ -61,75 +61,75 @@ unfolding ringsFrom kept toBits eq ofBits
 twin-book = refl
 
 pub triangle-fine : bookCheck book ≡ none
-unfolding bookCheck entriesCheck coordsCheck leastCheck coordinateBits coordinate ofBits numberOf coordsIn countsIn countsOf ringCount entryOffset total bestOf best less ord kept toBits eq
+unfolding bookCheck entriesCheck coordsCheck leastCheck coordinateBits coordinate ofBits numberOf coordsIn fieldsIn countsOf ringCount entryOffset total bestOf best less ord kept toBits eq
 triangle-fine = refl
 
 -- one fault each: the length, the ring count, the offset of the entries, the ring's offset, its vertices, where the rings end, the
 -- coordinate (2 ^ 20 and more, a NaN, -0.0), and a ring that is not its least reading
 pub cut-short : bookCheck (take 67 book) ≡ faultAt 0
-unfolding bookCheck entriesCheck coordsCheck leastCheck coordinateBits coordinate ofBits numberOf coordsIn countsIn countsOf ringCount entryOffset total bestOf best less ord kept toBits eq
+unfolding bookCheck entriesCheck coordsCheck leastCheck coordinateBits coordinate ofBits numberOf coordsIn fieldsIn countsOf ringCount entryOffset total bestOf best less ord kept toBits eq
 cut-short = refl
 
 pub no-rings : bookCheck (set book 60 0) ≡ faultAt 60
-unfolding bookCheck entriesCheck coordsCheck leastCheck coordinateBits coordinate ofBits numberOf coordsIn countsIn countsOf ringCount entryOffset total bestOf best less ord kept toBits eq
+unfolding bookCheck entriesCheck coordsCheck leastCheck coordinateBits coordinate ofBits numberOf coordsIn fieldsIn countsOf ringCount entryOffset total bestOf best less ord kept toBits eq
 no-rings = refl
 
 pub entries-elsewhere : bookCheck (set book 64 47) ≡ faultAt 64
-unfolding bookCheck entriesCheck coordsCheck leastCheck coordinateBits coordinate ofBits numberOf coordsIn countsIn countsOf ringCount entryOffset total bestOf best less ord kept toBits eq
+unfolding bookCheck entriesCheck coordsCheck leastCheck coordinateBits coordinate ofBits numberOf coordsIn fieldsIn countsOf ringCount entryOffset total bestOf best less ord kept toBits eq
 entries-elsewhere = refl
 
 pub ring-elsewhere : bookCheck (set book 48 1) ≡ faultAt 48
-unfolding bookCheck entriesCheck coordsCheck leastCheck coordinateBits coordinate ofBits numberOf coordsIn countsIn countsOf ringCount entryOffset total bestOf best less ord kept toBits eq
+unfolding bookCheck entriesCheck coordsCheck leastCheck coordinateBits coordinate ofBits numberOf coordsIn fieldsIn countsOf ringCount entryOffset total bestOf best less ord kept toBits eq
 ring-elsewhere = refl
 
 pub two-vertices : bookCheck (set book 52 2) ≡ faultAt 52
-unfolding bookCheck entriesCheck coordsCheck leastCheck coordinateBits coordinate ofBits numberOf coordsIn countsIn countsOf ringCount entryOffset total bestOf best less ord kept toBits eq
+unfolding bookCheck entriesCheck coordsCheck leastCheck coordinateBits coordinate ofBits numberOf coordsIn fieldsIn countsOf ringCount entryOffset total bestOf best less ord kept toBits eq
 two-vertices = refl
 
 pub four-vertices : bookCheck (set book 52 4) ≡ faultAt 64
-unfolding bookCheck entriesCheck coordsCheck leastCheck coordinateBits coordinate ofBits numberOf coordsIn countsIn countsOf ringCount entryOffset total bestOf best less ord kept toBits eq
+unfolding bookCheck entriesCheck coordsCheck leastCheck coordinateBits coordinate ofBits numberOf coordsIn fieldsIn countsOf ringCount entryOffset total bestOf best less ord kept toBits eq
 four-vertices = refl
 
 pub too-large : bookCheck (set (set book 47 65) 46 48) ≡ faultAt 40
-unfolding bookCheck entriesCheck coordsCheck leastCheck coordinateBits coordinate ofBits numberOf coordsIn countsIn countsOf ringCount entryOffset total bestOf best less ord kept toBits eq
+unfolding bookCheck entriesCheck coordsCheck leastCheck coordinateBits coordinate ofBits numberOf coordsIn fieldsIn countsOf ringCount entryOffset total bestOf best less ord kept toBits eq
 too-large = refl
 
 pub not-a-number : bookCheck (set (set book 39 127) 38 248) ≡ faultAt 32
-unfolding bookCheck entriesCheck coordsCheck leastCheck coordinateBits coordinate ofBits numberOf coordsIn countsIn countsOf ringCount entryOffset total bestOf best less ord kept toBits eq
+unfolding bookCheck entriesCheck coordsCheck leastCheck coordinateBits coordinate ofBits numberOf coordsIn fieldsIn countsOf ringCount entryOffset total bestOf best less ord kept toBits eq
 not-a-number = refl
 
 pub minus-x : bookCheck (set book 23 128) ≡ faultAt 16
-unfolding bookCheck entriesCheck coordsCheck leastCheck coordinateBits coordinate ofBits numberOf coordsIn countsIn countsOf ringCount entryOffset total bestOf best less ord kept toBits eq
+unfolding bookCheck entriesCheck coordsCheck leastCheck coordinateBits coordinate ofBits numberOf coordsIn fieldsIn countsOf ringCount entryOffset total bestOf best less ord kept toBits eq
 minus-x = refl
 
 pub minus-y : bookCheck (set book 47 128) ≡ faultAt 40
-unfolding bookCheck entriesCheck coordsCheck leastCheck coordinateBits coordinate ofBits numberOf coordsIn countsIn countsOf ringCount entryOffset total bestOf best less ord kept toBits eq
+unfolding bookCheck entriesCheck coordsCheck leastCheck coordinateBits coordinate ofBits numberOf coordsIn fieldsIn countsOf ringCount entryOffset total bestOf best less ord kept toBits eq
 minus-y = refl
 
 pub as-given : bookCheck (layout triangle parts) ≡ faultAt 0
-unfolding layout body entries coordBytes bytesOf kept toBits bookCheck entriesCheck coordsCheck leastCheck coordinateBits coordinate ofBits numberOf coordsIn countsIn countsOf ringCount entryOffset total bestOf best less ord eq
+unfolding layout body entries coordBytes bytesOf kept toBits bookCheck entriesCheck coordsCheck leastCheck coordinateBits coordinate ofBits numberOf coordsIn fieldsIn countsOf ringCount entryOffset total bestOf best less ord eq
 as-given = refl
 
 -- the part is any number: the largest, and 0
 pub largest-part : bookCheck (set (set (set (set book 56 255) 57 255) 58 255) 59 255) ≡ none
-unfolding bookCheck entriesCheck coordsCheck leastCheck coordinateBits coordinate ofBits numberOf coordsIn countsIn countsOf ringCount entryOffset total bestOf best less ord kept toBits eq
+unfolding bookCheck entriesCheck coordsCheck leastCheck coordinateBits coordinate ofBits numberOf coordsIn fieldsIn countsOf ringCount entryOffset total bestOf best less ord kept toBits eq
 largest-part = refl
 
 pub part-zero : bookCheck (set book 56 0) ≡ none
-unfolding bookCheck entriesCheck coordsCheck leastCheck coordinateBits coordinate ofBits numberOf coordsIn countsIn countsOf ringCount entryOffset total bestOf best less ord kept toBits eq
+unfolding bookCheck entriesCheck coordsCheck leastCheck coordinateBits coordinate ofBits numberOf coordsIn fieldsIn countsOf ringCount entryOffset total bestOf best less ord kept toBits eq
 part-zero = refl
 
 pub part-told : partsOf book ≡ parts
-unfolding partsOf partsIn numberOf ringCount entryOffset
+unfolding partsOf fieldsIn numberOf ringCount entryOffset
 part-told = refl
 
 -- of two faults the first is told: the ring's offset before its vertices, a coordinate before the least reading
 pub offset-first : bookCheck (set (set book 48 1) 52 2) ≡ faultAt 48
-unfolding bookCheck entriesCheck coordsCheck leastCheck coordinateBits coordinate ofBits numberOf coordsIn countsIn countsOf ringCount entryOffset total bestOf best less ord kept toBits eq
+unfolding bookCheck entriesCheck coordsCheck leastCheck coordinateBits coordinate ofBits numberOf coordsIn fieldsIn countsOf ringCount entryOffset total bestOf best less ord kept toBits eq
 offset-first = refl
 
 pub coordinate-first : bookCheck (set (set (set (layout triangle parts) 7 64) 15 65) 14 48) ≡ faultAt 8
-unfolding layout body entries coordBytes bytesOf kept toBits bookCheck entriesCheck coordsCheck leastCheck coordinateBits coordinate ofBits numberOf coordsIn countsIn countsOf ringCount entryOffset total bestOf best less ord eq
+unfolding layout body entries coordBytes bytesOf kept toBits bookCheck entriesCheck coordsCheck leastCheck coordinateBits coordinate ofBits numberOf coordsIn fieldsIn countsOf ringCount entryOffset total bestOf best less ord eq
 coordinate-first = refl
 
 -- ---- the writer's tests, for rooms of so many bytes
@@ -195,21 +195,21 @@ first-too-long = refl
 -- ---- the reader's, for rooms of so many numbers, counts and parts
 
 pub accepted : readRefusal book 6 1 1 ≡ none
-unfolding readRefusal coordsOf bookCheck entriesCheck coordsCheck leastCheck coordinateBits coordinate ofBits numberOf coordsIn countsIn countsOf ringCount entryOffset total bestOf best less ord kept toBits eq
+unfolding readRefusal coordsOf bookCheck entriesCheck coordsCheck leastCheck coordinateBits coordinate ofBits numberOf coordsIn fieldsIn countsOf ringCount entryOffset total bestOf best less ord kept toBits eq
 accepted = refl
 
 pub small-numbers : readRefusal book 5 1 1 ≡ refuse 4 0
-unfolding readRefusal coordsOf bookCheck entriesCheck coordsCheck leastCheck coordinateBits coordinate ofBits numberOf coordsIn countsIn countsOf ringCount entryOffset total bestOf best less ord kept toBits eq
+unfolding readRefusal coordsOf bookCheck entriesCheck coordsCheck leastCheck coordinateBits coordinate ofBits numberOf coordsIn fieldsIn countsOf ringCount entryOffset total bestOf best less ord kept toBits eq
 small-numbers = refl
 
 pub small-counts : readRefusal book 6 0 1 ≡ refuse 4 0
-unfolding readRefusal coordsOf bookCheck entriesCheck coordsCheck leastCheck coordinateBits coordinate ofBits numberOf coordsIn countsIn countsOf ringCount entryOffset total bestOf best less ord kept toBits eq
+unfolding readRefusal coordsOf bookCheck entriesCheck coordsCheck leastCheck coordinateBits coordinate ofBits numberOf coordsIn fieldsIn countsOf ringCount entryOffset total bestOf best less ord kept toBits eq
 small-counts = refl
 
 pub small-parts : readRefusal book 6 1 0 ≡ refuse 4 0
-unfolding readRefusal coordsOf bookCheck entriesCheck coordsCheck leastCheck coordinateBits coordinate ofBits numberOf coordsIn countsIn countsOf ringCount entryOffset total bestOf best less ord kept toBits eq
+unfolding readRefusal coordsOf bookCheck entriesCheck coordsCheck leastCheck coordinateBits coordinate ofBits numberOf coordsIn fieldsIn countsOf ringCount entryOffset total bestOf best less ord kept toBits eq
 small-parts = refl
 
 pub fault-before-room : readRefusal (set book 52 2) 5 0 0 ≡ faultAt 52
-unfolding readRefusal coordsOf bookCheck entriesCheck coordsCheck leastCheck coordinateBits coordinate ofBits numberOf coordsIn countsIn countsOf ringCount entryOffset total bestOf best less ord kept toBits eq
+unfolding readRefusal coordsOf bookCheck entriesCheck coordsCheck leastCheck coordinateBits coordinate ofBits numberOf coordsIn fieldsIn countsOf ringCount entryOffset total bestOf best less ord kept toBits eq
 fault-before-room = refl

@@ -112,15 +112,18 @@ unfoldable pub coordsIn : ℕ → List ℕ → List ℕ
 coordsIn zero f = []
 coordsIn (suc k) f = numberOf (take coordinateBytes f) ∷ coordsIn k (drop coordinateBytes f)
 
--- the vertex counts of k entries
-unfoldable pub countsIn : ℕ → List ℕ → List ℕ
-countsIn zero f = []
-countsIn (suc k) f = numberOf (take fieldBytes (drop fieldBytes f)) ∷ countsIn k (drop entryBytes f)
+-- of k entries the field that stands `p` bytes into each
+unfoldable pub fieldsIn : ℕ → ℕ → List ℕ → List ℕ
+fieldsIn p zero f = []
+fieldsIn p (suc k) f = numberOf (take fieldBytes (drop p f)) ∷ fieldsIn p k (drop entryBytes f)
 
--- the parts of k entries
-unfoldable pub partsIn : ℕ → List ℕ → List ℕ
-partsIn zero f = []
-partsIn (suc k) f = numberOf (take fieldBytes (drop (2 * fieldBytes) f)) ∷ partsIn k (drop entryBytes f)
+-- the vertex counts of k entries
+abbrev pub countsIn : ℕ → List ℕ → List ℕ
+countsIn k f = fieldsIn fieldBytes k f
+
+-- their parts
+abbrev pub partsIn : ℕ → List ℕ → List ℕ
+partsIn k f = fieldsIn (2 * fieldBytes) k f
 
 -- rings of these counts, one after the other
 unfoldable pub ringsIn : List ℕ → List ℕ → List (List Vertex)
