@@ -1134,13 +1134,15 @@ static void traces(void) {
 
 /* ---- The outline book ---- */
 
-/* The book of the triangle (4,0), (0,3), (0,0). */
-static const uint8_t BOOK[64] = {
+/* The book of the triangle (4,0), (0,3), (0,0), of part 7, and parts for ten rings. */
+static const uint8_t BOOK[68] = {
     0, 0, 0, 0, 0, 0, 0,    0,    0, 0, 0, 0, 0, 0, 0, 0,    /* (0,0) */
     0, 0, 0, 0, 0, 0, 0,    0,    0, 0, 0, 0, 0, 0, 8, 0x40, /* (0,3) */
     0, 0, 0, 0, 0, 0, 0x10, 0x40, 0, 0, 0, 0, 0, 0, 0, 0,    /* (4,0) */
-    0, 0, 0, 0, 3, 0, 0,    0,                               /* offset, vertices */
+    0, 0, 0, 0, 3, 0, 0,    0,    7, 0, 0, 0,                /* offset, vertices, part */
     1, 0, 0, 0, 48, 0, 0,   0};                              /* rings, entries */
+
+static const uint32_t PARTS[10] = {7, 0, 0xffffffff, 7, 1, 2, 3, 4, 5, 6};
 
 /* What is lent to write a book, the number with which it is refused, and the place
  * afterwards. */
@@ -1149,40 +1151,46 @@ struct book {
     size_t n;
     uint32_t counts[10];
     size_t rings;
+    size_t parts_n;
     uint32_t number;
     uint64_t place;
 };
 
 static const struct book BOOKS[] = {
     /* The number of rings, before anything else. */
-    {NULL, 0, {0}, 0, BYR_REFUSED_FEW, 0},
-    {WRONG, 1, {0}, 0, BYR_REFUSED_FEW, 0},
-    {WRONG, 54, {3, 3, 3, 3, 3, 3, 3, 3, 3}, 9, BYR_REFUSED_MANY, 9},
-    {WRONG, 1, {2, 257}, 10, BYR_REFUSED_MANY, 10},
+    {NULL, 0, {0}, 0, 0, BYR_REFUSED_FEW, 0},
+    {WRONG, 1, {0}, 0, 0, BYR_REFUSED_FEW, 0},
+    {WRONG, 54, {3, 3, 3, 3, 3, 3, 3, 3, 3}, 9, 9, BYR_REFUSED_MANY, 9},
+    {WRONG, 1, {2, 257}, 10, 10, BYR_REFUSED_MANY, 10},
     /* Ring by ring its vertices. */
-    {WRONG, 4, {2}, 1, BYR_REFUSED_FEW, 0},
-    {WRONG, 514, {257}, 1, BYR_REFUSED_MANY, 0},
-    {WRONG, 10, {3, 2}, 2, BYR_REFUSED_FEW, 1},
-    {WRONG, 518, {257, 2}, 2, BYR_REFUSED_MANY, 0},
-    {WRONG, 518, {2, 257}, 2, BYR_REFUSED_FEW, 0},
-    {WRONG, 7, {3, 0xffffffff}, 2, BYR_REFUSED_MANY, 1},
-    {WRONG, 7, {3, 3, 3, 3, 3, 3, 3, 0}, 8, BYR_REFUSED_FEW, 7},
+    {WRONG, 4, {2}, 1, 1, BYR_REFUSED_FEW, 0},
+    {WRONG, 514, {257}, 1, 1, BYR_REFUSED_MANY, 0},
+    {WRONG, 10, {3, 2}, 2, 2, BYR_REFUSED_FEW, 1},
+    {WRONG, 518, {257, 2}, 2, 2, BYR_REFUSED_MANY, 0},
+    {WRONG, 518, {2, 257}, 2, 2, BYR_REFUSED_FEW, 0},
+    {WRONG, 7, {3, 0xffffffff}, 2, 2, BYR_REFUSED_MANY, 1},
+    {WRONG, 7, {3, 3, 3, 3, 3, 3, 3, 0}, 8, 8, BYR_REFUSED_FEW, 7},
     /* The sum. */
-    {WRONG, 6, {4}, 1, BYR_REFUSED_LENGTH, 1},
-    {WRONG, 12, {3, 4}, 2, BYR_REFUSED_LENGTH, 2},
-    {WRONG, 16, {3, 4}, 2, BYR_REFUSED_LENGTH, 2},
-    {WRONG, 5, {3}, 1, BYR_REFUSED_LENGTH, 1},
-    {WRONG, 7, {3}, 1, BYR_REFUSED_LENGTH, 1},
-    {NULL, 0, {3, 3, 3, 3, 3, 3, 3, 256}, 8, BYR_REFUSED_LENGTH, 8},
+    {WRONG, 6, {4}, 1, 1, BYR_REFUSED_LENGTH, 1},
+    {WRONG, 12, {3, 4}, 2, 2, BYR_REFUSED_LENGTH, 2},
+    {WRONG, 16, {3, 4}, 2, 2, BYR_REFUSED_LENGTH, 2},
+    {WRONG, 5, {3}, 1, 1, BYR_REFUSED_LENGTH, 1},
+    {WRONG, 7, {3}, 1, 1, BYR_REFUSED_LENGTH, 1},
+    {NULL, 0, {3, 3, 3, 3, 3, 3, 3, 256}, 8, 8, BYR_REFUSED_LENGTH, 8},
+    /* The number of parts. */
+    {WRONG, 6, {3}, 1, 0, BYR_REFUSED_LENGTH, 1},
+    {WRONG, 6, {3}, 1, 2, BYR_REFUSED_LENGTH, 1},
+    {WRONG, 14, {3, 4}, 2, 1, BYR_REFUSED_LENGTH, 2},
+    {WRONG, 14, {3, 4}, 2, 10, BYR_REFUSED_LENGTH, 2},
     /* The rest. */
-    {WRONG, 6, {3}, 1, BYR_REFUSED_NUMBER, HELD_COUNT},
-    {WRONG, 554, {3, 3, 3, 3, 3, 3, 3, 256}, 8, BYR_REFUSED_NUMBER, HELD_COUNT},
-    {GOOD, 6, {3}, 1, BYR_REFUSED_ROOM, HELD_COUNT},
+    {WRONG, 6, {3}, 1, 1, BYR_REFUSED_NUMBER, HELD_COUNT},
+    {WRONG, 554, {3, 3, 3, 3, 3, 3, 3, 256}, 8, 8, BYR_REFUSED_NUMBER, HELD_COUNT},
+    {GOOD, 6, {3}, 1, 1, BYR_REFUSED_ROOM, HELD_COUNT},
 };
 
 /* Tries each in a room that is too short for any book. */
 static void refused_books(void) {
-    uint8_t room[63];
+    uint8_t room[67];
     size_t i;
 
     memset(room, 0xa5, sizeof room);
@@ -1191,9 +1199,10 @@ static void refused_books(void) {
         uint64_t length = HELD_COUNT;
         uint64_t place = HELD_COUNT;
         row = i + 1;
-        CHECK(byr_write_book(b->coordinates, b->n, b->counts, b->rings, room, 63, &length, &place) == b->number);
+        CHECK(byr_write_book(b->coordinates, b->n, b->counts, b->rings, PARTS, b->parts_n, room, 67, &length, &place) ==
+              b->number);
         CHECK(place == b->place && length == HELD_COUNT);
-        CHECK(room[0] == 0xa5 && memcmp(room, room + 1, 62) == 0);
+        CHECK(room[0] == 0xa5 && memcmp(room, room + 1, 66) == 0);
     }
     row = 0;
 }
@@ -1202,7 +1211,7 @@ static void writing(void) {
     static const double ring[6] = {4, 0, 0, 3, 0, 0};
     static const uint32_t three[1] = {3};
     double wrong[6];
-    uint8_t room[67];
+    uint8_t room[71];
     uint64_t length = HELD_COUNT;
     uint64_t place = HELD_COUNT;
 
@@ -1211,12 +1220,13 @@ static void writing(void) {
     memset(room, 0xa5, sizeof room);
     memcpy(wrong, ring, sizeof wrong);
     wrong[0] = -past_million();
-    CHECK(byr_write_book(wrong, 6, three, 1, room, 66, &length, &place) == BYR_REFUSED_NUMBER);
-    CHECK(length == HELD_COUNT && room[0] == 0xa5 && memcmp(room, room + 1, 66) == 0);
-    CHECK(byr_write_book(ring, 6, three, 1, room + 1, 66, &length, &place) == 0 && length == 64);
-    CHECK(memcmp(room + 1, BOOK, 64) == 0);
-    CHECK(room[0] == 0xa5 && room[65] == 0xa5 && room[66] == 0xa5);
-    CHECK(byr_write_book(TRIANGLE, 6, three, 1, room, 64, &length, &place) == 0 && memcmp(room, BOOK, 64) == 0);
+    CHECK(byr_write_book(wrong, 6, three, 1, PARTS, 1, room, 70, &length, &place) == BYR_REFUSED_NUMBER);
+    CHECK(length == HELD_COUNT && room[0] == 0xa5 && memcmp(room, room + 1, 70) == 0);
+    CHECK(byr_write_book(ring, 6, three, 1, PARTS, 1, room + 1, 70, &length, &place) == 0 && length == 68);
+    CHECK(memcmp(room + 1, BOOK, 68) == 0);
+    CHECK(room[0] == 0xa5 && room[69] == 0xa5 && room[70] == 0xa5);
+    CHECK(byr_write_book(TRIANGLE, 6, three, 1, PARTS, 1, room, 68, &length, &place) == 0);
+    CHECK(memcmp(room, BOOK, 68) == 0);
     CHECK(place == HELD_COUNT);
 }
 
@@ -1226,17 +1236,18 @@ static void closed_drawings(void) {
     static const uint32_t three[1] = {3};
     static const uint32_t four[1] = {4};
     double opened[8];
-    uint8_t room[80];
-    uint8_t other[80];
+    uint8_t room[84];
+    uint8_t other[84];
     uint64_t length = HELD_COUNT;
     uint64_t vertices = HELD_COUNT;
     uint64_t place = HELD_COUNT;
 
-    CHECK(byr_write_book(CLOSED, 8, four, 1, room, 80, &length, &place) == 0 && length == 80);
-    CHECK(byr_write_book(elsewhere, 8, four, 1, other, 80, &length, &place) == 0);
-    CHECK(memcmp(room, other, 80) != 0);
+    CHECK(byr_write_book(CLOSED, 8, four, 1, PARTS, 1, room, 84, &length, &place) == 0 && length == 84);
+    CHECK(byr_write_book(elsewhere, 8, four, 1, PARTS, 1, other, 84, &length, &place) == 0);
+    CHECK(memcmp(room, other, 84) != 0);
     CHECK(byr_open_ring(elsewhere, 8, opened, 8, &vertices, &place) == 0 && vertices == 3);
-    CHECK(byr_write_book(opened, 6, three, 1, other, 80, &length, &place) == 0 && memcmp(other, BOOK, 64) == 0);
+    CHECK(byr_write_book(opened, 6, three, 1, PARTS, 1, other, 84, &length, &place) == 0);
+    CHECK(memcmp(other, BOOK, 68) == 0);
     CHECK(place == HELD_COUNT);
 }
 
@@ -1254,27 +1265,30 @@ static void books_of_zeros(void) {
     double mirror[16];
     double stored[10];
     uint32_t counts[1];
-    uint8_t room[144];
-    uint8_t other[144];
+    uint32_t parts[1];
+    uint8_t room[148];
+    uint8_t other[148];
     uint64_t rings = HELD_COUNT;
     uint64_t length = HELD_COUNT;
     uint64_t vertices = HELD_COUNT;
     uint64_t place = HELD_COUNT;
 
-    CHECK(byr_write_book(zeros, 6, three, 1, room, 64, &length, &place) == 0 && memcmp(room, BOOK, 64) == 0);
-    CHECK(byr_write_book(chosen, 10, five, 1, room, 96, &length, &place) == 0 && length == 96);
-    CHECK(byr_read_book(room, 96, stored, 10, counts, 1, &rings, &place) == 0 && same_list(stored, least, 10));
-    CHECK(byr_write_book(carrier, 16, eight, 1, room, 144, &length, &place) == 0 && length == 144);
+    CHECK(byr_write_book(zeros, 6, three, 1, PARTS, 1, room, 68, &length, &place) == 0 && memcmp(room, BOOK, 68) == 0);
+    CHECK(byr_write_book(chosen, 10, five, 1, PARTS, 1, room, 100, &length, &place) == 0 && length == 100);
+    CHECK(byr_read_book(room, 100, stored, 10, counts, 1, parts, 1, &rings, &place) == 0);
+    CHECK(same_list(stored, least, 10) && parts[0] == 7);
+    CHECK(byr_write_book(carrier, 16, eight, 1, PARTS, 1, room, 148, &length, &place) == 0 && length == 148);
     CHECK(byr_mirror_polygon(carrier, 16, mirror, 16, &vertices, &place) == 0 && same(mirror[14], -0.0));
-    CHECK(byr_write_book(mirror, 16, eight, 1, other, 144, &length, &place) == 0 && length == 144);
-    CHECK(memcmp(room, other, 144) == 0 && place == HELD_COUNT);
+    CHECK(byr_write_book(mirror, 16, eight, 1, PARTS, 1, other, 148, &length, &place) == 0 && length == 148);
+    CHECK(memcmp(room, other, 148) == 0 && place == HELD_COUNT);
 }
 
 /* A stored -0.0 in each coordinate, alone, and with a wrong one after and before it. */
 static void refused_zeros(void) {
-    uint8_t wrong[64];
+    uint8_t wrong[68];
     double coordinates[6];
     uint32_t counts[1] = {HELD_WORD};
+    uint32_t parts[1] = {HELD_WORD};
     uint64_t rings = HELD_COUNT;
     size_t at;
 
@@ -1285,45 +1299,52 @@ static void refused_zeros(void) {
         memcpy(wrong, BOOK, sizeof wrong);
         memset(wrong + at, 0, 7);
         wrong[at + 7] = 0x80;
-        CHECK(byr_read_book(wrong, 64, coordinates, 6, counts, 1, &rings, &place) == BYR_REFUSED_BOOK && place == at);
+        CHECK(byr_read_book(wrong, 68, coordinates, 6, counts, 1, parts, 1, &rings, &place) == BYR_REFUSED_BOOK);
+        CHECK(place == at);
         if (at < 40) {
             wrong[47] = 0x7f; /* past 1000000 */
         }
         place = HELD_COUNT;
-        CHECK(byr_read_book(wrong, 64, NULL, 0, NULL, 0, &rings, &place) == BYR_REFUSED_BOOK && place == at);
+        CHECK(byr_read_book(wrong, 68, NULL, 0, NULL, 0, NULL, 0, &rings, &place) == BYR_REFUSED_BOOK && place == at);
         wrong[7] = 0x7f;
-        CHECK(byr_read_book(wrong, 64, NULL, 0, NULL, 0, &rings, &place) == BYR_REFUSED_BOOK && place == 0);
+        CHECK(byr_read_book(wrong, 68, NULL, 0, NULL, 0, NULL, 0, &rings, &place) == BYR_REFUSED_BOOK && place == 0);
     }
     row = 0;
-    CHECK(held(coordinates, 0, 6) && counts[0] == HELD_WORD && rings == HELD_COUNT);
+    CHECK(held(coordinates, 0, 6) && counts[0] == HELD_WORD && parts[0] == HELD_WORD && rings == HELD_COUNT);
 }
 
 static void reading(void) {
     static const double stored[6] = {0, 0, 0, 3, 4, 0};
-    uint8_t odd[65];
+    uint8_t odd[69];
     double coordinates[7];
     uint32_t counts[2] = {HELD_WORD, HELD_WORD};
+    uint32_t parts[2] = {HELD_WORD, HELD_WORD};
     uint64_t rings = HELD_COUNT;
     uint64_t place = HELD_COUNT;
 
     begin("byr_read_book");
     hold(coordinates, 7);
-    memcpy(odd + 1, BOOK, 64);
-    CHECK(byr_read_book(NULL, 0, coordinates, 7, counts, 2, &rings, &place) == BYR_REFUSED_BOOK && place == 0);
-    odd[1 + 56] = 9;
-    CHECK(byr_read_book(odd + 1, 64, NULL, 0, NULL, 0, &rings, &place) == BYR_REFUSED_BOOK && place == 56);
-    odd[1 + 56] = 1;
+    memcpy(odd + 1, BOOK, 68);
+    CHECK(byr_read_book(NULL, 0, coordinates, 7, counts, 2, parts, 2, &rings, &place) == BYR_REFUSED_BOOK);
+    CHECK(place == 0);
+    odd[1 + 60] = 9;
+    CHECK(byr_read_book(odd + 1, 68, NULL, 0, NULL, 0, NULL, 0, &rings, &place) == BYR_REFUSED_BOOK && place == 60);
+    odd[1 + 60] = 1;
     odd[1 + 7] = 0x7f;
     odd[1 + 6] = 0xf0;
-    CHECK(byr_read_book(odd + 1, 64, coordinates, 7, counts, 2, &rings, &place) == BYR_REFUSED_BOOK && place == 0);
+    CHECK(byr_read_book(odd + 1, 68, coordinates, 7, counts, 2, parts, 2, &rings, &place) == BYR_REFUSED_BOOK);
+    CHECK(place == 0);
     odd[1 + 7] = odd[1 + 6] = 0;
     place = HELD_COUNT;
-    CHECK(byr_read_book(odd + 1, 64, coordinates, 5, counts, 2, &rings, &place) == BYR_REFUSED_ROOM);
-    CHECK(byr_read_book(odd + 1, 64, coordinates, 7, counts, 0, &rings, &place) == BYR_REFUSED_ROOM);
-    CHECK(held(coordinates, 0, 7) && counts[0] == HELD_WORD && rings == HELD_COUNT && place == HELD_COUNT);
-    CHECK(byr_read_book(odd + 1, 64, coordinates, 7, counts, 2, &rings, &place) == 0 && rings == 1);
+    CHECK(byr_read_book(odd + 1, 68, coordinates, 5, counts, 2, parts, 2, &rings, &place) == BYR_REFUSED_ROOM);
+    CHECK(byr_read_book(odd + 1, 68, coordinates, 7, counts, 0, parts, 2, &rings, &place) == BYR_REFUSED_ROOM);
+    CHECK(byr_read_book(odd + 1, 68, coordinates, 7, counts, 2, parts, 0, &rings, &place) == BYR_REFUSED_ROOM);
+    CHECK(held(coordinates, 0, 7) && counts[0] == HELD_WORD && parts[0] == HELD_WORD);
+    CHECK(rings == HELD_COUNT && place == HELD_COUNT);
+    CHECK(byr_read_book(odd + 1, 68, coordinates, 7, counts, 2, parts, 2, &rings, &place) == 0 && rings == 1);
     CHECK(same_list(coordinates, stored, 6) && held(coordinates, 6, 7));
     CHECK(counts[0] == 3 && counts[1] == HELD_WORD && place == HELD_COUNT);
+    CHECK(parts[0] == 7 && parts[1] == HELD_WORD);
     refused_zeros();
 }
 

@@ -69,7 +69,7 @@ extern "C" {
  *     if (byr_abi_version() != BYR_ABI_VERSION) { .. header and archive are not of one tree .. }
  *
  * An archive from before there was a number does not link with such a program. */
-#define BYR_ABI_VERSION 3
+#define BYR_ABI_VERSION 4
 
 /* The interface of the archive. This function itself stays as it is. */
 uint32_t byr_abi_version(void);
@@ -404,13 +404,15 @@ uint32_t byr_compute_nfp_sliding(const double *stationary, size_t sn, const doub
 /* ---- The outline book ---- */
 
 /* Writes the book of 1 to 8 rings of 3 to 256 vertices: coordinates has them one
- * after the other, counts the vertices of each. Two rings give the same bytes
- * exactly if they are the same vertices, as numbers, begun at any of them and taken
- * either way round: of either zero 0.0 is kept, so that an outline symmetric about
+ * after the other, counts the vertices of each, parts the number of the part that
+ * each belongs to, any at all. Two lists of rings give the same bytes exactly if
+ * place by place the parts are the same and the rings are the same vertices, as
+ * numbers, begun at any of them and taken either way round: of either zero 0.0 is
+ * kept, so that an outline symmetric about
  * x = 0 and its mirror by byr_mirror_polygon have one book. A closing repeat is a
  * vertex like any other: the closed (0,0),(4,0),(0,3),(0,0) and
  * (4,0),(0,3),(0,0),(4,0) have two books, and opened one. length: the book's bytes,
- * 16 a vertex, 8 a ring and 8; 32840 at most.
+ * 16 a vertex, 12 a ring and 8; 32872 at most.
  *
  * Refusals, in this order, and the place that each tells:
  *
@@ -418,19 +420,21 @@ uint32_t byr_compute_nfp_sliding(const double *stationary, size_t sn, const doub
  *     ring by ring, 8 under three vertices, 9 above 256   the ring, from 0 on
  *     1 unless there are two coordinates for each vertex
  *     counted; so also for an odd list                    the number of rings
+ *     1 unless there are as many parts as rings           the number of rings
  *     2, then 4                                           none
  *
  * So 8 at place 0 is a book of no rings if none is lent, and else a short ring 0. */
-uint32_t byr_write_book(const double *coordinates, size_t n, const uint32_t *counts, size_t rings, uint8_t *room,
-                        size_t room_n, uint64_t *length, uint64_t *place);
+uint32_t byr_write_book(const double *coordinates, size_t n, const uint32_t *counts, size_t rings,
+                        const uint32_t *parts, size_t parts_n, uint8_t *room, size_t room_n, uint64_t *length,
+                        uint64_t *place);
 
-/* Hands out the rings of a book as stored: their coordinates one after the other
- * and the vertices of each; rings: how many. 4096 coordinates and 8 counts always
- * suffice. Writing what was read gives that book again. Refusals: 7 for what
+/* Hands out the rings of a book as stored: their coordinates one after the other,
+ * the vertices of each and its part; rings: how many. 4096 coordinates, 8 counts and 8
+ * parts always suffice. Writing what was read gives that book again. Refusals: 7 for what
  * byr_write_book does not write, with place the byte of the first fault, which for a
  * stored -0.0 is that coordinate's first byte; then 4. */
 uint32_t byr_read_book(const uint8_t *book, size_t n, double *coordinates, size_t coordinates_n, uint32_t *counts,
-                       size_t counts_n, uint64_t *rings, uint64_t *place);
+                       size_t counts_n, uint32_t *parts, size_t parts_n, uint64_t *rings, uint64_t *place);
 
 /* ---- Drawings in well-known binary ----
  * The well-known binary of OGC Simple Features, of a polygon with one ring:

@@ -31,7 +31,7 @@ fn answered(input: &[u8]) -> Answer<Explanation> {
     let (words, book) = input.split_at(WORDS);
     let word = |at: usize| f64::from_le_bytes(words[at..at + 8].try_into().expect("eight bytes"));
     let (mut coordinates, mut counts) = ([0.0; 4096], [0; 8]);
-    read_book(book, &mut coordinates, &mut counts)?;
+    read_book(book, &mut coordinates, &mut counts, &mut [0; 8])?;
     let (stationary, rest) = coordinates.split_at(2 * counts[0] as usize);
     let orbiting = &rest[..2 * counts[1] as usize];
     explain_collision(stationary, orbiting, (word(0), word(8)), word(16))

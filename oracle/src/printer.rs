@@ -1,6 +1,6 @@
 //! The ring printer's stored inputs: books, and files that are none.
 
-use crate::book::{book_of, file_of, patched, printed, LEAST_BYTES};
+use crate::book::{book_of, file_of, old_file, patched, printed, LEAST_BYTES};
 use crate::refusals::LARGEST;
 use crate::replay::book::longest;
 use crate::shapes::{carrier, mirrored};
@@ -47,20 +47,29 @@ fn wrong_lengths() -> Cases {
     ]
 }
 
+/// Files as books were before rings had parts, by their names.
+fn old_books() -> Cases {
+    vec![
+        ("old_shortest", old_file(&example())),
+        ("old_two_rings", old_file(&book_of(&[triangle(), pinched()]))),
+        ("old_longest", old_file(&book_of(&longest()))),
+    ]
+}
+
 /// Files with a wrong field, by their names. The book of one ring has its entry
 /// at byte 48, that of two rings its entries at byte 112.
 fn wrong_fields() -> Cases {
     let with = |file: &[u8], place: usize, value: u32| patched(file, place, &value.to_le_bytes());
     let (one, two) = (example(), book_of(&[triangle(), pinched()]));
     vec![
-        ("no_ring", with(&one, 56, 0)),
-        ("nine_rings", with(&one, 56, 9)),
-        ("eight_rings_told", with(&with(&one, 56, 8), 60, 0)),
-        ("entries_elsewhere", with(&one, 60, 47)),
+        ("no_ring", with(&one, 60, 0)),
+        ("nine_rings", with(&one, 60, 9)),
+        ("eight_rings_told", with(&with(&one, 60, 8), 64, 0)),
+        ("entries_elsewhere", with(&one, 64, 47)),
         ("two_vertices", with(&one, 52, 2)),
         ("too_many_vertices", with(&two, 116, 257)),
-        ("ring_elsewhere", with(&two, 120, 49)),
-        ("rings_end_early", with(&two, 124, 3)),
+        ("ring_elsewhere", with(&two, 124, 49)),
+        ("rings_end_early", with(&two, 128, 3)),
     ]
 }
 
@@ -84,5 +93,5 @@ fn wrong_rings() -> Cases {
 
 /// All stored cases, by their names.
 fn cases() -> Cases {
-    [books(), wrong_lengths(), wrong_fields(), wrong_rings()].concat()
+    [books(), wrong_lengths(), old_books(), wrong_fields(), wrong_rings()].concat()
 }

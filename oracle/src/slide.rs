@@ -55,7 +55,7 @@ fn traced(stationary: &[f64], orbiting: &[f64], settings: &Settings) -> String {
 pub fn printed(input: &[u8]) -> String {
     let (mut coordinates, mut counts) = ([0.0; 4096], [0; 8]);
     let book = input.get(SETTINGS..).unwrap_or_default();
-    match read_book(book, &mut coordinates, &mut counts) {
+    match read_book(book, &mut coordinates, &mut counts, &mut [0; 8]) {
         Ok(_) => {
             let (stationary, rest) = coordinates.split_at(2 * counts[0] as usize);
             traced(stationary, &rest[..2 * counts[1] as usize], &settings_of(input))

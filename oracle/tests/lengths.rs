@@ -256,6 +256,7 @@ fn selections_are_met_of_no_to_seven_numbers() {
 struct Written {
     counts: Vec<u64>,
     numbers: u64,
+    parts: u64,
     told: (u64, u64),
 }
 
@@ -267,6 +268,7 @@ fn written(records: Vec<Vec<u64>>) -> Vec<Written> {
         Written {
             counts: record[counts].to_vec(),
             numbers: record[1],
+            parts: record[8],
             told: (record[5], record[7]),
         }
     };
@@ -279,8 +281,9 @@ fn long_written() -> Vec<Written> {
     written((0..5_000).map(|place| (list.long)(seeded, place)).collect())
 }
 
-/// The number and the place that these counts ask for with so many numbers.
-fn asked(counts: &[u64], numbers: u64) -> Option<(u64, u64)> {
+/// The number and the place that these counts ask for with so many numbers and so
+/// many parts.
+fn asked(counts: &[u64], numbers: u64, parts: u64) -> Option<(u64, u64)> {
     let rings = counts.len() as u64;
     let fault = |n: u64, least: u64, most: u64| match n {
         _ if n < least => Some(8),
@@ -292,15 +295,16 @@ fn asked(counts: &[u64], numbers: u64) -> Option<(u64, u64)> {
     }
     let ring = |(i, &n): (usize, &u64)| Some((fault(n, 3, 256)?, i as u64));
     let sum = || (numbers != 2 * counts.iter().sum::<u64>()).then_some((1, rings));
-    counts.iter().enumerate().find_map(ring).or_else(sum)
+    let all = || (parts != rings).then_some((1, rings));
+    counts.iter().enumerate().find_map(ring).or_else(sum).or_else(all)
 }
 
 #[test]
 fn every_book_record_tells_its_first_wrong_count() {
-    for Written { counts, numbers, told } in
+    for Written { counts, numbers, parts, told } in
         written(book::records()).into_iter().chain(long_written())
     {
-        match asked(&counts, numbers) {
+        match asked(&counts, numbers, parts) {
             Some(asked) => assert_eq!(told, asked, "{counts:?} {numbers}"),
             None => assert!(matches!(told, (0 | 2 | 4, 0)), "{counts:?} {told:?}"),
         }

@@ -8,7 +8,7 @@ use oracle::seeded::Seeded;
 use std::collections::BTreeSet;
 
 /// Most bytes of a stored list.
-const MOST_BYTES: usize = 1_850_000;
+const MOST_BYTES: usize = 2_000_000;
 
 /// The list that a replay program of the repository reads.
 fn stored(program: &str) -> Vec<u8> {
@@ -136,16 +136,16 @@ fn traces_are_as_written() {
 #[test]
 fn book_records_keep_their_bounds() {
     for record in book::records().into_iter().chain(long("book", 4_000)) {
-        let [a, b, room, counts] = lengths(&record, [1, 2, 3, 4]);
+        let [a, b, room, counts, parts] = lengths(&record, [1, 2, 3, 4, 8]);
         let rest = if record[0] == book::WRITE {
-            assert!(a <= 4_200 && b <= 16 && room <= 33_000 && counts == 0);
-            a + b + 2 * room.div_ceil(8)
+            assert!(a <= 4_200 && b <= 16 && parts <= 16 && room <= 33_000 && counts == 0);
+            a + b + parts + 2 * room.div_ceil(8)
         } else {
-            assert!(a <= 33_000 && b == 0 && room <= 4_200 && counts <= 16);
-            a.div_ceil(8) + 2 * (room + counts)
+            assert!(a <= 33_000 && b == 0 && room <= 4_200 && counts <= 16 && parts <= 16);
+            a.div_ceil(8) + 2 * (room + counts + parts)
         };
         assert_eq!(record.len(), book::HEADER + rest);
-        assert_eq!(record[8..book::HEADER], [0; 4]);
+        assert_eq!(record[9..book::HEADER], [0; 3]);
     }
 }
 
@@ -203,10 +203,10 @@ fn failed(record: &[u64]) -> Check {
     let (length, place) = (record[1] as usize, record[7] as usize);
     let file = bytes(&record[book::HEADER..]);
     let field = |at: usize| u32::from_le_bytes([0, 1, 2, 3].map(|i| file[at + i])) as usize;
-    if !(64..=32_840).contains(&length) {
+    if !(68..=32_872).contains(&length) {
         return Check::Length;
     }
-    let entries = (length - 8).checked_sub(8 * field(length - 8));
+    let entries = (length - 8).checked_sub(12 * field(length - 8));
     if place == length - 8 {
         Check::RingCount
     } else if place == length - 4 && entries == Some(field(length - 4)) {
@@ -214,7 +214,13 @@ fn failed(record: &[u64]) -> Check {
     } else if place == length - 4 {
         Check::EntryOffset
     } else if place >= entries.expect("the entries are in the file") {
-        [Check::RingOffset, Check::Vertices].into_iter().nth((length - place) / 4 % 2).expect("two")
+        let entry = (length - 8 - place) % 12;
+        assert!(entry == 0 || entry == 8, "a part is no fault");
+        if entry == 0 {
+            Check::RingOffset
+        } else {
+            Check::Vertices
+        }
     } else {
         let bits = record[book::HEADER + place / 8];
         if f64::from_bits(bits).abs() <= 1e6 && bits != 1 << 63 {
@@ -239,7 +245,7 @@ fn books_are_refused_in_every_way() {
         assert!(records.iter().any(|record| record[0] == book::READ && record[6] == rings));
         assert!(records.iter().any(|record| record[..3] == [book::WRITE, 6 * rings, rings]));
     }
-    for length in [64, 32_840] {
+    for length in [68, 32_872] {
         assert!(records.iter().any(|record| record[0] == book::WRITE && record[6] == length));
         assert!(records.iter().any(|r| r[..2] == [book::READ, length] && r[5] == 0));
     }

@@ -2,7 +2,7 @@
 //! -0.0 among other faults, and a carrier with its mirror.
 
 use oracle::book::{book_of, file_of};
-use oracle::replay::{book, list};
+use oracle::replay::{book, list, packed};
 use oracle::seeded::Seeded;
 use oracle::shapes::{carrier, mirrored};
 use std::collections::BTreeSet;
@@ -32,12 +32,13 @@ impl Met {
         let rest = &record[book::HEADER..];
         let words = if call == book::WRITE { n } else { n.div_ceil(8) };
         let room = if call == book::WRITE { record[3].div_ceil(8) as usize } else { 0 };
+        let parts = if call == book::WRITE { record[8] as usize } else { 0 };
         Self {
             call,
             lent: rest[..words].to_vec(),
             told: (record[5], record[7]),
             counts: rest[words..words + rings].to_vec(),
-            written: rest[words + rings + room..][..room].to_vec(),
+            written: rest[words + rings + parts + room..][..room].to_vec(),
         }
     }
 
@@ -136,13 +137,13 @@ fn told(bytes: u64, place: u64) -> BTreeSet<(u64, u64)> {
 #[test]
 fn a_stored_minus_zero_is_told_among_other_faults() {
     for place in (0..48).step_by(8) {
-        assert!(told(64, place).contains(&(7, place)), "{place}");
+        assert!(told(68, place).contains(&(7, place)), "{place}");
     }
     // In two rings: the fields come before it, and of coordinates the first is told.
     let places = [0, 40, 48, 104];
-    let fields = [112, 116, 120, 124, 128, 132];
+    let fields = [112, 116, 124, 128, 136, 140];
     for place in places {
-        let told = told(136, place);
+        let told = told(144, place);
         let before = places.into_iter().filter(|&other| other <= place);
         let expected = before.chain(fields).map(|other| (7, other));
         assert_eq!(told, expected.collect(), "{place}");
@@ -158,8 +159,7 @@ fn a_carrier_and_its_mirror_have_one_book() {
     assert_eq!(book_of(std::slice::from_ref(&mirror)), book);
     assert_ne!(file_of(&[drawn]), file_of(&[mirror]));
     // Both are among the stored records, in every reading.
-    let words: Vec<u64> =
-        book.chunks(8).map(|it| u64::from_le_bytes(it.try_into().unwrap())).collect();
+    let words = packed(&book);
     let all = book::records();
     let stored = all.iter().map(|record| Met::of(record));
     let of_it = stored.filter(|met| met.call == book::WRITE && met.written == words);

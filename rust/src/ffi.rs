@@ -6,7 +6,7 @@
 #![allow(clippy::too_many_arguments)]
 
 /// The interface that is declared here: `BYR_ABI_VERSION` of the header.
-pub const ABI_VERSION: u32 = 3;
+pub const ABI_VERSION: u32 = 4;
 
 /// Panics unless the archive has the interface that is declared here.
 pub fn hold_interface() {
@@ -384,6 +384,8 @@ functions! {
         n: usize,
         counts: *const u32,
         rings: usize,
+        parts: *const u32,
+        parts_n: usize,
         room: *mut u8,
         room_n: usize,
         length: *mut u64,
@@ -396,6 +398,8 @@ functions! {
         coordinates_n: usize,
         counts: *mut u32,
         counts_n: usize,
+        parts: *mut u32,
+        parts_n: usize,
         rings: *mut u64,
         place: *mut u64,
     ) -> u32;

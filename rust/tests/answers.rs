@@ -82,8 +82,8 @@ fn lists_hold_whatever_converts_to_a_point() {
     let traced = nfp_sliding::compute_nfp_sliding(&arrays, &corners, &default);
     assert_eq!(traced, nfp_sliding::compute_nfp_sliding(&S, &S, &default));
     assert_eq!(traced.map(|nfp| (nfp.passes, nfp.stop)), Ok((8, StopReason::Closed)));
-    assert_eq!(write_book(&[arrays]), write_book(&[&S[..]]));
-    assert_eq!(write_book(&[corners.to_vec()]), write_book(&[S]));
+    assert_eq!(write_book(&[(1, arrays)]), write_book(&[(1, &S[..])]));
+    assert_eq!(write_book(&[(1, corners.to_vec())]), write_book(&[(1, S)]));
 }
 
 #[test]
@@ -190,10 +190,11 @@ fn bits(ring: &[Point]) -> Vec<u64> {
 #[test]
 fn books_keep_every_bit_but_the_sign_of_a_zero() {
     let odd = [(-0.0, 5e-324), (-5e-324, 1e6), (0.1, -0.0)];
-    let book = write_book(&[&odd[..], &S]).expect("a book of two rings");
+    let book = write_book(&[(u32::MAX, &odd[..]), (0, &S)]).expect("a book of two rings");
     let rings = read_book(&book).expect("it was just written");
-    assert_eq!(bits(&rings[0]), bits(&[(-5e-324, 1e6), (0.0, 5e-324), (0.1, 0.0)]));
-    assert_eq!(rings[1], [(0.0, 0.0), (0.0, 4.0), (4.0, 4.0), (4.0, 0.0)]);
+    assert_eq!((rings[0].0, rings[1].0), (u32::MAX, 0));
+    assert_eq!(bits(&rings[0].1), bits(&[(-5e-324, 1e6), (0.0, 5e-324), (0.1, 0.0)]));
+    assert_eq!(rings[1].1, [(0.0, 0.0), (0.0, 4.0), (4.0, 4.0), (4.0, 0.0)]);
     assert_eq!(write_book(&rings), Ok(book));
 }
 
@@ -201,9 +202,9 @@ fn books_keep_every_bit_but_the_sign_of_a_zero() {
 fn the_sign_of_a_zero_does_not_choose_the_reading() {
     // By sign the ring would be read back from its first vertex.
     let ring = [(0.0, -0.0), (1.0, 5.0), (2.0, 2.0), (0.0, 0.0), (1.0, 3.0)];
-    let rings = read_book(&write_book(&[ring]).unwrap()).unwrap();
+    let rings = read_book(&write_book(&[(1, ring)]).unwrap()).unwrap();
     let least = [(0.0, 0.0), (1.0, 3.0), (0.0, 0.0), (1.0, 5.0), (2.0, 2.0)];
-    assert_eq!(bits(&rings[0]), bits(&least));
+    assert_eq!(bits(&rings[0].1), bits(&least));
 }
 
 #[test]
@@ -214,10 +215,11 @@ fn a_carrier_and_its_mirror_have_one_book() {
     let mirror = polygon_ops::mirror_polygon(&carrier).unwrap();
     let minus = |ring: &[Point]| bits(ring).into_iter().filter(|&bits| bits == 1 << 63).count();
     assert_eq!((minus(&carrier), minus(&mirror)), (0, 2));
-    let book = write_book(&[&carrier]).unwrap();
-    assert_eq!(write_book(&[&mirror]).unwrap(), book);
+    let book = write_book(&[(1, &carrier)]).unwrap();
+    assert_eq!(write_book(&[(1, &mirror)]).unwrap(), book);
+    assert_ne!(write_book(&[(2, &mirror)]).unwrap(), book);
     let mut turned = mirror;
     turned.rotate_left(3);
-    assert_eq!(write_book(&[turned]).unwrap(), book);
-    assert_eq!(minus(&read_book(&book).unwrap()[0]), 0);
+    assert_eq!(write_book(&[(1, turned)]).unwrap(), book);
+    assert_eq!(minus(&read_book(&book).unwrap()[0].1), 0);
 }

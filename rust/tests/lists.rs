@@ -157,7 +157,8 @@ fn lists_of_points_have_0_to_10001() {
 #[test]
 fn books_have_1_to_8_rings_of_3_to_256_vertices() {
     let refused = |counts: &[u32]| {
-        let rings: Vec<Vec<Point>> = counts.iter().map(|&count| points(count)).collect();
+        let rings: Vec<(u32, Vec<Point>)> =
+            counts.iter().map(|&count| (7, points(count))).collect();
         write_book(&rings).err()
     };
     let book = |has| Entries { list: List::Book, has, least: 1, most: 8 };
@@ -175,7 +176,10 @@ fn books_have_1_to_8_rings_of_3_to_256_vertices() {
 
 #[test]
 fn place_0_of_a_book_is_the_book_or_its_first_ring() {
-    let words = |rings: &[Vec<Point>]| write_book(rings).map_err(|refusal| refusal.to_string());
+    let words = |rings: &[Vec<Point>]| {
+        let outlines: Vec<_> = rings.iter().map(|ring| (7, ring)).collect();
+        write_book(&outlines).map_err(|refusal| refusal.to_string())
+    };
     let none = Err("the book has no rings: it may have 1 to 8".to_string());
     assert_eq!(words(&[]), none);
     let short = Err("ring 0 of the book has 2 vertices: it may have 3 to 256".to_string());
@@ -195,6 +199,9 @@ fn the_first_list_speaks_and_all_of_them_before_any_number() {
     assert_eq!(fit(&points(2)), few(List::Orbiting, 2));
     assert_eq!(fit(&wrong(4)), many(List::Visited, 10_002, 0, 10_001));
     let (short, long) = (points(2), points(257));
-    assert_eq!(write_book(&[wrong(3), short]).err(), few(List::RingOfBook(1), 2));
-    assert_eq!(write_book(&[wrong(3), long]).err(), many(List::RingOfBook(1), 257, 3, 256));
+    assert_eq!(write_book(&[(1, wrong(3)), (2, short)]).err(), few(List::RingOfBook(1), 2));
+    assert_eq!(
+        write_book(&[(1, wrong(3)), (2, long)]).err(),
+        many(List::RingOfBook(1), 257, 3, 256)
+    );
 }

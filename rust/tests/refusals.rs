@@ -71,7 +71,7 @@ fn coordinates_are_finite_and_at_most_a_million() {
         assert_eq!(polygon_ops::is_simple_polygon(&ring), Err(Refusal::Number));
         assert_eq!(robust::signed_area_robust(&ring), Err(Refusal::Number));
         assert_eq!(nfp_sliding::polygons_overlap(&SQUARE, &ring), Err(Refusal::Number));
-        assert_eq!(write_book(&[ring]), Err(Refusal::Number));
+        assert_eq!(write_book(&[(1, ring)]), Err(Refusal::Number));
         let turn = polygon_ops::orientation((0.0, 0.0), (1.0, 1.0), (number, 0.0));
         assert_eq!(turn, Err(Refusal::Number));
     }
@@ -108,7 +108,7 @@ fn a_path_too_short_tells_its_passes_and_why() {
 
 #[test]
 fn a_wrong_book_tells_the_place() {
-    let book = write_book(&[SQUARE]).expect("a square makes a book");
+    let book = write_book(&[(7, SQUARE)]).expect("a square makes a book");
     assert_eq!(read_book(&book).map(|rings| rings.len()), Ok(1));
     assert_eq!(read_book(&[]), Err(Refusal::Book { place: 0 }));
     let mut wrong = book.clone();
@@ -121,18 +121,18 @@ fn a_wrong_book_tells_the_place() {
 
 #[test]
 fn a_stored_minus_zero_is_told_at_its_coordinate() {
-    let book = write_book(&[SQUARE]).expect("a square makes a book");
+    let book = write_book(&[(7, SQUARE)]).expect("a square makes a book");
     let with = |book: &[u8], place: usize, number: f64| {
         let mut wrong = book.to_vec();
         wrong[place..place + 8].copy_from_slice(&number.to_le_bytes());
         wrong
     };
-    for place in (0..book.len() - 16).step_by(8) {
+    for place in (0..book.len() - 20).step_by(8) {
         let minus = with(&book, place, -0.0);
         assert_eq!(read_book(&minus), Err(Refusal::Book { place }));
         // A wrong coordinate before it is told first; one after it is not.
         assert_eq!(read_book(&with(&minus, 0, -0.0)), Err(Refusal::Book { place: 0 }));
-        let after = (place + 8).min(book.len() - 24);
+        let after = (place + 8).min(book.len() - 28);
         let both = with(&with(&book, after, f64::NAN), place, -0.0);
         assert_eq!(read_book(&both), Err(Refusal::Book { place }));
     }

@@ -1,7 +1,7 @@
--- Two books are the same bytes exactly if the least readings of the rings are the same. Assumes nothing.
-use Prim.Native.Nat.{_<_}
+-- Two books are the same bytes exactly if the least readings of the rings are the same, and the parts. Assumes nothing.
+use Prim.Native.Nat.{ℕ, _<_}
 use native.Mathlib.Omega.{arith}
-use mathlib.Core.Path.{_≡_, ap}
+use mathlib.Core.Path.{_≡_, ap₂}
 use mathlib.Core.Logic.{_↔_}
 use mathlib.Core.List.{List, [], _∷_, map}
 use lib.ListN.{length, length-map}
@@ -22,11 +22,21 @@ least-each : (rs : List (List Vertex)) → Each Outline rs → Each Outline (map
 least-each [] h = tt
 least-each (r ∷ rs) h = (least-outline r (h .0), least-each rs (h .1))
 
-pub least-accepted : (rs : List (List Vertex)) → Accepted rs → Accepted (map leastReading rs)
-least-accepted rs a =
+pub least-accepted : (rs : List (List Vertex)) (ps : List ℕ) → Accepted rs ps → Accepted (map leastReading rs) ps
+least-accepted rs ps a =
     let e = length-map rs leastReading in
-    record { least = omega (arith, a .least); most = omega (arith, a .most); rings = least-each rs (a .rings) }
+    record {
+      least = omega (arith, a .least);
+      most = omega (arith, a .most);
+      rings = least-each rs (a .rings);
+      many = omega (arith, a .many);
+      parts = a .parts;
+    }
 
-pub same-book : (rs xs : List (List Vertex)) → Accepted rs → Accepted xs → (bookOf rs ≡ bookOf xs) ↔ (map leastReading rs ≡ map leastReading xs)
+pub same-book : (rs xs : List (List Vertex)) (ps qs : List ℕ) → Accepted rs ps → Accepted xs qs
+    → (bookOf rs ps ≡ bookOf xs qs) ↔ ((map leastReading rs ≡ map leastReading xs) × (ps ≡ qs))
 unfolding bookOf
-same-book rs xs a b = (layout-inj (map leastReading rs) (map leastReading xs) (least-accepted rs a) (least-accepted xs b), λ e. ap layout e)
+same-book rs xs ps qs a b = (
+  layout-inj (map leastReading rs) (map leastReading xs) ps qs (least-accepted rs ps a) (least-accepted xs qs b),
+  λ e. ap₂ layout (e .0) (e .1),
+)

@@ -9,7 +9,7 @@ use Rattle.reading.specs.Reading.{Vertex, flat, vertices}
 use Rattle.number_bytes.specs.Bytes.{bytesOf, numberOf, Each}
 use Rattle.number_bytes.proofs.Bytes.{length-bytesOf, take-number, drop-number}
 use Rattle.refusals.specs.Rings.{verticesMost}
-use Rattle.book_layout.specs.Layout.{fieldBytes, coordinateBytes, vertexBytes, entryBytes, coordBytes, body, entries, Corner, Outline, coordsIn, countsIn, ringsIn}
+use Rattle.book_layout.specs.Layout.{fieldBytes, coordinateBytes, vertexBytes, entryBytes, coordBytes, body, entries, Corner, Outline, PartNumber, coordsIn, fieldsIn, countsIn, partsIn, ringsIn}
 use Rattle.reading.proofs.Leasts.{vertices-flat, length-flat}
 
 -- ---- the coordinates
@@ -56,41 +56,62 @@ rings-back (r ∷ rs) q h =
 
 -- ---- the entries
 
-pub length-entries : (at : ℕ) (ns : List ℕ) → length (entries at ns) ≡ entryBytes * length ns
+pub length-entries : (at : ℕ) (ns ps : List ℕ) → length ps ≡ length ns → length (entries at ns ps) ≡ entryBytes * length ns
 unfolding entries
-length-entries at [] = refl
-length-entries at (n ∷ ns) =
-    length-append (bytesOf fieldBytes at) (bytesOf fieldBytes n ++ entries (at + vertexBytes * n) ns)
-    ∙ (let e = length-append (bytesOf fieldBytes n) (entries (at + vertexBytes * n) ns) in
-    let e' = length-entries (at + vertexBytes * n) ns in
-    let d = length-bytesOf fieldBytes at in
-    let d' = length-bytesOf fieldBytes n in
-    omega arith)
+length-entries at [] ps m = refl
+length-entries at (n ∷ ns) [] m = absurd (omega (arith, m))
+length-entries at (n ∷ ns) (p ∷ ps) m =
+    simp (length-append, length-bytesOf, length-entries (at + vertexBytes * n) ns ps (omega (arith, m))) (omega arith)
 
 -- the first entry, and what follows it
-module _ (at n : ℕ) (ns q : List ℕ) where
+module _ (at n p : ℕ) (ns ps q : List ℕ) where
   abbrev after : List ℕ
-  after = entries (at + vertexBytes * n) ns ++ q
+  after = entries (at + vertexBytes * n) ns ps ++ q
 
-  entry-is : entries at (n ∷ ns) ++ q ≡ bytesOf fieldBytes at ++ (bytesOf fieldBytes n ++ after)
+  abbrev whole : List ℕ
+  whole = entries at (n ∷ ns) (p ∷ ps) ++ q
+
+  entry-is : whole ≡ bytesOf fieldBytes at ++ (bytesOf fieldBytes n ++ (bytesOf fieldBytes p ++ after))
   unfolding entries
   entry-is = simp append-assoc
 
-  entry-second : drop fieldBytes (entries at (n ∷ ns) ++ q) ≡ bytesOf fieldBytes n ++ after
-  entry-second = ap (drop fieldBytes) entry-is ∙ drop-number fieldBytes at (bytesOf fieldBytes n ++ after)
+  entry-second : drop fieldBytes whole ≡ bytesOf fieldBytes n ++ (bytesOf fieldBytes p ++ after)
+  entry-second = ap (drop fieldBytes) entry-is ∙ drop-number fieldBytes at (bytesOf fieldBytes n ++ (bytesOf fieldBytes p ++ after))
 
-  pub entry-offset : at < 256 ^ fieldBytes → numberOf (take fieldBytes (entries at (n ∷ ns) ++ q)) ≡ at
-  entry-offset h = ap (λ (l : List ℕ). numberOf (take fieldBytes l)) entry-is ∙ take-number fieldBytes at (bytesOf fieldBytes n ++ after) h
+  entry-third : drop (2 * fieldBytes) whole ≡ bytesOf fieldBytes p ++ after
+  entry-third =
+      sym (drop-drop fieldBytes fieldBytes whole)
+      ∙ ap (drop fieldBytes) entry-second
+      ∙ drop-number fieldBytes n (bytesOf fieldBytes p ++ after)
 
-  pub entry-count : n < 256 ^ fieldBytes → numberOf (take fieldBytes (drop fieldBytes (entries at (n ∷ ns) ++ q))) ≡ n
-  entry-count h = ap (λ (l : List ℕ). numberOf (take fieldBytes l)) entry-second ∙ take-number fieldBytes n after h
+  pub entry-offset : at < 256 ^ fieldBytes → numberOf (take fieldBytes whole) ≡ at
+  entry-offset h =
+      ap (λ (l : List ℕ). numberOf (take fieldBytes l)) entry-is
+      ∙ take-number fieldBytes at (bytesOf fieldBytes n ++ (bytesOf fieldBytes p ++ after)) h
 
-  pub entry-rest : drop entryBytes (entries at (n ∷ ns) ++ q) ≡ after
-  entry-rest = sym (drop-drop fieldBytes fieldBytes (entries at (n ∷ ns) ++ q)) ∙ ap (drop fieldBytes) entry-second ∙ drop-number fieldBytes n after
+  pub entry-count : n < 256 ^ fieldBytes → numberOf (take fieldBytes (drop fieldBytes whole)) ≡ n
+  entry-count h = ap (λ (l : List ℕ). numberOf (take fieldBytes l)) entry-second ∙ take-number fieldBytes n (bytesOf fieldBytes p ++ after) h
 
-pub counts-back : (at : ℕ) (ns q : List ℕ) → Each (λ (n : ℕ). n ≤ verticesMost) ns → countsIn (length ns) (entries at ns ++ q) ≡ ns
-unfolding countsIn
-counts-back at [] q h = refl
-counts-back at (n ∷ ns) q h =
-    rw (entry-count at n ns q (omega (arith, h .0)), entry-rest at n ns q)
-    (ap (λ (l : List ℕ). n ∷ l) (counts-back (at + vertexBytes * n) ns q (h .1)))
+  entry-part : p < 256 ^ fieldBytes → numberOf (take fieldBytes (drop (2 * fieldBytes) whole)) ≡ p
+  entry-part h = ap (λ (l : List ℕ). numberOf (take fieldBytes l)) entry-third ∙ take-number fieldBytes p after h
+
+  pub entry-rest : drop entryBytes whole ≡ after
+  entry-rest = sym (drop-drop fieldBytes (2 * fieldBytes) whole) ∙ ap (drop fieldBytes) entry-third ∙ drop-number fieldBytes p after
+
+pub counts-back : (at : ℕ) (ns ps q : List ℕ) → length ps ≡ length ns → Each (λ (n : ℕ). n ≤ verticesMost) ns
+    → countsIn (length ns) (entries at ns ps ++ q) ≡ ns
+unfolding fieldsIn
+counts-back at [] ps q m h = refl
+counts-back at (n ∷ ns) [] q m h = absurd (omega (arith, m))
+counts-back at (n ∷ ns) (p ∷ ps) q m h =
+    rw (entry-count at n p ns ps q (omega (arith, h .0)), entry-rest at n p ns ps q)
+    (ap (λ (l : List ℕ). n ∷ l) (counts-back (at + vertexBytes * n) ns ps q (omega (arith, m)) (h .1)))
+
+pub parts-back : (at : ℕ) (ns ps q : List ℕ) → length ps ≡ length ns → Each PartNumber ps → partsIn (length ns) (entries at ns ps ++ q) ≡ ps
+unfolding fieldsIn
+parts-back at [] [] q m h = refl
+parts-back at [] (p ∷ ps) q m h = absurd (omega (arith, m))
+parts-back at (n ∷ ns) [] q m h = absurd (omega (arith, m))
+parts-back at (n ∷ ns) (p ∷ ps) q m h =
+    rw (entry-part at n p ns ps q (omega (arith, h .0)), entry-rest at n p ns ps q)
+    (ap (λ (l : List ℕ). p ∷ l) (parts-back (at + vertexBytes * n) ns ps q (omega (arith, m)) (h .1)))

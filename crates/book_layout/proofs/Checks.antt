@@ -19,24 +19,25 @@ use Rattle.book_layout.specs.Faults.{fault, entriesCheck, coordsCheck, l
 use Rattle.book_layout.proofs.Bytes.{length-ring, entry-offset, entry-count, entry-rest, ring-back}
 use Rattle.refusals.proofs.Counts.{within-true}
 use Rattle.book_layout.proofs.Passing.{pass}
-use Rattle.book_layout.proofs.Laid.{tail, layout-is, length-layout, body-most, body-least, count-back, offset-back, counts-of}
+use Rattle.book_layout.proofs.Laid.{tail, layout-is, many-counts, length-layout, body-most, body-least, count-back, offset-back, counts-of}
 use Rattle.reading.proofs.Leasts.{length-flat}
 use Rattle.reading.proofs.Own.{is-own}
 
 -- ---- the entries
 
-entries-pass : (ns q : List ℕ) (at before : ℕ) → Each (λ (n : ℕ). (verticesLeast ≤ n) × (n ≤ verticesMost)) ns → before + vertexBytes * total ns < 256 ^ fieldBytes
-    → entriesCheck (length ns) at before (entries before ns ++ q) passes
+entries-pass : (ns ps q : List ℕ) (at before : ℕ) → length ps ≡ length ns → Each (λ (n : ℕ). (verticesLeast ≤ n) × (n ≤ verticesMost)) ns → before + vertexBytes * total ns < 256 ^ fieldBytes
+    → entriesCheck (length ns) at before (entries before ns ps ++ q) passes
 unfolding entriesCheck total
-entries-pass [] q at before h s = refl
-entries-pass (n ∷ ns) q at before h s =
-    let f = entries before (n ∷ ns) ++ q in
-    let a : numberOf (take fieldBytes f) ≡ before = entry-offset before n ns q (omega arith) in
-    let b : numberOf (take fieldBytes (drop fieldBytes f)) ≡ n = entry-count before n ns q (omega (arith, h .0 .1)) in
-    let d : drop entryBytes f ≡ entries (before + vertexBytes * n) ns ++ q = entry-rest before n ns q in
+entries-pass [] ps q at before m h s = refl
+entries-pass (n ∷ ns) [] q at before m h s = absurd (omega (arith, m))
+entries-pass (n ∷ ns) (p ∷ ps) q at before m h s =
+    let f = entries before (n ∷ ns) (p ∷ ps) ++ q in
+    let a : numberOf (take fieldBytes f) ≡ before = entry-offset before n p ns ps q (omega arith) in
+    let b : numberOf (take fieldBytes (drop fieldBytes f)) ≡ n = entry-count before n p ns ps q (omega (arith, h .0 .1)) in
+    let d : drop entryBytes f ≡ entries (before + vertexBytes * n) ns ps ++ q = entry-rest before n p ns ps q in
     let t : eqb before before ≡ true = eq-eqb before before refl in
     let u : within verticesLeast verticesMost n ≡ true = within-true verticesLeast verticesMost n (h .0 .0) (h .0 .1) in
-    rw (a, b, d, t, u) (entries-pass ns q (at + entryBytes) (before + vertexBytes * n) (h .1) (omega arith))
+    rw (a, b, d, t, u) (entries-pass ns ps q (at + entryBytes) (before + vertexBytes * n) (omega (arith, m)) (h .1) (omega arith))
 
 -- ---- the coordinates
 
@@ -103,27 +104,27 @@ sizes [] h = tt
 sizes (r ∷ rs) h = ((h .0 .least, h .0 .most), sizes rs (h .1))
 
 -- what the writer can write is accepted
-pub layout-pass : (rs : List (List Vertex)) → Accepted rs → Each (λ (r : List Vertex). leastReading r ≡ r) rs → bookCheck (layout rs) passes
+pub layout-pass : (rs : List (List Vertex)) (ps : List ℕ) → Accepted rs ps → Each (λ (r : List Vertex). leastReading r ≡ r) rs → bookCheck (layout rs ps) passes
 unfolding bookCheck
-layout-pass rs ok kept =
+layout-pass rs ps ok kept =
     let b = length (body rs) in
     let most : b ≤ verticesMost * vertexBytes * length rs = body-most rs (ok .rings) in
     let least : verticesLeast * vertexBytes * length rs ≤ b = body-least rs (ok .rings) in
-    let k : ringCount (layout rs) ≡ length rs = count-back rs (ok .most) in
-    let e : entryOffset (layout rs) ≡ b = offset-back rs (omega (arith, ok .most)) in
-    let n : length (layout rs) ≡ b + entryBytes * length rs + tailBytes = length-layout rs in
+    let k : ringCount (layout rs ps) ≡ length rs = count-back rs ps (ok .most) in
+    let e : entryOffset (layout rs ps) ≡ b = offset-back rs ps (omega (arith, ok .most)) in
+    let n : length (layout rs ps) ≡ b + entryBytes * length rs + tailBytes = length-layout rs ps (ok .many) in
     let s : b ≡ vertexBytes * total (map length rs) = body-total rs in
-    let c : countsOf (layout rs) ≡ map length rs = counts-of rs ok in
-    let f = layout rs in
+    let c : countsOf (layout rs ps) ≡ map length rs = counts-of rs ps ok in
+    let f = layout rs ps in
     let t1 : within bookLeast bookMost (length f) ≡ true = within-true bookLeast bookMost (length f) (omega (arith, ok .least)) (omega (arith, ok .most)) in
     let t2 : within 1 ringsMost (ringCount f) ≡ true = within-true 1 ringsMost (ringCount f) (omega (arith, ok .least)) (omega (arith, ok .most)) in
     let t3 : eqb (entryOffset f + entryBytes * ringCount f + tailBytes) (length f) ≡ true = eq-eqb (entryOffset f + entryBytes * ringCount f + tailBytes) (length f) (omega arith) in
-    let rest = entries 0 (map length rs) ++ tail rs in
-    let d : drop (entryOffset f) f ≡ rest = ap (λ (m : ℕ). drop m f) e ∙ ap (drop b) (layout-is rs) ∙ drop-at (body rs) rest b refl in
+    let rest = entries 0 (map length rs) ps ++ tail rs in
+    let d : drop (entryOffset f) f ≡ rest = ap (λ (m : ℕ). drop m f) e ∙ ap (drop b) (layout-is rs ps) ∙ drop-at (body rs) rest b refl in
     let t4 : entriesCheck (ringCount f) (entryOffset f) 0 (drop (entryOffset f) f) passes =
-    rw (k, d) (ap (λ (m : ℕ). passed (entriesCheck m (entryOffset f) 0 rest)) (sym (length-map rs (length {A = Vertex}))) ∙ entries-pass (map length rs) (tail rs) (entryOffset f) 0 (sizes rs (ok .rings)) (omega (arith, ok .most))) in
+    rw (k, d) (ap (λ (m : ℕ). passed (entriesCheck m (entryOffset f) 0 rest)) (sym (length-map rs (length {A = Vertex}))) ∙ entries-pass (map length rs) ps (tail rs) (entryOffset f) 0 (many-counts rs ps (ok .many)) (sizes rs (ok .rings)) (omega (arith, ok .most))) in
     let t5 : eqb (vertexBytes * total (countsOf f)) (entryOffset f) ≡ true = eq-eqb (vertexBytes * total (countsOf f)) (entryOffset f) (ap (λ (l : List ℕ). vertexBytes * total l) c ∙ sym s ∙ sym e) in
     let m : entryOffset f / coordinateBytes ≡ 2 * total (map length rs) = omega arith in
-    let t6 : coordsCheck (entryOffset f / coordinateBytes) 0 f passes = ap₂ (λ (j : ℕ) (g : List ℕ). passed (coordsCheck j 0 g)) m (layout-is rs) ∙ body-pass rs rest 0 (ok .rings) in
-    let t7 : leastCheck (countsOf f) 0 f passes = ap₂ (λ (j g : List ℕ). passed (leastCheck j 0 g)) c (layout-is rs) ∙ least-pass rs rest 0 (ok .rings) kept in
+    let t6 : coordsCheck (entryOffset f / coordinateBytes) 0 f passes = ap₂ (λ (j : ℕ) (g : List ℕ). passed (coordsCheck j 0 g)) m (layout-is rs ps) ∙ body-pass rs rest 0 (ok .rings) in
+    let t7 : leastCheck (countsOf f) 0 f passes = ap₂ (λ (j g : List ℕ). passed (leastCheck j 0 g)) c (layout-is rs ps) ∙ least-pass rs rest 0 (ok .rings) kept in
     rw (t1, t2, t3) (pass (entriesCheck (ringCount f) (entryOffset f) 0 (drop (entryOffset f) f)) _ t4 (rw t5 (pass (coordsCheck (entryOffset f / coordinateBytes) 0 f) (leastCheck (countsOf f) 0 f) t6 t7)))

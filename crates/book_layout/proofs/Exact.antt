@@ -13,7 +13,7 @@ use Rattle.number_bytes.specs.Bytes.{bytesOf, numberOf, Each, Byte}
 use Rattle.number_bytes.proofs.Bytes.{bytes-take}
 use Rattle.number_bytes.proofs.Each.{each-drop}
 use Rattle.refusals.specs.Rings.{verticesLeast, verticesMost, ringsMost, within, total}
-use Rattle.book_layout.specs.Layout.{fieldBytes, coordinateBytes, vertexBytes, entryBytes, tailBytes, bookLeast, bookMost, body, entries, layout, bookOf, Outline, Accepted, ringCount, entryOffset, countsOf, ringsOf}
+use Rattle.book_layout.specs.Layout.{fieldBytes, coordinateBytes, vertexBytes, entryBytes, tailBytes, bookLeast, bookMost, body, entries, layout, bookOf, Outline, PartNumber, Accepted, ringCount, entryOffset, countsOf, partsOf, ringsOf}
 use Rattle.book_layout.specs.Faults.{fault, entriesCheck, coordsCheck, leastCheck, bookCheck, _passes}
 use Rattle.book_layout.proofs.Books.{least-accepted}
 use Rattle.refusals.proofs.Counts.{is-within}
@@ -21,7 +21,7 @@ use Rattle.refusals.proofs.Sized.{row-parts}
 use Rattle.book_layout.proofs.Passing.{held}
 use Rattle.reading.proofs.Leasts.{least-again}
 use Rattle.book_layout.proofs.Checks.{layout-pass}
-use Rattle.book_layout.proofs.Found.{length-countsIn, entries-are, rings-counts, rings-body, rings-kept}
+use Rattle.book_layout.proofs.Found.{length-fieldsIn, parts-hold, entries-are, rings-counts, rings-body, rings-kept}
 
 -- what a passed check tells
 pub record Checked (f : List ℕ) : Type 0 where
@@ -83,9 +83,13 @@ module _ (f : List ℕ) (bytes : Each Byte f) (ok : bookCheck f passes) where
   inside : entryBytes * ringCount f ≤ length (drop (entryOffset f) f)
   inside = omega (arith, length-drop (entryOffset f) f, all .offset)
 
-  pub listing : (take (entryBytes * ringCount f) (drop (entryOffset f) f) ≡ entries 0 (countsOf f)) × Each (λ (n : ℕ). (verticesLeast ≤ n) × (n ≤ verticesMost)) (countsOf f)
-  unfolding countsOf
+  pub listing : (take (entryBytes * ringCount f) (drop (entryOffset f) f) ≡ entries 0 (countsOf f) (partsOf f)) × Each (λ (n : ℕ). (verticesLeast ≤ n) × (n ≤ verticesMost)) (countsOf f)
+  unfolding countsOf partsOf
   listing = entries-are (ringCount f) (entryOffset f) 0 (drop (entryOffset f) f) (each-drop Byte (entryOffset f) f bytes) inside (all .listed)
+
+  pub parts-listed : Each PartNumber (partsOf f)
+  unfolding partsOf
+  parts-listed = parts-hold (ringCount f) (drop (entryOffset f) f) (each-drop Byte (entryOffset f) f bytes) inside
 
   fits : vertexBytes * total (countsOf f) ≤ length f
   fits = omega (arith, all .ends, all .offset)
@@ -96,7 +100,7 @@ module _ (f : List ℕ) (bytes : Each Byte f) (ok : bookCheck f passes) where
 
   number : length (ringsOf f) ≡ ringCount f
   unfolding countsOf
-  number = sym (length-map (ringsOf f) length) ∙ ap length lengths ∙ length-countsIn (ringCount f) (drop (entryOffset f) f)
+  number = sym (length-map (ringsOf f) length) ∙ ap length lengths ∙ length-fieldsIn fieldBytes (ringCount f) (drop (entryOffset f) f)
 
   the-body : body (ringsOf f) ≡ take (entryOffset f) f
   unfolding ringsOf
@@ -116,8 +120,8 @@ module _ (f : List ℕ) (bytes : Each Byte f) (ok : bookCheck f passes) where
   unfolding entryOffset
   the-offset = ap (bytesOf fieldBytes) length-body ∙ field (length f - fieldBytes) (omega (arith, all .offset))
 
-  -- the file is the layout of the rings in it
-  laid : layout (ringsOf f) ≡ f
+  -- the file is the layout of the rings and the parts in it
+  laid : layout (ringsOf f) (partsOf f) ≡ f
   unfolding layout
   laid =
       rw (the-body, lengths, ← listing .0, the-count)
@@ -131,9 +135,9 @@ module _ (f : List ℕ) (bytes : Each Byte f) (ok : bookCheck f passes) where
   read-kept = rings-kept (countsOf f) f 0 (listing .1) (all .leasts)
 
   -- writing what was read gives the file again
-  pub written-again : bookOf (ringsOf f) ≡ f
+  pub written-again : bookOf (ringsOf f) (partsOf f) ≡ f
   unfolding bookOf
-  written-again = ap layout read-kept ∙ laid
+  written-again = ap (λ (rs : List (List Vertex)). layout rs (partsOf f)) read-kept ∙ laid
 
 -- ---- what the writer writes
 
@@ -141,6 +145,6 @@ kept-each : (rs : List (List Vertex)) → Each Outline rs → Each (λ (r : List
 kept-each [] h = tt
 kept-each (r ∷ rs) h = (least-again r (omega (arith, h .0 .least)), kept-each rs (h .1))
 
-pub book-passes : (rs : List (List Vertex)) → Accepted rs → bookCheck (bookOf rs) passes
+pub book-passes : (rs : List (List Vertex)) (ps : List ℕ) → Accepted rs ps → bookCheck (bookOf rs ps) passes
 unfolding bookOf
-book-passes rs a = layout-pass (map leastReading rs) (least-accepted rs a) (kept-each rs (a .rings))
+book-passes rs ps a = layout-pass (map leastReading rs) ps (least-accepted rs ps a) (kept-each rs (a .rings))

@@ -1,4 +1,4 @@
--- A file that passes the checks is the book of the rings in it. Assumes nothing.
+-- A file that passes the checks is the book of the rings and the parts in it. Assumes nothing.
 use Prim.Native.Nat.{ℕ, zero, suc, _+_, _*_, _^_, _≤_, _<_}
 use native.Mathlib.Omega.{arith}
 use mathlib.Core.Path.{_≡_, refl, sym, ap, ap₂, subst, _∙_}
@@ -13,7 +13,7 @@ use Rattle.number_bytes.specs.Bytes.{bytesOf, numberOf, Byte, Each}
 use Rattle.number_bytes.proofs.Bytes.{bytes-take, number-lt}
 use Rattle.number_bytes.proofs.Each.{each-take, each-drop}
 use Rattle.refusals.specs.Rings.{verticesLeast, verticesMost, within, total}
-use Rattle.book_layout.specs.Layout.{fieldBytes, coordinateBytes, vertexBytes, entryBytes, coordBytes, body, entries, coordinateBits, Coordinate, Corner, coordsIn, countsIn, ringsIn}
+use Rattle.book_layout.specs.Layout.{fieldBytes, coordinateBytes, vertexBytes, entryBytes, coordBytes, body, entries, coordinateBits, Coordinate, Corner, PartNumber, coordsIn, fieldsIn, countsIn, partsIn, ringsIn}
 use Rattle.book_layout.specs.Faults.{fault, entriesCheck, coordsCheck, leastCheck, _passes}
 use Rattle.refusals.proofs.Counts.{is-within}
 use Rattle.refusals.proofs.Sized.{row-parts}
@@ -90,28 +90,42 @@ rings-kept (n ∷ ns) f at z c =
 
 -- ---- the entries
 
-pub length-countsIn : (k : ℕ) (f : List ℕ) → length (countsIn k f) ≡ k
-unfolding countsIn
-length-countsIn zero f = refl
-length-countsIn (suc k) f = ap suc (length-countsIn k (drop entryBytes f))
+pub length-fieldsIn : (p k : ℕ) (f : List ℕ) → length (fieldsIn p k f) ≡ k
+unfolding fieldsIn
+length-fieldsIn p zero f = refl
+length-fieldsIn p (suc k) f = ap suc (length-fieldsIn p k (drop entryBytes f))
+
+pub parts-hold : (k : ℕ) (f : List ℕ) → Each Byte f → entryBytes * k ≤ length f → Each PartNumber (partsIn k f)
+unfolding fieldsIn
+parts-hold zero f h s = tt
+parts-hold (suc k) f h s =
+    let g = drop (2 * fieldBytes) f in
+    let z : length (take fieldBytes g) ≡ fieldBytes = length-take-le fieldBytes g (omega (arith, length-drop (2 * fieldBytes) f)) in (
+      subst (λ (j : ℕ). numberOf (take fieldBytes g) < 256 ^ j) z (number-lt (take fieldBytes g) (each-take Byte fieldBytes g (each-drop Byte (2 * fieldBytes) f h))),
+      parts-hold k (drop entryBytes f) (each-drop Byte entryBytes f h) (omega (arith, length-drop entryBytes f)),
+    )
 
 pub entries-are : (k at before : ℕ) (f : List ℕ) → Each Byte f → entryBytes * k ≤ length f → entriesCheck k at before f passes
-    → (take (entryBytes * k) f ≡ entries before (countsIn k f)) × Each (λ (n : ℕ). (verticesLeast ≤ n) × (n ≤ verticesMost)) (countsIn k f)
-unfolding entriesCheck countsIn entries
+    → (take (entryBytes * k) f ≡ entries before (countsIn k f) (partsIn k f)) × Each (λ (n : ℕ). (verticesLeast ≤ n) × (n ≤ verticesMost)) (countsIn k f)
+unfolding entriesCheck fieldsIn entries
 entries-are zero at before f h s c = (refl, tt)
-entries-are (suc k) at before f h s c =
+entries-are (suc k) at before f h s t =
     let o = numberOf (take fieldBytes f) in
     let n = numberOf (take fieldBytes (drop fieldBytes f)) in
     let v = entriesCheck k (at + entryBytes) (before + vertexBytes * n) (drop entryBytes f) in
-    let p = row-parts (fault (eqb o before) at) (first (fault (within verticesLeast verticesMost n) (at + fieldBytes)) v) c in
+    let p = row-parts (fault (eqb o before) at) (first (fault (within verticesLeast verticesMost n) (at + fieldBytes)) v) t in
     let q = row-parts (fault (within verticesLeast verticesMost n) (at + fieldBytes)) v (p .1) in
     let ih = entries-are k (at + entryBytes) (before + vertexBytes * n) (drop entryBytes f) (each-drop Byte entryBytes f h) (omega (arith, length-drop entryBytes f)) (q .1) in
-    let e : entryBytes * suc k ≡ 4 + (4 + entryBytes * k) = omega arith in
+    let r = numberOf (take fieldBytes (drop (2 * fieldBytes) f)) in
+    let e : entryBytes * suc k ≡ 4 + (4 + (4 + entryBytes * k)) = omega arith in
+    let g : drop fieldBytes (drop fieldBytes f) ≡ drop (2 * fieldBytes) f = drop-drop fieldBytes fieldBytes f in
     let a : take fieldBytes f ≡ bytesOf fieldBytes before = sym (bytes-take fieldBytes f h (omega arith)) ∙ ap (bytesOf fieldBytes) (eqb-true o before (held (eqb o before) at (p .0))) in
     let b : take fieldBytes (drop fieldBytes f) ≡ bytesOf fieldBytes n = sym (bytes-take fieldBytes (drop fieldBytes f) (each-drop Byte fieldBytes f h) (omega (arith, length-drop fieldBytes f))) in
-    let d : take (entryBytes * k) (drop fieldBytes (drop fieldBytes f)) ≡ entries (before + vertexBytes * n) (countsIn k (drop entryBytes f)) = ap (take (entryBytes * k)) (drop-drop fieldBytes fieldBytes f) ∙ ih .0 in (
+    let c : take fieldBytes (drop (2 * fieldBytes) f) ≡ bytesOf fieldBytes r = sym (bytes-take fieldBytes (drop (2 * fieldBytes) f) (each-drop Byte (2 * fieldBytes) f h) (omega (arith, length-drop (2 * fieldBytes) f))) in
+    let d : take (entryBytes * k) (drop fieldBytes (drop (2 * fieldBytes) f)) ≡ entries (before + vertexBytes * n) (countsIn k (drop entryBytes f)) (partsIn k (drop entryBytes f)) = ap (take (entryBytes * k)) (drop-drop fieldBytes (2 * fieldBytes) f) ∙ ih .0 in
+    let y : take (4 + entryBytes * k) (drop (2 * fieldBytes) f) ≡ bytesOf fieldBytes r ++ entries (before + vertexBytes * n) (countsIn k (drop entryBytes f)) (partsIn k (drop entryBytes f)) = take-add fieldBytes (entryBytes * k) (drop (2 * fieldBytes) f) ∙ ap₂ (λ (u v : List ℕ). u ++ v) c d in (
       ap (λ (j : ℕ). take j f) e
-          ∙ take-add fieldBytes (4 + entryBytes * k) f
-          ∙ ap₂ (λ (x y : List ℕ). x ++ y) a (take-add fieldBytes (entryBytes * k) (drop fieldBytes f) ∙ ap₂ (λ (x y : List ℕ). x ++ y) b d),
+          ∙ take-add fieldBytes (4 + (4 + entryBytes * k)) f
+          ∙ ap₂ (λ (u v : List ℕ). u ++ v) a (take-add fieldBytes (4 + entryBytes * k) (drop fieldBytes f) ∙ ap₂ (λ (u v : List ℕ). u ++ v) b (ap (take (4 + entryBytes * k)) g ∙ y)),
       (is-within verticesLeast verticesMost n (held (within verticesLeast verticesMost n) (at + fieldBytes) (q .0)), ih .1),
     )

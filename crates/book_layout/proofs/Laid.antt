@@ -1,4 +1,4 @@
--- A layout is read back as the rings that it was made of, so two layouts that are equal are of the same rings. Assumes nothing.
+-- A layout is read back as the rings and the parts that it was made of, so two layouts that are equal are of the same rings and parts. Assumes nothing.
 use Prim.Native.Nat.{ℕ, _+_, _-_, _*_, _^_, _≤_, _<_}
 use native.Mathlib.Omega.{arith}
 use mathlib.Core.Path.{_≡_, refl, sym, ap, _∙_}
@@ -9,8 +9,8 @@ use Rattle.reading.specs.Reading.{Vertex, flat}
 use Rattle.number_bytes.specs.Bytes.{bytesOf, numberOf, Each}
 use Rattle.number_bytes.proofs.Bytes.{length-bytesOf, take-number}
 use Rattle.refusals.specs.Rings.{verticesLeast, verticesMost, ringsMost}
-use Rattle.book_layout.specs.Layout.{fieldBytes, vertexBytes, entryBytes, tailBytes, coordBytes, body, entries, layout, Outline, Accepted, countsIn, ringsIn, ringCount, entryOffset, countsOf, ringsOf}
-use Rattle.book_layout.proofs.Bytes.{length-ring, length-entries, counts-back, rings-back}
+use Rattle.book_layout.specs.Layout.{fieldBytes, vertexBytes, entryBytes, tailBytes, coordBytes, body, entries, layout, Outline, Accepted, countsIn, partsIn, ringsIn, ringCount, entryOffset, countsOf, partsOf, ringsOf}
+use Rattle.book_layout.proofs.Bytes.{length-ring, length-entries, counts-back, parts-back, rings-back}
 
 -- ---- lengths
 
@@ -40,35 +40,39 @@ unfolding tail
 length-tail rs =
     omega (arith, length-append (bytesOf fieldBytes (length rs)) (bytesOf fieldBytes (length (body rs))), length-bytesOf fieldBytes (length rs), length-bytesOf fieldBytes (length (body rs)))
 
-pub layout-is : (rs : List (List Vertex)) → layout rs ≡ body rs ++ (entries 0 (map length rs) ++ tail rs)
+pub layout-is : (rs : List (List Vertex)) (ps : List ℕ) → layout rs ps ≡ body rs ++ (entries 0 (map length rs) ps ++ tail rs)
 unfolding layout tail
-layout-is rs = refl
+layout-is rs ps = refl
 
-pub length-layout : (rs : List (List Vertex)) → length (layout rs) ≡ length (body rs) + entryBytes * length rs + tailBytes
-length-layout rs =
-    ap length (layout-is rs)
-    ∙ omega (arith, length-append (body rs) (entries 0 (map length rs) ++ tail rs), length-append (entries 0 (map length rs)) (tail rs), length-entries 0 (map length rs), length-map rs (length {A = Vertex}), length-tail rs)
+-- as many parts as counts
+pub many-counts : (rs : List (List Vertex)) (ps : List ℕ) → length ps ≡ length rs → length ps ≡ length (map length rs)
+many-counts rs ps m = m ∙ sym (length-map rs (length {A = Vertex}))
+
+pub length-layout : (rs : List (List Vertex)) (ps : List ℕ) → length ps ≡ length rs → length (layout rs ps) ≡ length (body rs) + entryBytes * length rs + tailBytes
+length-layout rs ps m =
+    ap length (layout-is rs ps)
+    ∙ omega (arith, length-append (body rs) (entries 0 (map length rs) ps ++ tail rs), length-append (entries 0 (map length rs) ps) (tail rs), length-entries 0 (map length rs) ps (many-counts rs ps m), length-map rs (length {A = Vertex}), length-tail rs)
 
 -- ---- the two last fields
 
 drop-last : (p q : List ℕ) (n : ℕ) → length p + n ≡ length (p ++ q) → drop (length (p ++ q) - n) (p ++ q) ≡ q
 drop-last p q n h = drop-at p q (length (p ++ q) - n) (omega arith)
 
-pub count-back : (rs : List (List Vertex)) → length rs ≤ ringsMost → ringCount (layout rs) ≡ length rs
+pub count-back : (rs : List (List Vertex)) (ps : List ℕ) → length rs ≤ ringsMost → ringCount (layout rs ps) ≡ length rs
 unfolding ringCount tail
-count-back rs h =
-    let p = body rs ++ entries 0 (map length rs) in
-    let e : layout rs ≡ p ++ tail rs = layout-is rs ∙ sym (append-assoc (body rs) (entries 0 (map length rs)) (tail rs)) in
+count-back rs ps h =
+    let p = body rs ++ entries 0 (map length rs) ps in
+    let e : layout rs ps ≡ p ++ tail rs = layout-is rs ps ∙ sym (append-assoc (body rs) (entries 0 (map length rs) ps) (tail rs)) in
     ap (λ (f : List ℕ). numberOf (take fieldBytes (drop (length f - tailBytes) f))) e
     ∙ ap (λ (f : List ℕ). numberOf (take fieldBytes f)) (drop-last p (tail rs) tailBytes (omega (arith, length-append p (tail rs), length-tail rs)))
     ∙ take-number fieldBytes (length rs) (bytesOf fieldBytes (length (body rs))) (omega arith)
 
-pub offset-back : (rs : List (List Vertex)) → length (body rs) < 256 ^ fieldBytes → entryOffset (layout rs) ≡ length (body rs)
+pub offset-back : (rs : List (List Vertex)) (ps : List ℕ) → length (body rs) < 256 ^ fieldBytes → entryOffset (layout rs ps) ≡ length (body rs)
 unfolding entryOffset tail
-offset-back rs h =
-    let p = body rs ++ (entries 0 (map length rs) ++ bytesOf fieldBytes (length rs)) in
+offset-back rs ps h =
+    let p = body rs ++ (entries 0 (map length rs) ps ++ bytesOf fieldBytes (length rs)) in
     let q = bytesOf fieldBytes (length (body rs)) in
-    let e : layout rs ≡ p ++ q = layout-is rs ∙ (simp append-assoc) in
+    let e : layout rs ps ≡ p ++ q = layout-is rs ps ∙ (simp append-assoc) in
     ap (λ (f : List ℕ). numberOf (take fieldBytes (drop (length f - fieldBytes) f))) e
     ∙ ap (λ (f : List ℕ). numberOf (take fieldBytes f)) (drop-last p q fieldBytes (omega (arith, length-append p q, length-bytesOf fieldBytes (length (body rs)))))
     ∙ ap (λ (f : List ℕ). numberOf (take fieldBytes f)) (sym (append-nil q))
@@ -80,22 +84,37 @@ counts-most : (rs : List (List Vertex)) → Each Outline rs → Each (λ (n : �
 counts-most [] h = tt
 counts-most (r ∷ rs) h = (h .0 .most, counts-most rs (h .1))
 
-module _ (rs : List (List Vertex)) (ok : Accepted rs) where
+module _ (rs : List (List Vertex)) (ps : List ℕ) (ok : Accepted rs ps) where
   small : length (body rs) < 256 ^ fieldBytes
   small = omega (arith, body-most rs (ok .rings), ok .most)
 
-  pub counts-of : countsOf (layout rs) ≡ map length rs
+  -- the entries, as they are looked for
+  abbrev rest : List ℕ
+  rest = entries 0 (map length rs) ps ++ tail rs
+
+  at-entries : drop (length (body rs)) (layout rs ps) ≡ rest
+  at-entries = ap (drop (length (body rs))) (layout-is rs ps) ∙ drop-at (body rs) rest (length (body rs)) refl
+
+  pub counts-of : countsOf (layout rs ps) ≡ map length rs
   unfolding countsOf
   counts-of =
-      rw (count-back rs (ok .most), offset-back rs small)
-      (ap (λ (f : List ℕ). countsIn (length rs) (drop (length (body rs)) f)) (layout-is rs)
-      ∙ ap (countsIn (length rs)) (drop-at (body rs) (entries 0 (map length rs) ++ tail rs) (length (body rs)) refl)
-      ∙ ap (λ (k : ℕ). countsIn k (entries 0 (map length rs) ++ tail rs)) (sym (length-map rs length))
-      ∙ counts-back 0 (map length rs) (tail rs) (counts-most rs (ok .rings)))
+      rw (count-back rs ps (ok .most), offset-back rs ps small)
+      (ap (countsIn (length rs)) at-entries
+      ∙ ap (λ (k : ℕ). countsIn k rest) (sym (length-map rs length))
+      ∙ counts-back 0 (map length rs) ps (tail rs) (many-counts rs ps (ok .many)) (counts-most rs (ok .rings)))
 
-  pub rings-of : ringsOf (layout rs) ≡ rs
+  pub parts-of : partsOf (layout rs ps) ≡ ps
+  unfolding partsOf
+  parts-of =
+      rw (count-back rs ps (ok .most), offset-back rs ps small)
+      (ap (partsIn (length rs)) at-entries
+      ∙ ap (λ (k : ℕ). partsIn k rest) (sym (length-map rs length))
+      ∙ parts-back 0 (map length rs) ps (tail rs) (many-counts rs ps (ok .many)) (ok .parts))
+
+  pub rings-of : ringsOf (layout rs ps) ≡ rs
   unfolding ringsOf
-  rings-of = rw counts-of (ap (ringsIn (map length rs)) (layout-is rs) ∙ rings-back rs (entries 0 (map length rs) ++ tail rs) (ok .rings))
+  rings-of = rw counts-of (ap (ringsIn (map length rs)) (layout-is rs ps) ∙ rings-back rs rest (ok .rings))
 
-pub layout-inj : (rs xs : List (List Vertex)) → Accepted rs → Accepted xs → layout rs ≡ layout xs → rs ≡ xs
-layout-inj rs xs h k e = sym (rings-of rs h) ∙ ap ringsOf e ∙ rings-of xs k
+pub layout-inj : (rs xs : List (List Vertex)) (ps qs : List ℕ) → Accepted rs ps → Accepted xs qs → layout rs ps ≡ layout xs qs → (rs ≡ xs) × (ps ≡ qs)
+layout-inj rs xs ps qs h k e =
+    (sym (rings-of rs ps h) ∙ ap ringsOf e ∙ rings-of xs qs k, sym (parts-of rs ps h) ∙ ap partsOf e ∙ parts-of xs qs k)

@@ -1,4 +1,4 @@
--- Lists of f64s: those that the writer takes are rings that a book holds, and those that the reader hands out are taken by the writer. Assumes nothing.
+-- Lists of f64s with counts and parts: those that the writer takes are rings that a book holds, and those that the reader hands out are taken by the writer. Assumes nothing.
 use Prim.Native.Nat.{ℕ, zero, suc, _+_, _*_, _/_, _≤_}
 use native.Mathlib.Omega.{arith}
 use mathlib.Core.Path.{_≡_, refl, ap, ap₂, subst, _∙_}
@@ -20,7 +20,7 @@ use Rattle.reading.proofs.Places.{length-ringOf}
 use Rattle.number_bytes.specs.Bytes.{numberOf, Each, Byte, Formed}
 use Rattle.number_bytes.proofs.Each.{each-take, each-drop}
 use Rattle.refusals.specs.Rings.{verticesLeast, verticesMost, within, total, sizedAll}
-use Rattle.book_layout.specs.Layout.{coordinateBytes, vertexBytes, coordinateBits, Coordinate, Outline, Accepted, coordsIn, ringsIn, ringCount, entryOffset, coordsOf, countsOf, ringsOf}
+use Rattle.book_layout.specs.Layout.{fieldBytes, coordinateBytes, vertexBytes, coordinateBits, Coordinate, Outline, PartNumber, Accepted, coordsIn, ringsIn, ringCount, entryOffset, coordsOf, countsOf, partsOf, ringsOf}
 use Rattle.book_layout.specs.Faults.{_passes, bookCheck}
 use Rattle.book_layout.specs.Writer.{ringsFrom, bookSize, writeRefusal, Held}
 use Rattle.book_layout.specs.Reader.{numbersOf}
@@ -28,24 +28,24 @@ use Rattle.laws.proofs.Both.{both}
 use Rattle.refusals.proofs.Counts.{within-true, is-within}
 use Rattle.refusals.proofs.Sized.{row-parts, holds}
 use Rattle.refusals.proofs.RingRow.{rings-taken, taken-rings}
-use Rattle.book_layout.proofs.Found.{corners, coords-hold, length-coordsIn, length-countsIn}
+use Rattle.book_layout.proofs.Found.{corners, coords-hold, length-coordsIn, length-fieldsIn}
 use Rattle.book_layout.proofs.Exact.{checked, listing}
 
 -- ---- the writer's tests
 
-module _ (xs : List Float) (ns : List ℕ) (size : ℕ) where
-  pub takes : writeRefusal xs ns size passes → Held xs ns × (bookSize ns ≤ size)
+module _ (xs : List Float) (ns ps : List ℕ) (size : ℕ) where
+  pub takes : writeRefusal xs ns ps size passes → Held xs ns ps × (bookSize ns ≤ size)
   unfolding writeRefusal
   takes h =
-      let p = row-parts (ofRings xs ns) (shortRoom (bookSize ns) size) h in
-      let t = rings-taken xs ns (p .0) in (
-        record { one = t .0; few = t .1; sized = t .2; whole = t .3; bounded = t .4 },
+      let p = row-parts (ofRings xs ns ps) (shortRoom (bookSize ns) size) h in
+      let t = rings-taken xs ns ps (p .0) in (
+        record { one = t .0; few = t .1; sized = t .2; whole = t .3; bounded = t .4; many = t .5 },
         leb-true (bookSize ns) size (holds (leb (bookSize ns) size) 4 0 refl (p .1)),
       )
 
-  pub taken : Held xs ns → bookSize ns ≤ size → writeRefusal xs ns size passes
+  pub taken : Held xs ns ps → bookSize ns ≤ size → writeRefusal xs ns ps size passes
   unfolding writeRefusal
-  taken h l = rw (taken-rings xs ns (h .one) (h .few) (h .sized) (h .whole) (h .bounded), le-leb (bookSize ns) size l)
+  taken h l = rw (taken-rings xs ns ps (h .one) (h .few) (h .sized) (h .whole) (h .bounded) (h .many), le-leb (bookSize ns) size l)
 
 -- ---- coordinates
 
@@ -123,10 +123,16 @@ rings-outline (n ∷ ns) xs f s t h =
       rings-outline ns (drop (2 * n) xs) (each-drop (λ (x : Float). T (fits binary64 x)) (2 * n) xs f) (p .1) (coordinates-drop (2 * n) xs t) (omega (arith, length-drop (2 * n) xs)),
     )
 
-pub held-accepted : (xs : List Float) (ns : List ℕ) → Formed xs → Held xs ns → Accepted (ringsFrom ns xs)
-held-accepted xs ns f h =
+pub held-accepted : (xs : List Float) (ns ps : List ℕ) → Formed xs → Each PartNumber ps → Held xs ns ps → Accepted (ringsFrom ns xs) ps
+held-accepted xs ns ps f w h =
     let l = length-rings ns xs in
-    record { least = omega (arith, h .one); most = omega (arith, h .few); rings = rings-outline ns xs f (h .sized) (h .bounded) (omega (arith, h .whole)) }
+    record {
+      least = omega (arith, h .one);
+      most = omega (arith, h .few);
+      rings = rings-outline ns xs f (h .sized) (h .bounded) (omega (arith, h .whole));
+      many = omega (arith, h .many);
+      parts = w;
+    }
 
 -- ---- what the reader hands out is the rings of the file
 
@@ -184,7 +190,11 @@ coordinates-read (b ∷ l) h = rw (stored b (h .0 .bounded) .0) (coordinates-rea
 
 pub length-counts : (f : List ℕ) → length (countsOf f) ≡ ringCount f
 unfolding countsOf
-length-counts f = length-countsIn (ringCount f) (drop (entryOffset f) f)
+length-counts f = length-fieldsIn fieldBytes (ringCount f) (drop (entryOffset f) f)
+
+pub length-parts : (f : List ℕ) → length (partsOf f) ≡ ringCount f
+unfolding partsOf
+length-parts f = length-fieldsIn (2 * fieldBytes) (ringCount f) (drop (entryOffset f) f)
 
 pub length-numbers : (f : List ℕ) → length (numbersOf f) ≡ entryOffset f / coordinateBytes
 unfolding coordsOf
@@ -202,7 +212,7 @@ module _ (f : List ℕ) (bytes : Each Byte f) (ok : bookCheck f passes) where
       ap (λ (m : ℕ). ringsFrom (countsOf f) (map (ofBits binary64) (coordsIn m f))) z
       ∙ rings-read (countsOf f) f (subst (λ (m : ℕ). Each Coordinate (coordsIn m f)) z all-hold)
 
-  pub read-held : Held (numbersOf f) (countsOf f)
+  pub read-held : Held (numbersOf f) (countsOf f) (partsOf f)
   read-held =
       let all = checked f ok in
       let k = length-counts f in
@@ -212,6 +222,7 @@ module _ (f : List ℕ) (bytes : Each Byte f) (ok : bookCheck f passes) where
         sized = sized-all (countsOf f) (listing f bytes ok .1);
         whole = omega (arith, length-numbers f, all .ends);
         bounded = coordinates-read (coordsOf f) all-hold;
+        many = omega (arith, k, length-parts f);
       }
 
   pub read-size : bookSize (countsOf f) ≡ length f

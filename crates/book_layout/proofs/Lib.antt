@@ -10,3 +10,4 @@ pub mod Exact
 pub mod Lent
 pub mod Outlines
 pub mod Theorems
+pub mod Old

@@ -1,5 +1,5 @@
--- Two books are the same bytes exactly if the lists of rings are equally long and each ring is, its coordinates compared as numbers, a reading of the one
--- at its place. Assumes nothing.
+-- Two books are the same bytes exactly if the lists of rings are equally long, each ring is, its coordinates compared as numbers, a reading of the one
+-- at its place, and the parts are the same. Assumes nothing.
 use Prim.Native.Nat.{ℕ, zero, suc, _*_, _<_}
 use native.Mathlib.Omega.{arith}
 use native.Mathlib.Nat.{not-suc-le-zero}
@@ -125,14 +125,14 @@ rings-kept (n ∷ ns) xs f =
     (rings-kept ns (drop (2 * n) xs) (each-drop (λ (x : Float). T (fits binary64 x)) (2 * n) xs f))
 
 -- the theorem
-pub same-outlines : (xs ys : List Float) (ns ms : List ℕ) → Formed xs → Formed ys → Accepted (ringsFrom ns xs) → Accepted (ringsFrom ms ys)
-    → (bookOf (ringsFrom ns xs) ≡ bookOf (ringsFrom ms ys)) ↔ SameOutlines AsNumbers (lentFrom ns xs) (lentFrom ms ys)
-same-outlines xs ys ns ms f g a b =
+pub same-outlines : (xs ys : List Float) (ns ms ps qs : List ℕ) → Formed xs → Formed ys → Accepted (ringsFrom ns xs) ps → Accepted (ringsFrom ms ys) qs
+    → (bookOf (ringsFrom ns xs) ps ≡ bookOf (ringsFrom ms ys) qs) ↔ (SameOutlines AsNumbers (lentFrom ns xs) (lentFrom ms ys) × (ps ≡ qs))
+same-outlines xs ys ns ms ps qs f g a b =
     let p = rings-kept ns xs f in
     let q = rings-kept ms ys g in
     let h : Each Outline (allKept (lentFrom ns xs)) = subst (Each Outline) p (a .rings) in
     let k : Each Outline (allKept (lentFrom ms ys)) = subst (Each Outline) q (b .rings) in
-    let s = same-book (ringsFrom ns xs) (ringsFrom ms ys) a b in (
-      λ e. from-least (lentFrom ns xs) (lentFrom ms ys) h k (ap (map leastReading) (sym p) ∙ s .0 e ∙ ap (map leastReading) q),
-      λ z. s .1 (ap (map leastReading) p ∙ to-least (lentFrom ns xs) (lentFrom ms ys) h z ∙ ap (map leastReading) (sym q)),
+    let s = same-book (ringsFrom ns xs) (ringsFrom ms ys) ps qs a b in (
+      λ e. (from-least (lentFrom ns xs) (lentFrom ms ys) h k (ap (map leastReading) (sym p) ∙ s .0 e .0 ∙ ap (map leastReading) q), s .0 e .1),
+      λ z. s .1 (ap (map leastReading) p ∙ to-least (lentFrom ns xs) (lentFrom ms ys) h (z .0) ∙ ap (map leastReading) (sym q), z .1),
     )

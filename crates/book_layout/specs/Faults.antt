@@ -25,7 +25,7 @@ infix 30 _passes
 abbrev pub _passes : Refusal → Type 0
 r passes = passed r ≡ true
 
--- "entry by entry, ring offset not the bytes before it, then vertices (place of that field)":
+-- "entry by entry, ring offset not the bytes before it, then vertices (place of that field)", and of the part nothing:
 -- k entries, the first of them at the place `at` and with `before` bytes before its ring
 unfoldable pub entriesCheck : ℕ → ℕ → ℕ → List ℕ → Refusal
 entriesCheck zero at before f = none
@@ -51,7 +51,7 @@ leastCheck [] at f = none
 leastCheck (n ∷ ns) at f =
     firstOf (fault (isLeast (vertices (coordsIn (2 * n) f))) at ∷ leastCheck ns (at + vertexBytes * n) (drop (vertexBytes * n) f) ∷ [])
 
--- "L out of bounds (place 0); ring count (L-8); entry offset not L-8-8*count (L-4)", stated as a sum, so that it does not go below 0;
+-- "L out of bounds (place 0); ring count (L-8); entry offset not L-8-12*count (L-4)", stated as a sum, so that it does not go below 0;
 -- the entries; "ring bytes not ending exactly at the entries (L-4)"; the coordinates; the least readings
 unfoldable pub bookCheck : List ℕ → Refusal
 bookCheck f =

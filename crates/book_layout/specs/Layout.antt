@@ -23,9 +23,9 @@ coordinateBytes = 8
 abbrev pub vertexBytes : ℕ
 vertexBytes = 2 * coordinateBytes
 
--- a ring's offset and its vertices
+-- a ring's offset, its vertices and its part
 abbrev pub entryBytes : ℕ
-entryBytes = 2 * fieldBytes
+entryBytes = 3 * fieldBytes
 
 -- the ring count and the offset of the first entry
 abbrev pub tailBytes : ℕ
@@ -35,7 +35,7 @@ tailBytes = 2 * fieldBytes
 abbrev pub numbersMost : ℕ
 numbersMost = 2 * ringsMost * verticesMost
 
--- the shortest book and the longest: 64 and 32,840 bytes
+-- the shortest book and the longest: 68 and 32,872 bytes
 abbrev pub bookLeast : ℕ
 bookLeast = verticesLeast * vertexBytes + entryBytes + tailBytes
 
@@ -54,18 +54,21 @@ unfoldable pub body : List (List Vertex) → List ℕ
 body [] = []
 body (r ∷ rs) = coordBytes (flat r) ++ body rs
 
--- per ring the offset of its first byte and its vertices: rings of so many vertices, the first of them at the offset `at`
-unfoldable pub entries : ℕ → List ℕ → List ℕ
-entries at [] = []
-entries at (n ∷ ns) = bytesOf fieldBytes at ++ (bytesOf fieldBytes n ++ entries (at + vertexBytes * n) ns)
+-- per ring the offset of its first byte, its vertices and its part: rings of so many vertices and of these parts, the first of them at the
+-- offset `at`
+unfoldable pub entries : ℕ → List ℕ → List ℕ → List ℕ
+entries at [] ps = []
+entries at (n ∷ ns) [] = []
+entries at (n ∷ ns) (p ∷ ps) =
+    bytesOf fieldBytes at ++ (bytesOf fieldBytes n ++ (bytesOf fieldBytes p ++ entries (at + vertexBytes * n) ns ps))
 
 -- last, the ring count and the offset of the first entry
-unfoldable pub layout : List (List Vertex) → List ℕ
-layout rs = body rs ++ (entries 0 (map length rs) ++ (bytesOf fieldBytes (length rs) ++ bytesOf fieldBytes (length (body rs))))
+unfoldable pub layout : List (List Vertex) → List ℕ → List ℕ
+layout rs ps = body rs ++ (entries 0 (map length rs) ps ++ (bytesOf fieldBytes (length rs) ++ bytesOf fieldBytes (length (body rs))))
 
--- a book keeps of each ring its least reading
-unfoldable pub bookOf : List (List Vertex) → List ℕ
-bookOf rs = layout (map leastReading rs)
+-- a book keeps of each ring its least reading, and the parts as they are
+unfoldable pub bookOf : List (List Vertex) → List ℕ → List ℕ
+bookOf rs ps = layout (map leastReading rs) ps
 
 -- ---- which lists a book holds
 
@@ -86,10 +89,16 @@ pub record Outline (r : List Vertex) : Type 0 where
   pub most : length r ≤ verticesMost
   pub corners : Each Corner r
 
-pub record Accepted (rs : List (List Vertex)) : Type 0 where
+-- a part: any number of 32 bits
+abbrev pub PartNumber : ℕ → Type 0
+PartNumber p = p < 2 ^ 32
+
+pub record Accepted (rs : List (List Vertex)) (ps : List ℕ) : Type 0 where
   pub least : 1 ≤ length rs
   pub most : length rs ≤ ringsMost
   pub rings : Each Outline rs
+  pub many : length ps ≡ length rs
+  pub parts : Each PartNumber ps
 
 -- equally long, and each ring is a reading of the one at its place, where coordinates are compared by a relation
 pub record SameOutlines (R : ℕ → ℕ → Type 0) (rs xs : List (List Vertex)) : Type 0 where
@@ -103,10 +112,18 @@ unfoldable pub coordsIn : ℕ → List ℕ → List ℕ
 coordsIn zero f = []
 coordsIn (suc k) f = numberOf (take coordinateBytes f) ∷ coordsIn k (drop coordinateBytes f)
 
+-- of k entries the field that stands `p` bytes into each
+unfoldable pub fieldsIn : ℕ → ℕ → List ℕ → List ℕ
+fieldsIn p zero f = []
+fieldsIn p (suc k) f = numberOf (take fieldBytes (drop p f)) ∷ fieldsIn p k (drop entryBytes f)
+
 -- the vertex counts of k entries
-unfoldable pub countsIn : ℕ → List ℕ → List ℕ
-countsIn zero f = []
-countsIn (suc k) f = numberOf (take fieldBytes (drop fieldBytes f)) ∷ countsIn k (drop entryBytes f)
+abbrev pub countsIn : ℕ → List ℕ → List ℕ
+countsIn k f = fieldsIn fieldBytes k f
+
+-- their parts
+abbrev pub partsIn : ℕ → List ℕ → List ℕ
+partsIn k f = fieldsIn (2 * fieldBytes) k f
 
 -- rings of these counts, one after the other
 unfoldable pub ringsIn : List ℕ → List ℕ → List (List Vertex)
@@ -126,6 +143,9 @@ coordsOf f = coordsIn (entryOffset f / coordinateBytes) f
 
 unfoldable pub countsOf : List ℕ → List ℕ
 countsOf f = countsIn (ringCount f) (drop (entryOffset f) f)
+
+unfoldable pub partsOf : List ℕ → List ℕ
+partsOf f = partsIn (ringCount f) (drop (entryOffset f) f)
 
 unfoldable pub ringsOf : List ℕ → List (List Vertex)
 ringsOf f = ringsIn (countsOf f) f

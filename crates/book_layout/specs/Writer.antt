@@ -12,12 +12,12 @@ use Rattle.refusals.specs.Screens.{shortRoom}
 use Rattle.refusals.specs.Rows.{ofRings}
 use Rattle.refusals.specs.Bounds.{coordinates}
 use Rattle.refusals.specs.declared.Refusal.{Refusal}
-use Rattle.number_bytes.specs.Bytes.{Formed}
+use Rattle.number_bytes.specs.Bytes.{Each, Formed}
 use Rattle.reading.specs.Reading.{Vertex, vertices}
 use Rattle.reading.specs.Lent.{ringOf}
 use Rattle.book_layout.specs.Faults.{_passes}
 use Rattle.refusals.specs.Rings.{ringsMost, total, sizedAll}
-use Rattle.book_layout.specs.Layout.{vertexBytes, entryBytes, tailBytes, bookOf}
+use Rattle.book_layout.specs.Layout.{vertexBytes, entryBytes, tailBytes, PartNumber, bookOf}
 
 -- the rings of these vertex counts, one after the other, as a book keeps their coordinates
 unfoldable pub ringsFrom : List ℕ → List Float → List (List Vertex)
@@ -38,26 +38,28 @@ abbrev pub bookSize : List ℕ → ℕ
 bookSize ns = vertexBytes * total ns + entryBytes * length ns + tailBytes
 
 -- the first of the tests that fails, for a room of so many bytes
-unfoldable pub writeRefusal : List Float → List ℕ → ℕ → Refusal
-writeRefusal xs ns size = firstOf (ofRings xs ns ∷ shortRoom (bookSize ns) size ∷ [])
+unfoldable pub writeRefusal : List Float → List ℕ → List ℕ → ℕ → Refusal
+writeRefusal xs ns ps size = firstOf (ofRings xs ns ps ∷ shortRoom (bookSize ns) size ∷ [])
 
 -- what the call answers, and the room as it leaves it
-abbrev pub writeCall : List Float → List ℕ → ℕ → Outcome ℕ
-writeCall xs ns size = outcome (writeRefusal xs ns size) (bookSize ns)
+abbrev pub writeCall : List Float → List ℕ → List ℕ → ℕ → Outcome ℕ
+writeCall xs ns ps size = outcome (writeRefusal xs ns ps size) (bookSize ns)
 
-abbrev pub writeRoom : List Float → List ℕ → List ℕ → List ℕ
-writeRoom xs ns room = left (writeRefusal xs ns (length room)) (laid (bookOf (ringsFrom ns xs)) room) room
+abbrev pub writeRoom : List Float → List ℕ → List ℕ → List ℕ → List ℕ
+writeRoom xs ns ps room = left (writeRefusal xs ns ps (length room)) (laid (bookOf (ringsFrom ns xs) ps) room) room
 
 -- lists that pass the tests of the writer but for its room
-pub record Held (xs : List Float) (ns : List ℕ) : Type 0 where
+pub record Held (xs : List Float) (ns ps : List ℕ) : Type 0 where
   pub one : 1 ≤ length ns
   pub few : length ns ≤ ringsMost
   pub sized : sizedAll ns ≡ true
   pub whole : length xs ≡ 2 * total ns
   pub bounded : coordinates xs ≡ true
+  pub many : length ps ≡ length ns
 
--- the writer can write the file f: it takes these numbers and counts, with room for just that file, and their book is f
-pub record Writes (xs : List Float) (ns f : List ℕ) : Type 0 where
+-- the writer can write the file f: it takes these numbers, counts and parts, with room for just that file, and their book is f
+pub record Writes (xs : List Float) (ns ps f : List ℕ) : Type 0 where
   pub formed : Formed xs
-  pub taken : writeRefusal xs ns (length f) passes
-  pub book : bookOf (ringsFrom ns xs) ≡ f
+  pub parts : Each PartNumber ps
+  pub taken : writeRefusal xs ns ps (length f) passes
+  pub book : bookOf (ringsFrom ns xs) ps ≡ f

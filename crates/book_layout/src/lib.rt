@@ -9,7 +9,7 @@ pub const COORDINATE_BYTES: usize = 8;
 
 pub const VERTEX_BYTES: usize = 2 * COORDINATE_BYTES;
 
-pub const ENTRY_BYTES: usize = 2 * FIELD_BYTES;
+pub const ENTRY_BYTES: usize = 3 * FIELD_BYTES;
 
 pub const TAIL_BYTES: usize = 2 * FIELD_BYTES;
 

@@ -1,4 +1,4 @@
--- The reader's loops over entries: what is left of the check, of the counts and of their sum. Assumes nothing.
+-- The reader's loops over entries: what is left of a field, of the check and of the sum of the counts. Assumes nothing.
 use Prim.Native.Nat.{ℕ, suc, _+_, _-_, _*_, _≤_, _<_}
 use native.Mathlib.Omega.{arith}
 use mathlib.Core.Path.{_≡_, sym, ap, ap₂, _∙_}
@@ -12,12 +12,32 @@ use Rattle.refusals.specs.Refusals.{none, passed, first}
 use Rattle.refusals.specs.declared.Refusal.{Refusal}
 use Rattle.number_bytes.specs.Bytes.{numberOf}
 use Rattle.refusals.specs.Rings.{verticesLeast, verticesMost, within, total}
-use Rattle.book_layout.specs.Layout.{fieldBytes, vertexBytes, entryBytes, countsIn}
+use Rattle.book_layout.specs.Layout.{fieldBytes, vertexBytes, entryBytes, fieldsIn, countsIn}
 use Rattle.book_layout.specs.Faults.{faultAt, fault, _passes, entriesCheck}
 use Rattle.refusals.proofs.Counts.{is-within}
 use Rattle.refusals.proofs.Sized.{row-parts}
 use Rattle.book_layout.proofs.Passing.{held}
 use Rattle.book_reader.specs.Parts.{listCheck}
+
+-- with i of k entries passed, from the place `from` on: the field that stands b bytes into each
+module _ (f : List ℕ) (b from k i : ℕ) (h : i < k) where
+  abbrev here : ℕ
+  here = numberOf (take fieldBytes (drop (from + entryBytes * i + b) f))
+
+  field-left : fieldsIn b (k - i) (drop (from + entryBytes * i) f) ≡ here ∷ fieldsIn b (k - (i + 1)) (drop (from + entryBytes * (i + 1)) f)
+  unfolding fieldsIn
+  field-left =
+      let a = from + entryBytes * i in
+      let e : k - i ≡ suc (k - (i + 1)) = omega arith in
+      let d : a + entryBytes ≡ from + entryBytes * (i + 1) = omega arith in
+      ap (λ (j : ℕ). fieldsIn b j (drop a f)) e
+      ∙ ap₂ (λ (x y : List ℕ). numberOf (take fieldBytes x) ∷ fieldsIn b (k - (i + 1)) y) (drop-drop b a f) (drop-drop entryBytes a f ∙ ap (λ (j : ℕ). drop j f) d)
+
+  pub fields-on : (room : List ℕ)
+      → sets room i (fieldsIn b (k - i) (drop (from + entryBytes * i) f)) ≡ sets (set room i here) (i + 1) (fieldsIn b (k - (i + 1)) (drop (from + entryBytes * (i + 1)) f))
+  fields-on room =
+      let e : suc i ≡ i + 1 = omega arith in
+      ap (sets room i) field-left ∙ ap (λ (j : ℕ). sets (set room i here) j (fieldsIn b (k - (i + 1)) (drop (from + entryBytes * (i + 1)) f))) e
 
 -- with i of k entries passed, from the place `from` on, and `before` bytes before the next ring
 module _ (f : List ℕ) (from k i before : ℕ) (h : i < k) where
@@ -69,19 +89,11 @@ module _ (f : List ℕ) (from k i before : ℕ) (h : i < k) where
       (w .0, w .1, b .1)
 
   pub count-left : countsIn (k - i) (drop p f) ≡ n ∷ rest
-  unfolding countsIn
-  count-left =
-      ap (λ (j : ℕ). countsIn j (drop p f)) more
-      ∙ ap₂ (λ (a g : List ℕ). numberOf (take fieldBytes a) ∷ countsIn (k - (i + 1)) g) (drop-drop fieldBytes p f) next
+  count-left = field-left f fieldBytes from k i h
 
   pub total-left : total (countsIn (k - i) (drop p f)) ≡ n + total rest
   unfolding total
   total-left = ap total count-left
-
-  pub counts-on : (counts : List ℕ) → sets counts i (countsIn (k - i) (drop p f)) ≡ sets (set counts i n) (i + 1) rest
-  counts-on counts =
-      let e : suc i ≡ i + 1 = omega arith in
-      ap (sets counts i) count-left ∙ ap (λ (j : ℕ). sets (set counts i n) j rest) e
 
 -- at the start and at the end of the loops
 pub entries-start : (f : List ℕ) (from k : ℕ) → entriesCheck k from 0 (drop from f) ≡ entriesCheck (k - 0) (from + entryBytes * 0) 0 (drop (from + entryBytes * 0) f)
@@ -96,19 +108,19 @@ entries-end f from k i before h =
     let e : k - i ≡ 0 = omega arith in
     ap (λ (j : ℕ). entriesCheck j (from + entryBytes * i) before (drop (from + entryBytes * i) f)) e
 
-pub counts-start : (f : List ℕ) (from k : ℕ) → countsIn k (drop from f) ≡ countsIn (k - 0) (drop (from + entryBytes * 0) f)
-counts-start f from k =
+pub fields-start : (f : List ℕ) (b from k : ℕ) → fieldsIn b k (drop from f) ≡ fieldsIn b (k - 0) (drop (from + entryBytes * 0) f)
+fields-start f b from k =
     let e : k ≡ k - 0 = omega arith in
     let d : from ≡ from + entryBytes * 0 = omega arith in
-    ap₂ (λ (a b : ℕ). countsIn a (drop b f)) e d
+    ap₂ (λ (m n : ℕ). fieldsIn b m (drop n f)) e d
 
-pub counts-end : (f : List ℕ) (from k i : ℕ) → k ≤ i → countsIn (k - i) (drop (from + entryBytes * i) f) ≡ []
-unfolding countsIn
-counts-end f from k i h = let e : k - i ≡ 0 = omega arith in ap (λ (a : ℕ). countsIn a (drop (from + entryBytes * i) f)) e
+pub fields-end : (f : List ℕ) (b from k i : ℕ) → k ≤ i → fieldsIn b (k - i) (drop (from + entryBytes * i) f) ≡ []
+unfolding fieldsIn
+fields-end f b from k i h = let e : k - i ≡ 0 = omega arith in ap (λ (a : ℕ). fieldsIn b a (drop (from + entryBytes * i) f)) e
 
 pub total-end : (f : List ℕ) (from k i : ℕ) → k ≤ i → total (countsIn (k - i) (drop (from + entryBytes * i) f)) ≡ 0
 unfolding total
-total-end f from k i h = ap total (counts-end f from k i h)
+total-end f from k i h = ap total (fields-end f fieldBytes from k i h)
 
 -- the check of the list, by what its two parts say
 module _ (f : List ℕ) (from k : ℕ) where

@@ -2,7 +2,7 @@
 use Prim.Native.Nat.{ℕ, _+_, _-_, _*_, _/_, _≤_, _<_}
 use native.Mathlib.Omega.{arith}
 use mathlib.Core.Path.{_≡_, refl, sym, ap, _∙_}
-use mathlib.Core.Bool.{true, false}
+use mathlib.Core.Bool.{true, false, _&&_}
 use mathlib.Core.List.{List}
 use lib.ListN.{length, drop}
 use lib.Dec.{leb, eqb}
@@ -17,7 +17,7 @@ use Rattle.refusals.proofs.First.{first-assoc}
 use Rattle.refusals.specs.Rings.{ringsMost, within, total}
 use Rattle.book_layout.specs.Layout.{fieldBytes, coordinateBytes, vertexBytes, entryBytes, tailBytes, bookLeast, bookMost, ringCount, entryOffset, countsIn, countsOf}
 use Rattle.book_layout.specs.Faults.{faultAt, fault, _passes, entriesCheck, coordsCheck, leastCheck, bookCheck}
-use Rattle.book_layout.specs.Reader.{numbersOf, holdsAll, readRefusal, readCall, readRoom, readCounts}
+use Rattle.book_layout.specs.Reader.{numbersOf, holdsAll, readRefusal, readCall, readRoom, readCounts, readParts}
 use Rattle.laws.proofs.Both.{both}
 use Rattle.refusals.proofs.Counts.{is-within}
 use Rattle.refusals.proofs.Sized.{row-parts, holds}
@@ -101,32 +101,43 @@ book-is f =
 
 -- ---- the refusal
 
-module _ (f : List ℕ) (room counts : ℕ) where
-  pub at-fault : passed (bookCheck f) ≡ false → bookCheck f ≡ readRefusal f room counts
+module _ (f : List ℕ) (room counts parts : ℕ) where
+  pub at-fault : passed (bookCheck f) ≡ false → bookCheck f ≡ readRefusal f room counts parts
   unfolding readRefusal
   at-fault h = rw h
 
   module _ (ok : bookCheck f passes) where
-    pub rooms-read : {n k : ℕ} {r : Refusal} → n ≡ entryOffset f → k ≡ ringCount f → r ≡ wrongBookRooms (n / coordinateBytes) room k counts
-        → r ≡ readRefusal f room counts
+    pub rooms-read : {n k : ℕ} {r : Refusal} → n ≡ entryOffset f → k ≡ ringCount f → r ≡ wrongBookRooms (n / coordinateBytes) room k counts parts
+        → r ≡ readRefusal f room counts parts
     unfolding readRefusal
     rooms-read a b e = rw (ok, length-numbers f, length-counts f, ← a, ← b) e
 
-  pub reads : readRefusal f room counts passes → (bookCheck f passes) × (length (numbersOf f) ≤ room) × (length (countsOf f) ≤ counts)
+  pub reads : readRefusal f room counts parts passes → (bookCheck f passes) × (length (numbersOf f) ≤ room) × (length (countsOf f) ≤ counts) × (length (countsOf f) ≤ parts)
   unfolding readRefusal
   reads h =
-      let p = row-parts (bookCheck f) (wrongBookRooms (length (numbersOf f)) room (length (countsOf f)) counts) h in
-      let q = both (leb (length (numbersOf f)) room) (leb (length (countsOf f)) counts) (holds (holdsAll f room counts) 4 0 refl (p .1)) in
-      (p .0, leb-true (length (numbersOf f)) room (q .0), leb-true (length (countsOf f)) counts (q .1))
+      let p = row-parts (bookCheck f) (wrongBookRooms (length (numbersOf f)) room (length (countsOf f)) counts parts) h in
+      let c = leb (length (countsOf f)) counts in
+      let d = leb (length (countsOf f)) parts in
+      let q = both (leb (length (numbersOf f)) room) (c && d) (holds (holdsAll f room counts parts) 4 0 refl (p .1)) in
+      let r = both c d (q .1) in
+      (p .0, leb-true (length (numbersOf f)) room (q .0), leb-true (length (countsOf f)) counts (r .0), leb-true (length (countsOf f)) parts (r .1))
 
 -- ---- the answer and the rooms
 
--- what `read_book` promises of its answer and of the two rooms that it leaves
-abbrev pub Promised : List ℕ → List Float → List ℕ → Count → List Float → List ℕ → Type 0
-Promised f room counts r x n = (counted r ≡ readCall f (length room) (length counts)) × (x ≡ readRoom f room (length counts)) × (n ≡ readCounts f (length room) counts)
+-- what `read_book` promises of its answer and of the three rooms that it leaves
+abbrev pub Promised : List ℕ → List Float → List ℕ → List ℕ → Count → List Float → List ℕ → List ℕ → Type 0
+Promised f room counts parts r x n p =
+    (counted r ≡ readCall f (length room) (length counts) (length parts))
+    × (x ≡ readRoom f room (length counts) (length parts))
+    × (n ≡ readCounts f (length room) counts (length parts))
+    × (p ≡ readParts f (length room) (length counts) parts)
 
 -- Two answers of the reader that meet its promise are equal, and so are the rooms.
-pub read-only : (f : List ℕ) (room : List Float) (counts : List ℕ) (r r' : Count) (x x' : List Float) (n n' : List ℕ)
-    → Promised f room counts r x n → Promised f room counts r' x' n' → (r ≡ r') × (x ≡ x') × (n ≡ n')
-read-only f room counts r r' x x' n n' p q =
-    (unique counted count-only (readCall f (length room) (length counts)) r r' (p .0) (q .0), p .1 ∙ sym (q .1), p .2 ∙ sym (q .2))
+pub read-only : (f : List ℕ) (room : List Float) (counts parts : List ℕ) (r r' : Count) (x x' : List Float) (n n' p p' : List ℕ)
+    → Promised f room counts parts r x n p → Promised f room counts parts r' x' n' p' → (r ≡ r') × (x ≡ x') × (n ≡ n') × (p ≡ p')
+read-only f room counts parts r r' x x' n n' p p' h k = (
+  unique counted count-only (readCall f (length room) (length counts) (length parts)) r r' (h .0) (k .0),
+  h .1 ∙ sym (k .1),
+  h .2 ∙ sym (k .2),
+  h .3 ∙ sym (k .3),
+)

@@ -1,4 +1,4 @@
--- What a caller of `read_book` holds: the rings and their counts at the fronts of the rooms, or the first fault of the file. Assumes nothing.
+-- What a caller of `read_book` holds: the rings, their counts and their parts at the fronts of the rooms, or the first fault of the file. Assumes nothing.
 use Prim.Native.Nat.{ℕ, _≤_, _<_}
 use native.Mathlib.Omega.{arith}
 use mathlib.Core.Path.{_≡_, refl, sym, ap, _∙_}
@@ -14,7 +14,7 @@ use Rattle.refusals.specs.declared.answer.Count.{Count}
 use Rattle.refusals.specs.declared.answer.Count.the-variants.{Is, Refused}
 use Rattle.number_bytes.proofs.Bytes.{each-byte}
 use Rattle.refusals.specs.Rings.{ringsMost}
-use Rattle.book_layout.specs.Layout.{numbersMost, countsOf}
+use Rattle.book_layout.specs.Layout.{numbersMost, countsOf, partsOf}
 use Rattle.book_layout.specs.Faults.{_passes, bookCheck}
 use Rattle.book_layout.specs.Writer.{Held}
 use Rattle.book_layout.specs.Reader.{numbersOf, readRefusal}
@@ -31,9 +31,9 @@ refused r s true b e q = absurd (let z : _≡_ {A = ℕ} 0 1 = cc in omega arith
 refused r s false b e q = (e, (cc))
 
 -- a file, the rooms before and after, and what was answered
-module _ (f : List ℕ) (bytes : (i : ℕ) → getD f i 0 < 256) (room x : List Float) (counts n : List ℕ) (r : Count) (p : Promised f room counts r x n) where
+module _ (f : List ℕ) (bytes : (i : ℕ) → getD f i 0 < 256) (room x : List Float) (counts n parts q : List ℕ) (r : Count) (p : Promised f room counts parts r x n q) where
   abbrev refusal : Refusal
-  refusal = readRefusal f (length room) (length counts)
+  refusal = readRefusal f (length room) (length counts) (length parts)
 
   module _ (k : ℕ) (e : r ≡ Is k) where
     taken : (refusal passes) × (k ≡ length (countsOf f))
@@ -43,9 +43,9 @@ module _ (f : List ℕ) (bytes : (i : ℕ) → getD f i 0 < 256) (room x : List 
     rings-told = taken .1
 
     pub a-book : bookCheck f passes
-    a-book = reads f (length room) (length counts) (taken .0) .0
+    a-book = reads f (length room) (length counts) (length parts) (taken .0) .0
 
-    pub book-held : Held (numbersOf f) (countsOf f)
+    pub book-held : Held (numbersOf f) (countsOf f) (partsOf f)
     book-held = read-held f (each-byte f bytes) a-book
 
     pub room-is : x ≡ laid (numbersOf f) room
@@ -54,18 +54,21 @@ module _ (f : List ℕ) (bytes : (i : ℕ) → getD f i 0 < 256) (room x : List 
     pub counts-are : n ≡ laid (countsOf f) counts
     counts-are = p .2 ∙ (rw (taken .0))
 
+    pub parts-are : q ≡ laid (partsOf f) parts
+    parts-are = p .3 ∙ (rw (taken .0))
+
   -- rooms for every book
-  module _ (numbers-fit : numbersMost ≤ length room) (counts-fit : ringsMost ≤ length counts) (told : Refusal) (e : r ≡ Refused told) where
+  module _ (numbers-fit : numbersMost ≤ length room) (counts-fit : ringsMost ≤ length counts) (parts-fit : ringsMost ≤ length parts) (told : Refusal) (e : r ≡ Refused told) where
     not-read : (passed refusal ≡ false) × (told ≡ refusal)
     not-read = refused refusal told (passed refusal) (length (countsOf f)) refl (ap counted (sym e) ∙ p .0)
 
     read-all : bookCheck f passes → refusal passes
     unfolding readRefusal
-    read-all ok = rw (ok, enough f (length room) (length counts) (each-byte f bytes) ok numbers-fit counts-fit) refl
+    read-all ok = rw (ok, enough f (length room) (length counts) (length parts) (each-byte f bytes) ok numbers-fit counts-fit parts-fit) refl
 
     fault-by : (t : Bool) → passed (bookCheck f) ≡ t → (passed (bookCheck f) ≡ false) × (told ≡ bookCheck f)
     fault-by true ok = absurd (let q = read-all ok in let w = not-read .0 in let z : _≡_ {A = ℕ} 0 1 = cc in omega arith)
-    fault-by false ok = (ok, not-read .1 ∙ sym (at-fault f (length room) (length counts) ok))
+    fault-by false ok = (ok, not-read .1 ∙ sym (at-fault f (length room) (length counts) (length parts) ok))
 
     pub no-book : (passed (bookCheck f) ≡ false) × (told ≡ bookCheck f)
     no-book = fault-by (passed (bookCheck f)) refl

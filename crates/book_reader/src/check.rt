@@ -192,14 +192,14 @@ fn check_book(f: &[u8]) -> Refusal
     check_rings(f, from, k)
 }
 
-// The refusal of the reader, for rooms of so many numbers and so many counts.
-pub fn refusal(f: &[u8], room: usize, counts: usize) -> Refusal
-    ensures { λ r. ⌜ r ≡ readRefusal (now (f .entry)) room counts ⌝ }
+// The refusal of the reader, for rooms of so many numbers, so many counts and so many parts.
+pub fn refusal(f: &[u8], room: usize, counts: usize, parts: usize) -> Refusal
+    ensures { λ r. ⌜ r ≡ readRefusal (now (f .entry)) room counts parts ⌝ }
 {
     let no = check_book(f);
     if !no.passed() {
         return no;
     }
     let numbers = entry_offset(f) / COORDINATE_BYTES;
-    book_rooms(numbers, room, ring_count(f), counts)
+    book_rooms(numbers, room, ring_count(f), counts, parts)
 }

@@ -10,9 +10,9 @@ use Rattle.refusals.proofs.Calls.{unique, count-only}
 use Rattle.book_layout.specs.Writer.{writeCall, writeRoom}
 
 -- what `write_book` promises of its answer and of the room that it leaves
-abbrev pub Promised : List Float → List ℕ → List ℕ → Count → List ℕ → Type 0
-Promised xs ns room r after = (counted r ≡ writeCall xs ns (length room)) × (after ≡ writeRoom xs ns room)
+abbrev pub Promised : List Float → List ℕ → List ℕ → List ℕ → Count → List ℕ → Type 0
+Promised xs ns ps room r after = (counted r ≡ writeCall xs ns ps (length room)) × (after ≡ writeRoom xs ns ps room)
 
 -- Two answers of the writer that meet its promise are equal, and so are the rooms.
-pub write-only : (xs : List Float) (ns room after after' : List ℕ) (r r' : Count) → Promised xs ns room r after → Promised xs ns room r' after' → (r ≡ r') × (after ≡ after')
-write-only xs ns room after after' r r' p q = (unique counted count-only (writeCall xs ns (length room)) r r' (p .0) (q .0), p .1 ∙ sym (q .1))
+pub write-only : (xs : List Float) (ns ps room after after' : List ℕ) (r r' : Count) → Promised xs ns ps room r after → Promised xs ns ps room r' after' → (r ≡ r') × (after ≡ after')
+write-only xs ns ps room after after' r r' p q = (unique counted count-only (writeCall xs ns ps (length room)) r r' (p .0) (q .0), p .1 ∙ sym (q .1))

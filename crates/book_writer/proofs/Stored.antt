@@ -35,7 +35,7 @@ stored-counts (n ∷ ns) xs s h =
     (stored-counts ns (drop (2 * n) xs) (p .1) (omega (arith, length-drop (2 * n) xs)))
 
 -- the book that is stored, and the room
-module _ (xs : List Float) (ns room : List ℕ) (sized : sizedAll ns ≡ true) (whole : length xs ≡ 2 * total ns) where
+module _ (xs : List Float) (ns ps room : List ℕ) (sized : sizedAll ns ≡ true) (whole : length xs ≡ 2 * total ns) (many : length ps ≡ length ns) where
   abbrev kept : List (List Vertex)
   kept = map leastReading (ringsFrom ns xs)
 
@@ -48,37 +48,37 @@ module _ (xs : List Float) (ns room : List ℕ) (sized : sizedAll ns ≡ true) (
   rings-number : length kept ≡ length ns
   rings-number = sym (length-map kept length) ∙ ap length same-counts
 
-  book-is : bookOf (ringsFrom ns xs) ≡ stored ns xs ++ (entries 0 ns ++ (bytesOf fieldBytes (length ns) ++ bytesOf fieldBytes (vertexBytes * total ns)))
+  book-is : bookOf (ringsFrom ns xs) ps ≡ stored ns xs ++ (entries 0 ns ps ++ (bytesOf fieldBytes (length ns) ++ bytesOf fieldBytes (vertexBytes * total ns)))
   unfolding bookOf layout
   book-is = rw (same-counts, rings-number, stored-length)
 
   -- The book has as many bytes as the writer answers.
-  pub book-length : length (bookOf (ringsFrom ns xs)) ≡ bookSize ns
+  pub book-length : length (bookOf (ringsFrom ns xs) ps) ≡ bookSize ns
   book-length =
       ap length book-is
       ∙ omega (
         arith,
-        length-append (stored ns xs) (entries 0 ns ++ (bytesOf fieldBytes (length ns) ++ bytesOf fieldBytes (vertexBytes * total ns))),
-        length-append (entries 0 ns) (bytesOf fieldBytes (length ns) ++ bytesOf fieldBytes (vertexBytes * total ns)),
+        length-append (stored ns xs) (entries 0 ns ps ++ (bytesOf fieldBytes (length ns) ++ bytesOf fieldBytes (vertexBytes * total ns))),
+        length-append (entries 0 ns ps) (bytesOf fieldBytes (length ns) ++ bytesOf fieldBytes (vertexBytes * total ns)),
         length-append (bytesOf fieldBytes (length ns)) (bytesOf fieldBytes (vertexBytes * total ns)),
         length-bytesOf fieldBytes (length ns),
         length-bytesOf fieldBytes (vertexBytes * total ns),
-        length-entries 0 ns,
+        length-entries 0 ns ps many,
         stored-length,
       )
 
   -- the four runs of stores, one after the other
   pub four-runs : bookSize ns ≤ length room
-      → sets (sets (sets (sets room 0 (stored ns xs)) (vertexBytes * total ns) (entries 0 ns)) (vertexBytes * total ns + entryBytes * length ns) (bytesOf fieldBytes (length ns))) (vertexBytes * total ns + entryBytes * length ns + fieldBytes) (bytesOf fieldBytes (vertexBytes * total ns))
-      ≡ laid (bookOf (ringsFrom ns xs)) room
+      → sets (sets (sets (sets room 0 (stored ns xs)) (vertexBytes * total ns) (entries 0 ns ps)) (vertexBytes * total ns + entryBytes * length ns) (bytesOf fieldBytes (length ns))) (vertexBytes * total ns + entryBytes * length ns + fieldBytes) (bytesOf fieldBytes (vertexBytes * total ns))
+      ≡ laid (bookOf (ringsFrom ns xs) ps) room
   four-runs h =
       let f = vertexBytes * total ns in
       let a = stored ns xs in
-      let b = entries 0 ns in
+      let b = entries 0 ns ps in
       let c = bytesOf fieldBytes (length ns) in
       let d = bytesOf fieldBytes f in
       let e1 : 0 + length a ≡ f = omega (arith, stored-length) in
-      let e2 : f + length b ≡ f + entryBytes * length ns = omega (arith, length-entries 0 ns) in
+      let e2 : f + length b ≡ f + entryBytes * length ns = omega (arith, length-entries 0 ns ps many) in
       let e3 : f + entryBytes * length ns + length c ≡ f + entryBytes * length ns + fieldBytes = omega (arith, length-bytesOf fieldBytes (length ns)) in
       let r1 = sets room 0 a in
       let r2 = sets r1 f b in
@@ -89,4 +89,4 @@ module _ (xs : List Float) (ns room : List ℕ) (sized : sizedAll ns ≡ true) (
       ∙ ap (λ (j : ℕ). sets r2 j (c ++ d)) e2
       ∙ sets-append r2 (f + entryBytes * length ns) c d
       ∙ ap (λ (j : ℕ). sets (sets r2 (f + entryBytes * length ns) c) j d) e3 in
-      sym z ∙ ap (sets room 0) (sym book-is) ∙ laid-is (bookOf (ringsFrom ns xs)) room (omega (arith, book-length))
+      sym z ∙ ap (sets room 0) (sym book-is) ∙ laid-is (bookOf (ringsFrom ns xs) ps) room (omega (arith, book-length))

@@ -41,32 +41,39 @@ ring-end room l at j h = ap (λ (m : List ℕ). sets room (at + coordinateBytes 
 
 -- ---- `put_entries`
 
-module _ (room ns : List ℕ) (from before i : ℕ) where
+module _ (room ns ps : List ℕ) (from before i : ℕ) (m : length ps ≡ length ns) where
   pub entries-on : i < length ns
-      → sets room (from + entryBytes * i) (entries before (drop i ns))
-      ≡ sets (sets (sets room (from + entryBytes * i) (bytesOf fieldBytes before)) (from + entryBytes * i + fieldBytes) (bytesOf fieldBytes (getD ns i 0))) (from + entryBytes * (i + 1)) (entries (before + vertexBytes * getD ns i 0) (drop (i + 1) ns))
+      → sets room (from + entryBytes * i) (entries before (drop i ns) (drop i ps))
+      ≡ sets (sets (sets (sets room (from + entryBytes * i) (bytesOf fieldBytes before)) (from + entryBytes * i + fieldBytes) (bytesOf fieldBytes (getD ns i 0))) (from + entryBytes * i + 2 * fieldBytes) (bytesOf fieldBytes (getD ps i 0))) (from + entryBytes * (i + 1)) (entries (before + vertexBytes * getD ns i 0) (drop (i + 1) ns) (drop (i + 1) ps))
   unfolding entries
   entries-on h =
       let a = from + entryBytes * i in
       let n = getD ns i 0 in
       let u = bytesOf fieldBytes before in
       let w = bytesOf fieldBytes n in
-      let x = entries (before + vertexBytes * n) (drop (suc i) ns) in
+      let v = bytesOf fieldBytes (getD ps i 0) in
+      let x = entries (before + vertexBytes * n) (drop (suc i) ns) (drop (suc i) ps) in
       let e : a + length u ≡ a + fieldBytes = omega (arith, length-bytesOf fieldBytes before) in
-      let e' : a + fieldBytes + length w ≡ from + entryBytes * (i + 1) = omega (arith, length-bytesOf fieldBytes n) in
-      ap (λ (l : List ℕ). sets room a (entries before l)) (drop-cons ns i 0 h)
-      ∙ sets-append room a u (w ++ x)
-      ∙ ap (λ (j : ℕ). sets (sets room a u) j (w ++ x)) e
-      ∙ sets-append (sets room a u) (a + fieldBytes) w x
-      ∙ ap (λ (j : ℕ). sets (sets (sets room a u) (a + fieldBytes) w) j x) e'
-      ∙ ap (λ (j : ℕ). sets (sets (sets room a u) (a + fieldBytes) w) (from + entryBytes * (i + 1)) (entries (before + vertexBytes * n) (drop j ns))) (sym (add-one i))
+      let e' : a + fieldBytes + length w ≡ a + 2 * fieldBytes = omega (arith, length-bytesOf fieldBytes n) in
+      let e'' : a + 2 * fieldBytes + length v ≡ from + entryBytes * (i + 1) = omega (arith, length-bytesOf fieldBytes (getD ps i 0)) in
+      let r1 = sets room a u in
+      let r2 = sets r1 (a + fieldBytes) w in
+      let r3 = sets r2 (a + 2 * fieldBytes) v in
+      ap₂ (λ (l k : List ℕ). sets room a (entries before l k)) (drop-cons ns i 0 h) (drop-cons ps i 0 (omega arith))
+      ∙ sets-append room a u (w ++ (v ++ x))
+      ∙ ap (λ (j : ℕ). sets r1 j (w ++ (v ++ x))) e
+      ∙ sets-append r1 (a + fieldBytes) w (v ++ x)
+      ∙ ap (λ (j : ℕ). sets r2 j (v ++ x)) e'
+      ∙ sets-append r2 (a + 2 * fieldBytes) v x
+      ∙ ap (λ (j : ℕ). sets r3 j x) e''
+      ∙ ap (λ (j : ℕ). sets r3 (from + entryBytes * (i + 1)) (entries (before + vertexBytes * n) (drop j ns) (drop j ps))) (sym (add-one i))
 
-  pub entries-end : length ns ≤ i → sets room (from + entryBytes * i) (entries before (drop i ns)) ≡ room
+  pub entries-end : length ns ≤ i → sets room (from + entryBytes * i) (entries before (drop i ns) (drop i ps)) ≡ room
   unfolding entries
-  entries-end h = ap (λ (l : List ℕ). sets room (from + entryBytes * i) (entries before l)) (drop-of-length-le ns h)
+  entries-end h = ap (λ (l : List ℕ). sets room (from + entryBytes * i) (entries before l (drop i ps))) (drop-of-length-le ns h)
 
-pub entries-start : (room ns : List ℕ) (from : ℕ) → sets room from (entries 0 ns) ≡ sets room (from + entryBytes * 0) (entries 0 (drop 0 ns))
-entries-start room ns from = let e : from ≡ from + entryBytes * 0 = omega arith in ap (λ (a : ℕ). sets room a (entries 0 ns)) e
+pub entries-start : (room ns ps : List ℕ) (from : ℕ) → sets room from (entries 0 ns ps) ≡ sets room (from + entryBytes * 0) (entries 0 (drop 0 ns) (drop 0 ps))
+entries-start room ns ps from = let e : from ≡ from + entryBytes * 0 = omega arith in ap (λ (a : ℕ). sets room a (entries 0 ns ps)) e
 
 -- ---- `put_rings`
 

@@ -22,10 +22,10 @@ pub fn size_of(counts: &[u32]) -> usize
 }
 
 // The refusal of the writer, for a room of so many bytes.
-pub fn refusal(xs: &[f64], counts: &[u32], size: usize) -> Refusal
-    ensures { λ r. ⌜ r ≡ writeRefusal (now (xs .entry)) (now (counts .entry)) size ⌝ }
+pub fn refusal(xs: &[f64], counts: &[u32], parts: &[u32], size: usize) -> Refusal
+    ensures { λ r. ⌜ r ≡ writeRefusal (now (xs .entry)) (now (counts .entry)) (now (parts .entry)) size ⌝ }
 {
-    let no = rings::lent(xs, counts);
+    let no = rings::lent(xs, counts, parts);
     if !no.passed() {
         return no;
     }

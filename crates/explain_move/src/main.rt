@@ -92,7 +92,8 @@ fn put_book(book: &[u8], translation: Point, tolerance: f64, out: &mut [u8]) -> 
 {
     let mut room = [0.0; NUMBERS_MOST];
     let mut counts = [0u32; RINGS_MOST];
-    match read_book(book, &mut room, &mut counts) {
+    let mut parts = [0u32; RINGS_MOST];
+    match read_book(book, &mut room, &mut counts, &mut parts) {
         Count::Is(_) => put_rings(
             &room,
             counts[0] as usize,

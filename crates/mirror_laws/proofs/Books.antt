@@ -29,7 +29,7 @@ use Rattle.reading.proofs.KeptBits.{kept-zero, kept-own}
 use Rattle.reading.proofs.Turning.{reads-sym, reads-trans}
 use Rattle.reading.proofs.Changed.{reads-map}
 use Rattle.reading.proofs.Leasts.{same-least, reads-of-least}
-use Rattle.book_layout.specs.Layout.{layout, bookOf, Outline}
+use Rattle.book_layout.specs.Layout.{layout, bookOf, Outline, PartNumber}
 use Rattle.book_layout.specs.Faults.{_passes}
 use Rattle.book_layout.specs.Writer.{ringsFrom, writeRefusal, writeCall, writeRoom}
 use Rattle.book_layout.proofs.Each.{each-append}
@@ -178,11 +178,11 @@ rings-mirrored (n ∷ ns) xs f h =
     ∙ rings-mirrored ns (drop (2 * n) xs) (each-drop Fits (2 * n) xs f) (rest n ns xs h))
 
 -- The writer takes the mirrored rings in exactly the rooms in which it takes the rings, and answers the same.
-pub mirrored-taken : (xs : List Float) (ns : List ℕ) → length xs ≡ 2 * total ns → (size : ℕ)
-    → (writeRefusal (mirroredRings ns xs) ns size ≡ writeRefusal xs ns size) ×
-    (writeCall (mirroredRings ns xs) ns size ≡ writeCall xs ns size)
+pub mirrored-taken : (xs : List Float) (ns ps : List ℕ) → length xs ≡ 2 * total ns → (size : ℕ)
+    → (writeRefusal (mirroredRings ns xs) ns ps size ≡ writeRefusal xs ns ps size) ×
+    (writeCall (mirroredRings ns xs) ns ps size ≡ writeCall xs ns ps size)
 unfolding writeRefusal ofRings
-mirrored-taken xs ns h size =
+mirrored-taken xs ns ps h size =
     let a = length-mirrors ns xs h in
     let b = coordinates-mirrors ns xs h in
     (rw (a, b) refl, rw (a, b) refl)
@@ -222,50 +222,54 @@ mirrors-twice (n ∷ ns) xs h =
 
 -- ---- the theorems
 
-module _ (xs ys : List Float) (ns ms : List ℕ) (s t : ℕ) (f : Formed xs) (g : Formed ys) where
-  one-book : writeRefusal xs ns s passes → writeRefusal ys ms t passes
-      → bookOf (ringsFrom ns xs) ≡ bookOf (ringsFrom ms ys)
-      → bookOf (ringsFrom ns (mirroredRings ns xs)) ≡ bookOf (ringsFrom ms (mirroredRings ms ys))
-  unfolding bookOf
-  one-book h k e =
-      let p = takes xs ns s h .0 in
-      let q = takes ys ms t k .0 in
-      let a = held-accepted xs ns f p in
-      let b = held-accepted ys ms g q in
-      let l = same-book (ringsFrom ns xs) (ringsFrom ms ys) a b .0 e in
-      ap (λ (rs : List (List Vertex)). layout (map leastReading rs)) (rings-mirrored ns xs f (p .whole))
-      ∙ ap layout (same-mirrors (ringsFrom ns xs) (ringsFrom ms ys) (a .rings) (b .rings) l)
-      ∙ sym (ap (λ (rs : List (List Vertex)). layout (map leastReading rs)) (rings-mirrored ms ys g (q .whole)))
+-- the book of rings as they are, in which each is read as its least reading is
+book-of : (ps : List ℕ) (rs : List (List Vertex)) → List ℕ
+book-of ps rs = layout (map leastReading rs) ps
 
--- Two lists of rings that the writer takes have one book exactly if the mirrored rings have one.
-pub mirrored-books : (xs ys : List Float) (ns ms : List ℕ) (s t : ℕ) → Formed xs → Formed ys → writeRefusal xs ns s passes
-    → writeRefusal ys ms t passes
-    → (bookOf (ringsFrom ns xs) ≡ bookOf (ringsFrom ms ys)) ↔ (bookOf (ringsFrom ns (mirroredRings ns xs)) ≡ bookOf
-    (ringsFrom ms (mirroredRings ms ys)))
-mirrored-books xs ys ns ms s t f g h k =
-    let p = takes xs ns s h .0 .whole in
-    let q = takes ys ms t k .0 .whole in
-    let h' : writeRefusal (mirroredRings ns xs) ns s passes = rw (mirrored-taken xs ns p s .0) h in
-    let k' : writeRefusal (mirroredRings ms ys) ms t passes = rw (mirrored-taken ys ms q t .0) k in (
-      one-book xs ys ns ms s t f g h k,
+module _ (xs ys : List Float) (ns ms ps qs : List ℕ) (s t : ℕ) (f : Formed xs) (g : Formed ys) (v : Each PartNumber ps) (w : Each PartNumber qs) where
+  one-book : writeRefusal xs ns ps s passes → writeRefusal ys ms qs t passes
+      → bookOf (ringsFrom ns xs) ps ≡ bookOf (ringsFrom ms ys) qs
+      → bookOf (ringsFrom ns (mirroredRings ns xs)) ps ≡ bookOf (ringsFrom ms (mirroredRings ms ys)) qs
+  unfolding bookOf book-of
+  one-book h k e =
+      let p = takes xs ns ps s h .0 in
+      let q = takes ys ms qs t k .0 in
+      let a = held-accepted xs ns ps f v p in
+      let b = held-accepted ys ms qs g w q in
+      let l = same-book (ringsFrom ns xs) (ringsFrom ms ys) ps qs a b .0 e in
+      ap (book-of ps) (rings-mirrored ns xs f (p .whole))
+      ∙ ap₂ layout (same-mirrors (ringsFrom ns xs) (ringsFrom ms ys) (a .rings) (b .rings) (l .0)) (l .1)
+      ∙ sym (ap (book-of qs) (rings-mirrored ms ys g (q .whole)))
+
+-- Two lists of rings with parts that the writer takes have one book exactly if the mirrored rings have one.
+pub mirrored-books : (xs ys : List Float) (ns ms ps qs : List ℕ) (s t : ℕ) → Formed xs → Formed ys → Each PartNumber ps
+    → Each PartNumber qs → writeRefusal xs ns ps s passes → writeRefusal ys ms qs t passes
+    → (bookOf (ringsFrom ns xs) ps ≡ bookOf (ringsFrom ms ys) qs) ↔ (bookOf (ringsFrom ns (mirroredRings ns xs)) ps ≡ bookOf
+    (ringsFrom ms (mirroredRings ms ys)) qs)
+mirrored-books xs ys ns ms ps qs s t f g v w h k =
+    let p = takes xs ns ps s h .0 .whole in
+    let q = takes ys ms qs t k .0 .whole in
+    let h' : writeRefusal (mirroredRings ns xs) ns ps s passes = rw (mirrored-taken xs ns ps p s .0) h in
+    let k' : writeRefusal (mirroredRings ms ys) ms qs t passes = rw (mirrored-taken ys ms qs q t .0) k in (
+      one-book xs ys ns ms ps qs s t f g v w h k,
       λ e.
           rw (mirrors-twice ns xs p, mirrors-twice ms ys q)
-          at (one-book (mirroredRings ns xs) (mirroredRings ms ys) ns ms s t (formed-mirrors ns xs f) (formed-mirrors ms ys g) h' k' e),
+          at (one-book (mirroredRings ns xs) (mirroredRings ms ys) ns ms ps qs s t (formed-mirrors ns xs f) (formed-mirrors ms ys g) v w h' k' e),
     )
 
 -- What the writer leaves of the mirrored rings in two rooms in which it takes the rings: where these have one book, one book and then what
 -- each room held.
-pub mirrored-rooms : (xs ys : List Float) (ns ms room room' : List ℕ) → Formed xs → Formed ys
-    → writeRefusal xs ns (length room) passes → writeRefusal ys ms (length room') passes
-    → bookOf (ringsFrom ns xs) ≡ bookOf (ringsFrom ms ys)
-    → (book : List ℕ) × (writeRoom (mirroredRings ns xs) ns room ≡ laid book room) ×
-    (writeRoom (mirroredRings ms ys) ms room' ≡ laid book room')
-mirrored-rooms xs ys ns ms room room' f g h k e =
-    let p = takes xs ns (length room) h .0 .whole in
-    let q = takes ys ms (length room') k .0 .whole in (
-      bookOf (ringsFrom ns (mirroredRings ns xs)),
-      rw (mirrored-taken xs ns p (length room) .0, h) refl,
-      rw (mirrored-taken ys ms q (length room') .0, k, one-book xs ys ns ms (length room) (length room') f g h k e) refl,
+pub mirrored-rooms : (xs ys : List Float) (ns ms ps qs room room' : List ℕ) → Formed xs → Formed ys → Each PartNumber ps
+    → Each PartNumber qs → writeRefusal xs ns ps (length room) passes → writeRefusal ys ms qs (length room') passes
+    → bookOf (ringsFrom ns xs) ps ≡ bookOf (ringsFrom ms ys) qs
+    → (book : List ℕ) × (writeRoom (mirroredRings ns xs) ns ps room ≡ laid book room) ×
+    (writeRoom (mirroredRings ms ys) ms qs room' ≡ laid book room')
+mirrored-rooms xs ys ns ms ps qs room room' f g v w h k e =
+    let p = takes xs ns ps (length room) h .0 .whole in
+    let q = takes ys ms qs (length room') k .0 .whole in (
+      bookOf (ringsFrom ns (mirroredRings ns xs)) ps,
+      rw (mirrored-taken xs ns ps p (length room) .0, h) refl,
+      rw (mirrored-taken ys ms qs q (length room') .0, k, one-book xs ys ns ms ps qs (length room) (length room') f g v w h k e) refl,
     )
 
 -- a ring by itself
@@ -281,11 +285,13 @@ module _ (r : List Float) (whole : length r ≡ 2 * count r) where
       rw (take-all (2 * count r) r (omega arith), append-nil (mirrored r), take-all (2 * count r) (mirrored r) (omega arith)) refl
 
 -- Of two single rings, and what the mirror call writes of them.
-pub mirrored-ring-books : (r q : List Float) (s t : ℕ) → Formed r → Formed q
-    → writeRefusal r (count r ∷ []) s passes → writeRefusal q (count q ∷ []) t passes
-    → (bookOf (ringOf r ∷ []) ≡ bookOf (ringOf q ∷ [])) ↔ (bookOf (ringOf (mirrored r) ∷ []) ≡ bookOf (ringOf (mirrored q) ∷ []))
+pub mirrored-ring-books : (r q : List Float) (part part' : ℕ) (s t : ℕ) → Formed r → Formed q → PartNumber part → PartNumber part'
+    → writeRefusal r (count r ∷ []) (part ∷ []) s passes → writeRefusal q (count q ∷ []) (part' ∷ []) t passes
+    → (bookOf (ringOf r ∷ []) (part ∷ []) ≡ bookOf (ringOf q ∷ []) (part' ∷ []))
+    ↔ (bookOf (ringOf (mirrored r) ∷ []) (part ∷ []) ≡ bookOf (ringOf (mirrored q) ∷ []) (part' ∷ []))
 unfolding total
-mirrored-ring-books r q s t f g h k =
-    let a : length r ≡ 2 * count r = omega (arith, takes r (count r ∷ []) s h .0 .whole) in
-    let b : length q ≡ 2 * count q = omega (arith, takes q (count q ∷ []) t k .0 .whole) in
-    rw (alone-mirrored r a, alone-mirrored q b, alone r a, alone q b) at (mirrored-books r q (count r ∷ []) (count q ∷ []) s t f g h k)
+mirrored-ring-books r q part part' s t f g v w h k =
+    let a : length r ≡ 2 * count r = omega (arith, takes r (count r ∷ []) (part ∷ []) s h .0 .whole) in
+    let b : length q ≡ 2 * count q = omega (arith, takes q (count q ∷ []) (part' ∷ []) t k .0 .whole) in
+    rw (alone-mirrored r a, alone-mirrored q b, alone r a, alone q b)
+    at (mirrored-books r q (count r ∷ []) (count q ∷ []) (part ∷ []) (part' ∷ []) s t f g (v, tt) (w, tt) h k)

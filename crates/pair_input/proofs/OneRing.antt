@@ -16,7 +16,7 @@ use Rattle.refusals.proofs.Sized.{Fine}
 use Rattle.refusals.proofs.Counts.{is-within}
 use Rattle.laws.proofs.Both.{both}
 use Rattle.number_bytes.specs.Bytes.{Each, Byte}
-use Rattle.book_layout.specs.Layout.{countsOf}
+use Rattle.book_layout.specs.Layout.{countsOf, partsOf}
 use Rattle.book_layout.specs.Faults.{_passes, bookCheck}
 use Rattle.book_layout.specs.Writer.{Held}
 use Rattle.book_layout.specs.Reader.{numbersOf}
@@ -46,7 +46,7 @@ only (n ∷ []) l s =
 only (n ∷ m ∷ ns) l s = absurd (omega (arith, l))
 
 module _ (f : List ℕ) (bytes : Each Byte f) (ok : bookCheck f passes) (one : length (countsOf f) ≡ 1) where
-  held : Held (numbersOf f) (countsOf f)
+  held : Held (numbersOf f) (countsOf f) (partsOf f)
   held = read-held f bytes ok
 
   count : Only (countsOf f)

@@ -14,7 +14,7 @@ use Rattle.refusals.specs.declared.Refusal.{Refusal}
 use Rattle.refusals.specs.declared.answer.Count.{Count}
 use Rattle.refusals.specs.declared.answer.Count.the-variants.{Is, Refused}
 use Rattle.refusals.specs.Rings.{verticesLeast, verticesMost, ringsMost, within, total, sizedAll}
-use Rattle.book_layout.specs.Layout.{numbersMost, countsOf}
+use Rattle.book_layout.specs.Layout.{numbersMost, countsOf, partsOf}
 use Rattle.book_layout.specs.Faults.{_passes, bookCheck}
 use Rattle.book_layout.specs.Writer.{Held}
 use Rattle.book_layout.specs.Reader.{numbersOf}
@@ -58,12 +58,15 @@ two (n ∷ m ∷ ns) s =
 
 -- ---- the reader's answer
 
--- the two rooms before it
+-- the three rooms before it
 abbrev pub room : List Float
 room = replicate numbersMost (ofBits binary64 0)
 
 abbrev pub counts : List ℕ
 counts = replicate ringsMost 0
+
+abbrev pub parts : List ℕ
+parts = replicate ringsMost 0
 
 -- what the rooms hold after it: the two polygons of a book, one after the other
 pub record Pair (f : List ℕ) (x : List Float) (n : List ℕ) : Type 0 where
@@ -74,17 +77,17 @@ pub record Pair (f : List ℕ) (x : List Float) (n : List ℕ) : Type 0 where
   pub stationary-is : firstPart x (getD n 0 0) ≡ stationaryIn f
   pub orbiting-is : secondPart x (getD n 0 0) (getD n 1 0) ≡ orbitingIn f
 
-module _ (f : List ℕ) (bytes : (i : ℕ) → getD f i 0 < 256) (x : List Float) (n : List ℕ) (r : Count) (p : Promised f room counts r x n) where
+module _ (f : List ℕ) (bytes : (i : ℕ) → getD f i 0 < 256) (x : List Float) (n q : List ℕ) (r : Count) (p : Promised f room counts parts r x n q) where
   module _ (k : ℕ) (e : r ≡ Is k) where
-    held : Held (numbersOf f) (countsOf f)
-    held = book-held f bytes room x counts n r p k e
+    held : Held (numbersOf f) (countsOf f) (partsOf f)
+    held = book-held f bytes room x counts n parts q r p k e
 
     room-holds : x ≡ laid (numbersOf f) room
-    room-holds = room-is f bytes room x counts n r p k e
+    room-holds = room-is f bytes room x counts n parts q r p k e
 
     vertices : (i : ℕ) → getD n i 0 ≡ verticesOf f i
     vertices i =
-        ap (λ (l : List ℕ). getD l i 0) (counts-are f bytes room x counts n r p k e)
+        ap (λ (l : List ℕ). getD l i 0) (counts-are f bytes room x counts n parts q r p k e)
         ∙ count-at (countsOf f) (drop (length (countsOf f)) counts) i (zeros (length (countsOf f)) ringsMost)
 
     bounds : Two (countsOf f)
@@ -110,7 +113,7 @@ module _ (f : List ℕ) (bytes : (i : ℕ) → getD f i 0 < 256) (x : List Float
 
     pub pair-read : Pair f x n
     pair-read = record {
-      book = a-book f bytes room x counts n r p k e;
+      book = a-book f bytes room x counts n parts q r p k e;
       first-most = (omega (arith, vertices 0, bounds .first));
       second-most = (omega (arith, vertices 1, bounds .second));
       both-inside = (omega (arith, vertices 0, vertices 1, inside, numbers-are));
@@ -123,7 +126,7 @@ module _ (f : List ℕ) (bytes : (i : ℕ) → getD f i 0 < 256) (x : List Float
     fault-read =
         let l = length-replicate numbersMost (ofBits binary64 0) in
         let m = length-replicate {A = ℕ} ringsMost 0 in
-        no-book f bytes room x counts n r p (omega (arith, l)) (omega (arith, m)) told e
+        no-book f bytes room x counts n parts q r p (omega (arith, l)) (omega (arith, m)) (omega (arith, m)) told e
 
 -- ---- what is said of a book: its two polygons in one way, or its fault in another
 

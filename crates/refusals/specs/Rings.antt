@@ -1,4 +1,4 @@
--- The rings that a book's writer is lent: their coordinates in one list, and a list of their vertex counts. Definitions only.
+-- The rings that a book's writer is lent: their coordinates in one list, a list of their vertex counts, and one of their parts. Definitions only.
 use Prim.Native.Nat.{ℕ, _+_, _*_}
 use mathlib.Core.Bool.{Bool, true, _&&_}
 use mathlib.Core.List.{List, [], _∷_}

@@ -6,7 +6,7 @@ use lib.ListN.{length}
 use lib.Ieee.{Float}
 use Rattle.plane.specs.declared.Point.{Point}
 use Rattle.refusals.specs.Refusals.{firstOf}
-use Rattle.refusals.specs.Screens.{wrongSum, wrongNumber, wrongInfinite, wrongPosition, wrongPoint, wrongTolerance, wrongSettings, wrongWork, wrongResult, wrongFit}
+use Rattle.refusals.specs.Screens.{wrongSum, wrongParts, wrongNumber, wrongInfinite, wrongPosition, wrongPoint, wrongTolerance, wrongSettings, wrongWork, wrongResult, wrongFit}
 use Rattle.refusals.specs.Lists.{listFault, faultOf, ringExtent, polygonExtent, pointsExtent, vectorsExtent, ringsExtent, countExtent}
 use Rattle.refusals.specs.declared.Refusal.{Refusal}
 use Rattle.refusals.specs.declared.Settings.{Settings}
@@ -45,11 +45,17 @@ ofList r tol = firstOf (faultOf (pointsExtent r ∷ []) ∷ wrongInfinite r ∷ 
 unfoldable pub ofVectors : List Float → Refusal
 ofVectors vs = faultOf (vectorsExtent vs ∷ [])
 
--- rings and their vertex counts, as a book's writer is lent them: the number of rings, in the place of that number; ring by ring its vertices;
--- the sum; the coordinates
-unfoldable pub ofRings : List Float → List ℕ → Refusal
-ofRings xs ns =
-    firstOf (listFault (ringsExtent ns) (length ns) ∷ faultOf (map countExtent ns) ∷ wrongSum xs ns ∷ wrongNumber xs ∷ [])
+-- rings, their vertex counts and their parts, as a book's writer is lent them: the number of rings, in the place of that number; ring by ring
+-- its vertices; the sum; the number of parts; the coordinates
+unfoldable pub ofRings : List Float → List ℕ → List ℕ → Refusal
+ofRings xs ns ps =
+    firstOf
+    (listFault (ringsExtent ns) (length ns)
+    ∷ faultOf (map countExtent ns)
+    ∷ wrongSum xs ns
+    ∷ wrongParts ns ps
+    ∷ wrongNumber xs
+    ∷ [])
 
 -- ---- two polygons and what is lent with them
 

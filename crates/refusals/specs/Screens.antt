@@ -3,7 +3,7 @@ use Prim.Native.Nat.{ℕ, _*_}
 use mathlib.Core.Bool.{_&&_}
 use mathlib.Core.List.{List}
 use lib.ListN.{length}
-use lib.Dec.{leb}
+use lib.Dec.{leb, eqb}
 use lib.Ieee.{Float}
 use Rattle.plane.specs.declared.Point.{Point}
 use Rattle.refusals.specs.Refusals.{refusedLength, refusedNumber, refusedSetting, refusedRoom, refusedFit, unless}
@@ -12,10 +12,13 @@ use Rattle.refusals.specs.Rings.{sumOk}
 use Rattle.refusals.specs.declared.Refusal.{Refusal}
 use Rattle.refusals.specs.declared.Settings.{Settings}
 
--- ---- 1: a list that is not the sum of the rings' vertices, with the number of rings
+-- ---- 1: a list that is not the sum of the rings' vertices, or parts unlike the rings in number, with the number of rings
 
 abbrev pub wrongSum : List Float → List ℕ → Refusal
 wrongSum xs ns = unless (sumOk xs ns) refusedLength (length ns)
+
+abbrev pub wrongParts : List ℕ → List ℕ → Refusal
+wrongParts ns ps = unless (eqb (length ps) (length ns)) refusedLength (length ns)
 
 -- ---- 2: a list's numbers, a point's numbers
 
@@ -51,9 +54,9 @@ wrongResult work result = unless (leb work result) refusedRoom 0
 abbrev pub shortRoom : ℕ → ℕ → Refusal
 shortRoom needed size = unless (leb needed size) refusedRoom 0
 
--- a book's rings, or their counts, do not fit their rooms
-abbrev pub wrongBookRooms : ℕ → ℕ → ℕ → ℕ → Refusal
-wrongBookRooms needed size needed2 size2 = unless (leb needed size && leb needed2 size2) refusedRoom 0
+-- a book's numbers, or the counts or the parts of its rings, do not fit their rooms
+abbrev pub wrongBookRooms : ℕ → ℕ → ℕ → ℕ → ℕ → Refusal
+wrongBookRooms needed size rings counts parts = unless (leb needed size && (leb rings counts && leb rings parts)) refusedRoom 0
 
 -- ---- 5: so many numbers, or so many points, do not fit a room of so many numbers
 

@@ -102,15 +102,17 @@ pub fn short(needed: usize, size: usize) -> Refusal
     unless(needed <= size, REFUSED_ROOM, 0)
 }
 
-// Two rooms for what a book holds: its numbers and its counts.
-pub fn book_rooms(needed: usize, size: usize, needed2: usize, size2: usize) -> Refusal
-    ensures { λ r. ⌜ r ≡ wrongBookRooms needed size needed2 size2 ⌝ }
+// The rooms for what a book holds: its numbers, the counts of its rings and their parts.
+pub fn book_rooms(needed: usize, size: usize, rings: usize, counts: usize, parts: usize) -> Refusal
+    ensures { λ r. ⌜ r ≡ wrongBookRooms needed size rings counts parts ⌝ }
 {
-    if needed <= size {
-        unless(needed2 <= size2, REFUSED_ROOM, 0)
-    } else {
-        Refusal::new(REFUSED_ROOM, 0)
+    if size < needed {
+        return Refusal::new(REFUSED_ROOM, 0);
     }
+    if counts < rings {
+        return Refusal::new(REFUSED_ROOM, 0);
+    }
+    unless(rings <= parts, REFUSED_ROOM, 0)
 }
 
 // A room of size numbers, of which so many are needed.

@@ -69,20 +69,30 @@ fn told(answer: Count, header: &[u8; 96]) -> bool {
 }
 
 // The writer on the first numbers of each list.
-fn write(xs: &[f64], an: usize, ns: &[u32], bn: usize, room: &mut [u8], rn: usize) -> Count
-    requires { ⌜ (an ≤ length (now xs)) × (bn ≤ length (now ns)) × (rn ≤ length (now room)) ⌝ }
+fn write(
+    xs: &[f64],
+    an: usize,
+    ns: &[u32],
+    bn: usize,
+    ps: &[u32],
+    pn: usize,
+    room: &mut [u8],
+    rn: usize,
+) -> Count
+    requires { ⌜ (an ≤ length (now xs)) × (bn ≤ length (now ns)) × (pn ≤ length (now ps)) × (rn ≤ length (now room)) ⌝ }
 {
-    book_writer::calls::write_book(&xs[..an], &ns[..bn], &mut room[..rn])
+    book_writer::calls::write_book(&xs[..an], &ns[..bn], &ps[..pn], &mut room[..rn])
 }
 
-fn write_agrees(header: &[u8; 96], an: usize, bn: usize, rn: usize) -> bool
-    requires { ⌜ (an ≤ 4200) × (bn ≤ 16) × (rn ≤ 33000) ⌝ }
+fn write_agrees(header: &[u8; 96], an: usize, bn: usize, pn: usize, rn: usize) -> bool
+    requires { ⌜ (an ≤ 4200) × (bn ≤ 16) × (pn ≤ 16) × (rn ≤ 33000) ⌝ }
 {
     let xs = floats(an);
     let ns = counts(bn);
+    let ps = counts(pn);
     let mut room = bytes(rn);
     let left = bytes(rn);
-    if told(write(&xs, an, &ns, bn, &mut room, rn), header) {
+    if told(write(&xs, an, &ns, bn, &ps, pn, &mut room, rn), header) {
         same_bytes(&room, &left, rn)
     } else {
         false
@@ -90,25 +100,55 @@ fn write_agrees(header: &[u8; 96], an: usize, bn: usize, rn: usize) -> bool
 }
 
 // The reader on the first numbers of each list.
-fn read_rings(book: &[u8], an: usize, xs: &mut [f64], rn: usize, ns: &mut [u32], cn: usize) -> Count
-    requires { ⌜ (an ≤ length (now book)) × (rn ≤ length (now xs)) × (cn ≤ length (now ns)) ⌝ }
+fn read_rings(
+    book: &[u8],
+    an: usize,
+    xs: &mut [f64],
+    rn: usize,
+    ns: &mut [u32],
+    cn: usize,
+    ps: &mut [u32],
+    pn: usize,
+) -> Count
+    requires { ⌜ (an ≤ length (now book)) × (rn ≤ length (now xs)) × (cn ≤ length (now ns)) × (pn ≤ length (now ps)) ⌝ }
 {
-    book_reader::calls::read_book(&book[..an], &mut xs[..rn], &mut ns[..cn])
+    book_reader::calls::read_book(&book[..an], &mut xs[..rn], &mut ns[..cn], &mut ps[..pn])
 }
 
-fn read_agrees(header: &[u8; 96], an: usize, rn: usize, cn: usize) -> bool
-    requires { ⌜ (an ≤ 33000) × (rn ≤ 4200) × (cn ≤ 16) ⌝ }
+// Whether the rooms are left as the record goes on to say.
+fn left_agrees(
+    xs: &[f64; 4200],
+    rn: usize,
+    ns: &[u32; 16],
+    cn: usize,
+    ps: &[u32; 16],
+    pn: usize,
+) -> bool
+    requires { ⌜ (rn ≤ 4200) × (cn ≤ 16) × (pn ≤ 16) ⌝ }
+{
+    let xs_left = floats(rn);
+    let ns_left = counts(cn);
+    let ps_left = counts(pn);
+    if !same_floats(xs, &xs_left, rn) {
+        return false;
+    }
+    if same_counts(ns, &ns_left, cn) {
+        same_counts(ps, &ps_left, pn)
+    } else {
+        false
+    }
+}
+
+fn read_agrees(header: &[u8; 96], an: usize, rn: usize, cn: usize, pn: usize) -> bool
+    requires { ⌜ (an ≤ 33000) × (rn ≤ 4200) × (cn ≤ 16) × (pn ≤ 16) ⌝ }
 {
     let book = bytes(an);
     let mut xs = floats(rn);
     let mut ns = counts(cn);
-    let xs_left = floats(rn);
-    let ns_left = counts(cn);
-    if !told(read_rings(&book, an, &mut xs, rn, &mut ns, cn), header) {
-        return false;
-    }
-    if same_floats(&xs, &xs_left, rn) {
-        same_counts(&ns, &ns_left, cn)
+    let mut ps = counts(pn);
+    let answer = read_rings(&book, an, &mut xs, rn, &mut ns, cn, &mut ps, pn);
+    if left_agrees(&xs, rn, &ns, cn, &ps, pn) {
+        told(answer, header)
     } else {
         false
     }
@@ -120,12 +160,14 @@ fn agrees(header: &[u8; 96]) -> bool {
         let an = list_length(header, 8, 4200);
         let bn = list_length(header, 16, 16);
         let rn = list_length(header, 24, 33000);
-        write_agrees(header, an, bn, rn)
+        let pn = list_length(header, 64, 16);
+        write_agrees(header, an, bn, pn, rn)
     } else {
         let an = list_length(header, 8, 33000);
         let rn = list_length(header, 24, 4200);
         let cn = list_length(header, 32, 16);
-        read_agrees(header, an, rn, cn)
+        let pn = list_length(header, 64, 16);
+        read_agrees(header, an, rn, cn, pn)
     }
 }
 

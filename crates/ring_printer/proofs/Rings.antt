@@ -23,16 +23,16 @@ total-parts (suc i) (n ∷ ns) = omega (arith, total-parts i ns)
 
 -- ---- ring by ring
 
-pub no-ring : (ns : List ℕ) (xs : List Float) (room : List ℕ) (at : ℕ) → Put room at (ringTexts ns xs 0) room at
+pub no-ring : (ns ps : List ℕ) (xs : List Float) (room : List ℕ) (at : ℕ) → Put room at (ringTexts ns ps xs 0) room at
 unfolding ringTexts
-no-ring ns xs room at = empty room at
+no-ring ns ps xs room at = empty room at
 
-pub ring-more : (ns : List ℕ) (xs ring : List Float) (i n : ℕ) {a b c : List ℕ} {at m r : ℕ}
-    → Put a at (ringTexts ns xs i) b m → Put b m (ringText i n ring) c r → n ≡ getD ns i 0 → ring ≡ take (2 * n) (drop (2 * total (take i ns)) xs)
-    → Put a at (ringTexts ns xs (i + 1)) c r
+pub ring-more : (ns ps : List ℕ) (xs ring : List Float) (i n : ℕ) {a b c : List ℕ} {at m r : ℕ}
+    → Put a at (ringTexts ns ps xs i) b m → Put b m (ringText i n (getD ps i 0) ring) c r → n ≡ getD ns i 0 → ring ≡ take (2 * n) (drop (2 * total (take i ns)) xs)
+    → Put a at (ringTexts ns ps xs (i + 1)) c r
 unfolding ringTexts
-ring-more ns xs ring i n p q e f =
-    let s : ringTexts ns xs (i + 1) ≡ ringTexts ns xs i ++ ringText i n ring = rw (add-one i, f, e) refl in
+ring-more ns ps xs ring i n p q e f =
+    let s : ringTexts ns ps xs (i + 1) ≡ ringTexts ns ps xs i ++ ringText i n (getD ps i 0) ring = rw (add-one i, f, e) refl in
     reads (sym s) (then p q)
 
 -- the part of a list that a ring is lent as
@@ -45,7 +45,7 @@ module _ (xs : List Float) (at n : ℕ) where
 
 -- ---- what follows the rings in a list is not printed
 
-module _ (ns : List ℕ) (l rest : List Float) (whole : length l ≡ 2 * total ns) where
+module _ (ns ps : List ℕ) (l rest : List Float) (whole : length l ≡ 2 * total ns) where
   same-ring : (i : ℕ) → i < length ns
       → take (2 * getD ns i 0) (drop (2 * total (take i ns)) (l ++ rest)) ≡ take (2 * getD ns i 0) (drop (2 * total (take i ns)) l)
   same-ring i h =
@@ -54,8 +54,8 @@ module _ (ns : List ℕ) (l rest : List Float) (whole : length l ≡ 2 * total n
       let s : total (take i ns) + getD ns i 0 ≤ total ns = omega (arith, total-parts i ns, total-on ns i h) in
       ap (take b) (drop-append-le a l rest (omega arith)) ∙ take-append-le b (drop a l) rest (omega (arith, length-drop a l))
 
-  pub same-texts : (k : ℕ) → k ≤ length ns → ringTexts ns (l ++ rest) k ≡ ringTexts ns l k
+  pub same-texts : (k : ℕ) → k ≤ length ns → ringTexts ns ps (l ++ rest) k ≡ ringTexts ns ps l k
   unfolding ringTexts
   same-texts zero h = refl
   same-texts (suc i) h =
-      ap₂ (λ (t : List ℕ) (ring : List Float). t ++ ringText i (getD ns i 0) ring) (same-texts i (omega arith)) (same-ring i (omega arith))
+      ap₂ (λ (t : List ℕ) (ring : List Float). t ++ ringText i (getD ns i 0) (getD ps i 0) ring) (same-texts i (omega arith)) (same-ring i (omega arith))

@@ -28,33 +28,36 @@ fn put_heading(rings: usize, out: &mut [u8]) -> usize
     put_text(out, end, b"\n")
 }
 
-// The line of ring i, from out[at] on.
-fn put_ring_line(i: usize, n: usize, out: &mut [u8], at: usize) -> usize
-    requires { ⌜ at + 60 ≤ length (now out) ⌝ }
-    ensures { λ r. ⌜ Put (now (out .entry)) at (ringLine i n) (now (out .exit)) r × (r ≤ at + 60) ⌝ }
+// The line of ring i, of n vertices and of a part, from out[at] on.
+fn put_ring_line(i: usize, n: usize, part: u32, out: &mut [u8], at: usize) -> usize
+    requires { ⌜ at + 100 ≤ length (now out) ⌝ }
+    ensures { λ r. ⌜ Put (now (out .entry)) at (ringLine i n part) (now (out .exit)) r × (r ≤ at + 100) ⌝ }
 {
     let a = put_text(out, at, b"ring ");
     let b = put_decimal(out, a, i as u64);
     let c = put_text(out, b, b" vertices ");
     let d = put_decimal(out, c, n as u64);
-    put_text(out, d, b"\n")
+    let e = put_text(out, d, b" part ");
+    let f = put_decimal(out, e, part as u64);
+    put_text(out, f, b"\n")
 }
 
-// Ring i, of n vertices, from out[at] on.
-fn put_ring(ring: &[f64], i: usize, n: usize, out: &mut [u8], at: usize) -> usize
+// Ring i, of n vertices and of a part, from out[at] on.
+fn put_ring(ring: &[f64], i: usize, n: usize, part: u32, out: &mut [u8], at: usize) -> usize
     requires { ⌜ (2 * n ≤ length (now ring)) × (n ≤ verticesMost) × (at + 9000 ≤ length (now out)) ⌝ }
-    ensures { λ r. ⌜ Put (now (out .entry)) at (ringText i n (now (ring .entry))) (now (out .exit)) r × (r ≤ at + 9000) ⌝ }
+    ensures { λ r. ⌜ Put (now (out .entry)) at (ringText i n part (now (ring .entry))) (now (out .exit)) r × (r ≤ at + 9000) ⌝ }
 {
-    let next = put_ring_line(i, n, out, at);
+    let next = put_ring_line(i, n, part, out, at);
     put_points(ring, n, out, next)
 }
 
-// The rings of these vertex counts, one after the other in a list, from out[from] on.
-fn put_rings(xs: &[f64], counts: &[u32], out: &mut [u8], from: usize) -> usize
+// The rings of these vertex counts and parts, one after the other in a list, from out[from] on.
+fn put_rings(xs: &[f64], counts: &[u32], parts: &[u32], out: &mut [u8], from: usize) -> usize
     requires { ⌜ (length (now counts) ≤ ringsMost) × (sizedAll (now counts) ≡ true) × (2 * total (now counts) ≤ length (now xs)) ⌝ }
-    requires { ⌜ (from ≤ 100) × (73000 ≤ length (now out)) ⌝ }
+    requires { ⌜ (from ≤ 100) × (73000 ≤ length (now out)) × (length (now parts) ≡ length (now counts)) ⌝ }
     ensures { λ r.
-        ⌜ Put (now (out .entry)) from (ringTexts (now (counts .entry)) (now (xs .entry)) (length (now (counts .entry))))
+        ⌜ Put (now (out .entry)) from
+        (ringTexts (now (counts .entry)) (now (parts .entry)) (now (xs .entry)) (length (now (counts .entry))))
         (now (out .exit)) r ⌝ }
 {
     let mut next = from;
@@ -63,7 +66,7 @@ fn put_rings(xs: &[f64], counts: &[u32], out: &mut [u8], from: usize) -> usize
     while i < counts.len() {
         let n = counts[i] as usize;
         let end = at + 2 * n;
-        next = put_ring(&xs[at..end], i, n, out, next);
+        next = put_ring(&xs[at..end], i, n, parts[i], out, next);
         at = end;
         i += 1;
     }
@@ -71,13 +74,13 @@ fn put_rings(xs: &[f64], counts: &[u32], out: &mut [u8], from: usize) -> usize
 }
 
 // How many rings there are, and the rings.
-fn put_all(xs: &[f64], counts: &[u32], out: &mut [u8]) -> usize
+fn put_all(xs: &[f64], counts: &[u32], parts: &[u32], out: &mut [u8]) -> usize
     requires { ⌜ (length (now counts) ≤ ringsMost) × (sizedAll (now counts) ≡ true) × (2 * total (now counts) ≤ length (now xs)) ⌝ }
-    requires { ⌜ 73000 ≤ length (now out) ⌝ }
-    ensures { λ r. ⌜ Put (now (out .entry)) 0 (ringsText (now (counts .entry)) (now (xs .entry))) (now (out .exit)) r ⌝ }
+    requires { ⌜ (73000 ≤ length (now out)) × (length (now parts) ≡ length (now counts)) ⌝ }
+    ensures { λ r. ⌜ Put (now (out .entry)) 0 (ringsText (now (counts .entry)) (now (parts .entry)) (now (xs .entry))) (now (out .exit)) r ⌝ }
 {
     let from = put_heading(counts.len(), out);
-    put_rings(xs, counts, out, from)
+    put_rings(xs, counts, parts, out, from)
 }
 
 // What is printed for a book: its rings, or its refusal.
@@ -87,8 +90,9 @@ fn put_book(book: &[u8], out: &mut [u8]) -> usize
 {
     let mut room = [0.0; NUMBERS_MOST];
     let mut counts = [0u32; RINGS_MOST];
-    match read_book(book, &mut room, &mut counts) {
-        Count::Is(k) => put_all(&room, &counts[..k], out),
+    let mut parts = [0u32; RINGS_MOST];
+    match read_book(book, &mut room, &mut counts, &mut parts) {
+        Count::Is(k) => put_all(&room, &counts[..k], &parts[..k], out),
         Count::Refused(no) => put_refusal(no, out),
     }
 }

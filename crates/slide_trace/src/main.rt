@@ -70,7 +70,8 @@ fn put_book(book: &[u8], settings: Settings, out: &mut [u8]) -> usize
 {
     let mut room = [0.0; NUMBERS_MOST];
     let mut counts = [0u32; RINGS_MOST];
-    match read_book(book, &mut room, &mut counts) {
+    let mut parts = [0u32; RINGS_MOST];
+    match read_book(book, &mut room, &mut counts, &mut parts) {
         Count::Is(_) => put_rings(&room, counts[0] as usize, counts[1] as usize, settings, out),
         Count::Refused(no) => put_refusal(no, out),
     }

@@ -1,15 +1,15 @@
 //! The list `book`. A record is twelve words of header: the call (0 write,
 //! 1 read), an, bn, rn, cn, the refusal number, the value answered, the place that
-//! the refusal tells (0 where it tells none) and four zeros.
+//! the refusal tells (0 where it tells none), pn and three zeros.
 //!
-//! For writing, an coordinates and bn vertex counts are lent with a room of rn
-//! bytes, cn is 0, and the value is the book's length. After the header come the
-//! coordinates' bits, the counts, the room at entry and the room at exit. For
-//! reading, a file of an bytes is lent with rooms for rn coordinates and cn
-//! counts, bn is 0, and the value is the number of rings. After the header come
-//! the file, both rooms at entry and both rooms at exit. Bytes are packed eight
-//! to a word, the last word filled up with zeros; a count takes a word. The value
-//! is 0 where refused.
+//! For writing, an coordinates, bn vertex counts and pn parts are lent with a room
+//! of rn bytes, cn is 0, and the value is the book's length. After the header come
+//! the coordinates' bits, the counts, the parts, the room at entry and the room at
+//! exit. For reading, a file of an bytes is lent with rooms for rn coordinates, cn
+//! counts and pn parts, bn is 0, and the value is the number of rings. After the
+//! header come the file, the rooms at entry and the rooms at exit. Bytes are packed
+//! eight to a word, the last word filled up with zeros; a count takes a word, and
+//! so does a part. The value is 0 where refused.
 
 mod counts;
 mod files;
@@ -19,7 +19,7 @@ mod sample;
 pub use lent::longest;
 
 use super::{bits, byte_room, float_room, once, packed, refused, List};
-use crate::book::{book_of, file_of, read_book, write_book};
+use crate::book::{book_of, file_of, parts_of, read_book, write_book};
 use crate::seeded::Seeded;
 use std::slice;
 
@@ -41,19 +41,22 @@ pub const ONE: List = List { stored: records, long: |_, place| costly(2.0, place
 
 /// A call with what is lent to it; of a room only the length.
 enum Case {
-    Write { coordinates: Vec<f64>, counts: Vec<u32>, room: usize },
-    Read { file: Vec<u8>, coordinates: usize, counts: usize },
+    Write { coordinates: Vec<f64>, counts: Vec<u32>, parts: Vec<u32>, room: usize },
+    Read { file: Vec<u8>, coordinates: usize, counts: usize, parts: usize },
 }
 
 impl Case {
     /// Writes these rings to a room that is just long enough.
     fn writing(rings: &[Vec<f64>]) -> Self {
-        Self::Write { coordinates: rings.concat(), counts: counts(rings), room: length(rings) }
+        let parts = parts_of(rings.len());
+        let room = length(rings);
+        Self::Write { coordinates: rings.concat(), counts: counts(rings), parts, room }
     }
 
-    /// Reads this file to rooms of these lengths.
+    /// Reads this file to rooms of these lengths, with as much room for parts as
+    /// for counts.
     fn reading(file: &[u8], coordinates: usize, counts: usize) -> Self {
-        Self::Read { file: file.to_vec(), coordinates, counts }
+        Self::Read { file: file.to_vec(), coordinates, counts, parts: counts }
     }
 }
 
@@ -77,12 +80,17 @@ fn counts(rings: &[Vec<f64>]) -> Vec<u32> {
 
 /// The length of the book of these rings.
 fn length(rings: &[Vec<f64>]) -> usize {
-    8 * rings.concat().len() + 8 * rings.len() + 8
+    8 * rings.concat().len() + 12 * rings.len() + 8
 }
 
 /// A room of this many counts, none of which a ring can have.
 fn count_room(length: usize) -> Vec<u32> {
     (0..length).map(|i| 0xc000_0000 + 1000 * i as u32).collect()
+}
+
+/// A room of this many parts, each of which tells where it stands.
+fn part_room(length: usize) -> Vec<u32> {
+    (0..length).map(|i| 0xa000_0000 + 1000 * i as u32).collect()
 }
 
 /// The counts, a word each.
@@ -91,28 +99,30 @@ fn widened(counts: &[u32]) -> Vec<u64> {
 }
 
 /// The record of a call to write.
-fn written(coordinates: &[f64], counts: &[u32], room: usize) -> Vec<u64> {
+fn written(coordinates: &[f64], counts: &[u32], parts: &[u32], room: usize) -> Vec<u64> {
     let before = byte_room(room);
     let mut after = before.clone();
-    let answer = write_book(coordinates, counts, &mut after);
+    let answer = write_book(coordinates, counts, parts, &mut after);
     let ([number, place], value) = (refused(answer.err()), answer.unwrap_or(0) as u64);
-    let [an, bn, rn] = [coordinates.len(), counts.len(), room].map(|n| n as u64);
-    let header = vec![WRITE, an, bn, rn, 0, number, value, place, 0, 0, 0, 0];
-    [header, bits(coordinates), widened(counts), packed(&before), packed(&after)].concat()
+    let [an, bn, pn, rn] = [coordinates.len(), counts.len(), parts.len(), room].map(|n| n as u64);
+    let header = vec![WRITE, an, bn, rn, 0, number, value, place, pn, 0, 0, 0];
+    let lent = [bits(coordinates), widened(counts), widened(parts)].concat();
+    [header, lent, packed(&before), packed(&after)].concat()
 }
 
 /// The record of a call to read.
-fn read(file: &[u8], coordinates: usize, counts: usize) -> Vec<u64> {
-    let before = (float_room(coordinates), count_room(counts));
+fn read(file: &[u8], coordinates: usize, counts: usize, parts: usize) -> Vec<u64> {
+    let before = (float_room(coordinates), count_room(counts), part_room(parts));
     let mut after = before.clone();
-    let answer = read_book(file, &mut after.0, &mut after.1);
+    let answer = read_book(file, &mut after.0, &mut after.1, &mut after.2);
     let ([number, place], value) = (refused(answer.err()), answer.unwrap_or(0) as u64);
-    let [an, rn, cn] = [file.len(), coordinates, counts].map(|n| n as u64);
-    let mut words = vec![READ, an, 0, rn, cn, number, value, place, 0, 0, 0, 0];
+    let [an, rn, cn, pn] = [file.len(), coordinates, counts, parts].map(|n| n as u64);
+    let mut words = vec![READ, an, 0, rn, cn, number, value, place, pn, 0, 0, 0];
     words.extend(packed(file));
-    for (numbers, counts) in [before, after] {
+    for (numbers, counts, parts) in [before, after] {
         words.extend(bits(&numbers));
         words.extend(widened(&counts));
+        words.extend(widened(&parts));
     }
     words
 }
@@ -120,8 +130,12 @@ fn read(file: &[u8], coordinates: usize, counts: usize) -> Vec<u64> {
 /// The record of a case.
 fn record(case: &Case) -> Vec<u64> {
     match case {
-        Case::Write { coordinates, counts, room } => written(coordinates, counts, *room),
-        Case::Read { file, coordinates, counts } => read(file, *coordinates, *counts),
+        Case::Write { coordinates, counts, parts, room } => {
+            written(coordinates, counts, parts, *room)
+        }
+        Case::Read { file, coordinates, counts, parts } => {
+            read(file, *coordinates, *counts, *parts)
+        }
     }
 }
 

@@ -137,7 +137,7 @@ fn bits(list: &[f64]) -> Vec<u64> {
 }
 
 /// The bytes, eight to a word, the last word filled up with zeros.
-fn packed(bytes: &[u8]) -> Vec<u64> {
+pub fn packed(bytes: &[u8]) -> Vec<u64> {
     let word = |chunk: &[u8]| chunk.iter().rev().fold(0, |word, &byte| word << 8 | u64::from(byte));
     bytes.chunks(8).map(word).collect()
 }

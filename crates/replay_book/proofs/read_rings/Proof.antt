@@ -6,19 +6,25 @@ use Rattle.replay_book.proofs.read_rings.Statement.{statement}
 use Rattle.replay_book.proofs.read_rings.Tie as tie
 
 slice-aggregate-read-book : tie.Need-slice-aggregate-read-book
-slice-aggregate-read-book c = sym (length-take-le _ _ (c .before .before .before .before .pre .0))
+slice-aggregate-read-book c = sym (length-take-le _ _ (c .before .before .before .before .before .pre .0))
 
 slice-relend-prefix-read-book : tie.Need-slice-relend-prefix-read-book
 slice-relend-prefix-read-book c = search needs
 
 slice-aggregate-read-book-2 : tie.Need-slice-aggregate-read-book-2
-slice-aggregate-read-book-2 c = sym (length-take-le _ _ (c .before .before .before .before .before .pre .1))
+slice-aggregate-read-book-2 c = sym (length-take-le _ _ (c .before .before .before .before .before .before .pre .1))
 
 slice-relend-prefix-read-book-2 : tie.Need-slice-relend-prefix-read-book-2
 slice-relend-prefix-read-book-2 c = search needs
 
 slice-aggregate-read-book-3 : tie.Need-slice-aggregate-read-book-3
-slice-aggregate-read-book-3 c = sym (length-take-le _ _ (c .before .before .before .before .before .before .pre .2))
+slice-aggregate-read-book-3 c = sym (length-take-le _ _ (c .before .before .before .before .before .before .before .pre .2))
+
+slice-relend-prefix-read-book-3 : tie.Need-slice-relend-prefix-read-book-3
+slice-relend-prefix-read-book-3 c = search needs
+
+slice-aggregate-read-book-4 : tie.Need-slice-aggregate-read-book-4
+slice-aggregate-read-book-4 c = sym (length-take-le _ _ (c .before .before .before .before .before .before .before .before .pre .3))
 
 read-book-requires : tie.Need-read-book-requires
 read-book-requires c κs = search needs
@@ -28,6 +34,9 @@ same-length c = search needs
 
 same-length-2 : tie.Need-same-length-2
 same-length-2 c = search needs
+
+same-length-3 : tie.Need-same-length-3
+same-length-3 c = search needs
 
 returns : tie.Need-returns
 returns c = search needs
@@ -41,7 +50,10 @@ read-rings-spec =
     slice-aggregate-read-book-2
     slice-relend-prefix-read-book-2
     slice-aggregate-read-book-3
+    slice-relend-prefix-read-book-3
+    slice-aggregate-read-book-4
     read-book-requires
     same-length
     same-length-2
+    same-length-3
     returns)

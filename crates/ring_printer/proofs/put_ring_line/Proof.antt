@@ -30,19 +30,31 @@ slice-aggregate-put-text-3 c = search needs
 put-text-requires-3 : tie.Need-put-text-requires-3
 put-text-requires-3 c κs = search needs
 
+put-decimal-requires-3 : tie.Need-put-decimal-requires-3
+put-decimal-requires-3 c κs = search needs
+
+slice-aggregate-put-text-4 : tie.Need-slice-aggregate-put-text-4
+slice-aggregate-put-text-4 c = search needs
+
+put-text-requires-4 : tie.Need-put-text-requires-4
+put-text-requires-4 c κs = search needs
+
 same-length : tie.Need-same-length
 same-length c = search needs
 
 returns : tie.Need-returns
 unfolding ringLine
 returns c =
-    let t3 = c .before .before in
+    let t4 = c .before .before in
+    let d3 = t4 .before .before .before .before .before in
+    let t3 = d3 .before .before .before .before in
     let d2 = t3 .before .before .before .before .before in
     let t2 = d2 .before .before .before .before in
     let d1 = t2 .before .before .before .before .before in
     let t1 = d1 .before .before .before .before in (
-      then (t1 .put-text .ensures) (then (d1 .put-decimal .ensures .0) (then (t2 .put-text2 .ensures) (then (d2 .put-decimal2 .ensures .0) (t3 .put-text3 .ensures)))),
-      (omega (arith, t1 .put-text .ensures .ends, d1 .put-decimal .ensures .1, t2 .put-text2 .ensures .ends, d2 .put-decimal2 .ensures .1, t3 .put-text3 .ensures .ends)),
+      then (t1 .put-text .ensures)
+          (then (d1 .put-decimal .ensures .0) (then (t2 .put-text2 .ensures) (then (d2 .put-decimal2 .ensures .0) (then (t3 .put-text3 .ensures) (then (d3 .put-decimal3 .ensures .0) (t4 .put-text4 .ensures)))))),
+      (omega (arith, t1 .put-text .ensures .ends, d1 .put-decimal .ensures .1, t2 .put-text2 .ensures .ends, d2 .put-decimal2 .ensures .1, t3 .put-text3 .ensures .ends, d3 .put-decimal3 .ensures .1, t4 .put-text4 .ensures .ends)),
     )
 
 pub put-ring-line-spec : {M : Type 1} → statement M
@@ -57,5 +69,8 @@ put-ring-line-spec =
     put-decimal-requires-2
     slice-aggregate-put-text-3
     put-text-requires-3
+    put-decimal-requires-3
+    slice-aggregate-put-text-4
+    put-text-requires-4
     same-length
     returns)

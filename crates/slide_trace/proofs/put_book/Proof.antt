@@ -17,16 +17,16 @@ use Rattle.slide_trace.proofs.put_book.Tie as tie
 -- the book, and what the reader left
 module _ (c : tie.After-read-book) where
   abbrev s : tie.Start
-  s = c .before .before .before .before .before
+  s = c .before .before .before .before .before .before
 
   abbrev f : List ℕ
   f = s .args .book .now
 
   bytes : (i : ℕ) → getD f i 0 < 256
-  bytes i = omega (arith, c .before .before .before .before .shared-slice-known .given i)
+  bytes i = omega (arith, c .before .before .before .before .before .shared-slice-known .given i)
 
   pair : (k : ℕ) → c .read-book .result ≡ Is k → Pair f (c .read-book .last .1 .0) (c .read-book .last .1 .1 .0)
-  pair k e = pair-read f bytes _ _ (c .read-book .result) (c .read-book .ensures) k e
+  pair k e = pair-read f bytes _ _ _ (c .read-book .result) (c .read-book .ensures) k e
 
   abbrev say : List Float → List Float → List ℕ
   say st orb = traceText st orb (s .args .settings)
@@ -36,6 +36,9 @@ slice-aggregate-read-book c = search needs
 
 slice-aggregate-read-book-2 : tie.Need-slice-aggregate-read-book-2
 slice-aggregate-read-book-2 c = search needs
+
+slice-aggregate-read-book-3 : tie.Need-slice-aggregate-read-book-3
+slice-aggregate-read-book-3 c = search needs
 
 read-book-requires : tie.Need-read-book-requires
 read-book-requires c κs = search needs
@@ -51,7 +54,7 @@ array-read-put-rings c = search needs
 
 cast-put-rings : tie.Need-cast-put-rings
 cast-put-rings c =
-    let r = c .before .before .before .before .before in
+    let r = c .before .before .before .before .before .before in
     omega (arith, pair r (c .before .enum-told .given .0 .0) (c .before .enum-told .given .1) .first-most)
 
 array-read-put-rings-2 : tie.Need-array-read-put-rings-2
@@ -59,12 +62,12 @@ array-read-put-rings-2 c = search needs
 
 cast-put-rings-2 : tie.Need-cast-put-rings-2
 cast-put-rings-2 c =
-    let r = c .before .before .before .before .before in
+    let r = c .before .before .before .before .before .before in
     omega (arith, pair r (c .before .enum-told .given .0 .0) (c .before .enum-told .given .1) .second-most)
 
 put-rings-requires : tie.Need-put-rings-requires
 put-rings-requires c κs =
-    let r = c .before .before .before .before .before .before in
+    let r = c .before .before .before .before .before .before .before in
     let p = pair r (c .before .before .enum-told .given .0 .0) (c .before .before .enum-told .given .1) in
     ((p .first-most, p .second-most, p .both-inside), (omega arith))
 
@@ -81,7 +84,7 @@ returns : tie.Need-returns
 unfolding tracedBookText
 returns c =
     let t = c .before .before .before .before .before in
-    let r = t .before .before .before .before in
+    let r = t .before .before .before .before .before in
     let p = pair r (t .enum-told .given .0 .0) (t .enum-told .given .1) in
     reads (pair-said (say r) refusalLine (f r) p) (c .before .before .put-rings .ensures)
 
@@ -92,8 +95,8 @@ returns-2 : tie.Need-returns-2
 unfolding tracedBookText
 returns-2 c =
     let t = c .before .before .before .before .before in
-    let r = t .before .before .before .before in
-    let q = fault-read (f r) (bytes r) _ _ _ (r .read-book .ensures) (t .no .given .0 .0) (t .no .given .1) in
+    let r = t .before .before .before .before .before in
+    let q = fault-read (f r) (bytes r) _ _ _ _ (r .read-book .ensures) (t .no .given .0 .0) (t .no .given .1) in
     reads (fault-said (say r) refusalLine (f r) q) (c .before .before .put-refusal .ensures)
 
 pub put-book-spec : {M : Type 1} → statement M
@@ -102,6 +105,7 @@ put-book-spec =
     (tie.spec
     slice-aggregate-read-book
     slice-aggregate-read-book-2
+    slice-aggregate-read-book-3
     read-book-requires
     enum-told
     slice-aggregate-put-rings

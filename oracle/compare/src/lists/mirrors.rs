@@ -106,10 +106,16 @@ fn mirrored(numbers: &[u64], counts: &[u32]) -> Option<Vec<u64>> {
     Some(rings.collect::<Option<Vec<_>>>()?.concat())
 }
 
-/// The book of these rings, in a room of just that length.
-fn book_of(numbers: &[u64], counts: &[u32], length: usize) -> (Told, Option<Vec<u8>>) {
+/// The book of these rings with these parts, in a room of just that length.
+fn book_of(
+    numbers: &[u64],
+    counts: &[u32],
+    parts: &[u32],
+    length: usize,
+) -> (Told, Option<Vec<u8>>) {
     let mut room = Room::new(&vec![0; length], BYTE);
-    let told = book::write(&words(numbers), &book::vertices(counts), &mut room);
+    let (counts, parts) = (book::fields(counts), book::fields(parts));
+    let told = book::write(&words(numbers), &counts, &parts, &mut room);
     (told, room.contents().map(<[u8]>::to_vec))
 }
 
@@ -122,13 +128,14 @@ pub fn book_mirrored(record: &[u64]) -> Option<Compared> {
     let mut rest = Words(&record[BOOK_HEADER..]);
     let numbers = rest.take(record[1]);
     let counts = book::taken(&mut rest, record[2]);
+    let parts = book::taken(&mut rest, record[8]);
     let length = record[6] as usize;
-    let file = Room::new(&book_of(numbers, &counts, length).1?, BYTE);
-    let (mut stored, mut lent) =
-        (words(&vec![0; numbers.len()]), book::vertices(&vec![0; counts.len()]));
-    book::read(&file, &mut stored, &mut lent);
-    let (stored, lent) = (stored.contents()?, lent.contents()?);
-    let one = book_of(&mirrored(numbers, &counts)?, &counts, length);
-    let other = book_of(&mirrored(stored, lent)?, lent, length);
+    let file = Room::new(&book_of(numbers, &counts, &parts, length).1?, BYTE);
+    let mut stored = words(&vec![0; numbers.len()]);
+    let [mut lent, mut labels] = [(); 2].map(|()| book::fields(&vec![0; counts.len()]));
+    book::read(&file, &mut stored, &mut lent, &mut labels);
+    let (stored, lent, labels) = (stored.contents()?, lent.contents()?, labels.contents()?);
+    let one = book_of(&mirrored(numbers, &counts)?, &counts, &parts, length);
+    let other = book_of(&mirrored(stored, lent)?, lent, labels, length);
     Some(Compared::of("a mirrored book", 0, one, other))
 }

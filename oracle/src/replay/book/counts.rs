@@ -49,7 +49,7 @@ fn case(place: usize, counts: &[u32], more: Option<i64>) -> Case {
         list = with(&list, n - 1, f64::NAN);
     }
     let no_room = n > FEW_NUMBERS || matches!(place % 5, 2 | 3);
-    lend(list, counts.to_vec(), if no_room { 7 } else { 8 * n + 8 * counts.len() + 8 })
+    lend(list, counts.to_vec(), if no_room { 7 } else { 8 * n + 12 * counts.len() + 8 })
 }
 
 /// All of them.

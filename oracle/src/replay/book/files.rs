@@ -2,7 +2,7 @@
 
 use super::lent::{grid_sample, longest, special_rings, triangles};
 use super::Case;
-use crate::book::{book_of, file_of, kept, patched, readings, LEAST_BYTES};
+use crate::book::{book_of, file_of, kept, old_file, patched, readings, LEAST_BYTES};
 use crate::calls::points_of;
 use crate::replay::{EDGES, NANS};
 
@@ -11,7 +11,7 @@ fn small() -> Vec<u8> {
     book_of(&[vec![4.0, 0.0, 0.0, 3.0, 0.0, 0.0]])
 }
 
-/// A book of two rings, the second with a repeated corner; 136 bytes, of which
+/// A book of two rings, the second with a repeated corner; 144 bytes, of which
 /// the entries begin at 112.
 fn double() -> Vec<u8> {
     book_of(&[vec![4.0, 0.0, 0.0, 3.0, 0.0, 0.0], vec![0.0, 0.0, 1.0, 0.5, 0.0, 0.0, 0.0, 1.0]])
@@ -56,13 +56,14 @@ fn cuts() -> Vec<Case> {
 
 /// Fields and coordinates of the double book to put out of order.
 fn patches() -> Vec<(usize, Vec<u8>)> {
-    let fields: [(usize, &[u32]); 6] = [
-        (128, &[0, 1, 3, 9, 0x0100_0002]),
-        (132, &[0, 104, 120, 112 | 1 << 31]),
+    let fields: [(usize, &[u32]); 7] = [
+        (136, &[0, 1, 3, 9, 0x0100_0002]),
+        (140, &[0, 104, 120, 112 | 1 << 31]),
         (112, &[16, u32::MAX]),
         (116, &[2, 4, 257, 0x0001_0003]),
-        (120, &[0, 32, 64]),
-        (124, &[2, 3, 5, 257, 0x0100_0004]),
+        (120, &[u32::MAX]),
+        (124, &[0, 32, 64]),
+        (128, &[2, 3, 5, 257, 0x0100_0004]),
     ];
     let numbers: [(usize, &[f64]); 4] = [
         (0, &[f64::NAN, 1.0, -0.0]),
@@ -97,12 +98,26 @@ fn faults() -> Vec<Case> {
     all
 }
 
+/// Books of every number of rings as they were before rings had parts: of
+/// triangles, of longer rings, and the longest.
+fn old_books() -> Vec<Case> {
+    let mut all = Vec::new();
+    for rings in 1..=8 {
+        let squares = vec![vec![0.0, 0.0, 0.0, 1.0, 1.0, 1.0, 1.0, 0.0]; rings];
+        for book in [book_of(&triangles(rings)), book_of(&squares)] {
+            all.push(Case::reading(&old_file(&book), 2, 1));
+        }
+    }
+    all.push(Case::reading(&old_file(&book_of(&longest())), 0, 0));
+    all
+}
+
 /// Entries that would begin before the first byte, or just at it.
 fn too_many_entries() -> Vec<Case> {
     let mut all = Vec::new();
-    for length in 64..76_usize {
-        for rings in [1, 6, 7, 8_u32] {
-            let offset = (length as u32).wrapping_sub(8 + 8 * rings);
+    for length in 68..81_usize {
+        for rings in [1, 5, 6, 7, 8_u32] {
+            let offset = (length as u32).wrapping_sub(8 + 12 * rings);
             let end = [rings.to_le_bytes(), offset.to_le_bytes()].concat();
             all.push(Case::reading(&patched(&vec![0; length], length - 8, &end), 1, 1));
         }
@@ -161,6 +176,12 @@ fn rooms() -> Vec<Case> {
         ];
         let some = if rings < 3 || rings == 8 { 8 } else { 3 };
         all.extend(lengths[..some].iter().map(|room| Case::reading(&book, room.0, room.1)));
+        // Room for the counts, and less or more for the parts.
+        for parts in [0, rings - 1, rings + 1] {
+            let file = book.clone();
+            all.push(Case::Read { file, coordinates: numbers, counts: rings, parts });
+        }
+        all.push(Case::Read { file: book, coordinates: numbers, counts: 0, parts: rings });
     }
     // Nine rings laid out like a book's.
     all.push(Case::reading(&file_of(&triangles(9)), 54, 9));
@@ -188,6 +209,7 @@ pub fn cases() -> Vec<Case> {
     all.extend(cuts());
     all.extend(faults());
     all.extend(too_many_entries());
+    all.extend(old_books());
     all.extend(numbers());
     all.extend(as_they_are());
     all.extend(rooms());

@@ -1,7 +1,7 @@
 //! Cases for writing a book: rings, counts and rooms.
 
 use super::{counts, length, Case};
-use crate::book::{readings, MOST_RINGS};
+use crate::book::{parts_of, readings, MOST_RINGS};
 use crate::calls::points_of;
 use crate::replay::{with, EDGES, NANS};
 use crate::seeded::Seeded;
@@ -110,7 +110,8 @@ pub fn longest() -> Vec<Vec<f64>> {
 
 /// A case that writes these coordinates with these counts to this room.
 pub fn lend(coordinates: Vec<f64>, counts: Vec<u32>, room: usize) -> Case {
-    Case::Write { coordinates, counts, room }
+    let parts = parts_of(counts.len());
+    Case::Write { coordinates, counts, parts, room }
 }
 
 /// So many triangles, each moved by its place.
@@ -156,7 +157,7 @@ fn wrong_lengths() -> Vec<Case> {
     let list = [&three[..], &[9.0, 9.5, 10.0]].concat();
     let mut all = Vec::new();
     for (n, counts) in wrong {
-        all.push(lend(list[..n].to_vec(), counts.clone(), 64));
+        all.push(lend(list[..n].to_vec(), counts.clone(), 68));
         // The same with a wrong number besides, and without room.
         let faulty = list[..n].iter().map(|_| f64::NAN).collect();
         all.push(lend(faulty, counts, 0));
@@ -167,7 +168,35 @@ fn wrong_lengths() -> Vec<Case> {
         all.push(lend(list.concat(), vec![3; rings - 1], length(&list)));
         all.push(lend(list.concat(), vec![3; rings + 1], 8));
     }
-    all.push(lend(triangles(16).concat(), vec![3; 16], 904));
+    all.push(lend(triangles(16).concat(), vec![3; 16], 968));
+    all
+}
+
+/// Parts that are not as many as the rings, alone and with a list that is not the
+/// sum, a wrong number or no room besides; and parts of all kinds that are.
+fn parts() -> Vec<Case> {
+    let mut all = Vec::new();
+    for rings in [1, 2, 8, 9] {
+        let list = triangles(rings);
+        for n in [0, rings - 1, rings + 1, 16] {
+            let with_parts = |coordinates: Vec<f64>, room| Case::Write {
+                coordinates,
+                counts: counts(&list),
+                parts: parts_of(n),
+                room,
+            };
+            all.push(with_parts(list.concat(), length(&list)));
+            all.push(with_parts(list.concat()[1..].to_vec(), length(&list)));
+            all.push(with_parts(with(&list.concat(), 5, f64::NAN), 8));
+        }
+    }
+    for part in [0, 1, 3, 255, 256, 1 << 31, u32::MAX - 1, u32::MAX] {
+        for parts in [vec![part, 7], vec![7, part], vec![part, part]] {
+            let list = triangles(2);
+            let (coordinates, counts, room) = (list.concat(), counts(&list), length(&list));
+            all.push(Case::Write { coordinates, counts, parts, room });
+        }
+    }
     all
 }
 
@@ -176,12 +205,12 @@ fn numbers() -> Vec<Case> {
     let mut all = Vec::new();
     let ring = [4.0, 0.0, 0.0, 3.0, 0.0, 1.0];
     for number in EDGES {
-        all.extend((0..6).map(|place| lend(with(&ring, place, number), vec![3], 64)));
-        all.push(lend(with(&triangles(2).concat(), 11, number), vec![3, 3], 120));
-        all.push(lend(with(&ring, 2, number), vec![3], 63));
+        all.extend((0..6).map(|place| lend(with(&ring, place, number), vec![3], 68)));
+        all.push(lend(with(&triangles(2).concat(), 11, number), vec![3, 3], 128));
+        all.push(lend(with(&ring, 2, number), vec![3], 67));
     }
     for nan in NANS {
-        all.push(lend(with(&ring, 3, f64::from_bits(nan)), vec![3], 64));
+        all.push(lend(with(&ring, 3, f64::from_bits(nan)), vec![3], 68));
     }
     all
 }
@@ -204,6 +233,7 @@ fn rooms() -> Vec<Case> {
 pub fn cases() -> Vec<Case> {
     let mut all = plain();
     all.extend(wrong_lengths());
+    all.extend(parts());
     all.extend(numbers());
     all.extend(rooms());
     all.extend(long_rings());

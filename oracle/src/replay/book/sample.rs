@@ -2,7 +2,7 @@
 
 use super::{counts, length, Case};
 use crate::answers::Point;
-use crate::book::{book_of, file_of, kept, readings, MOST_BYTES, MOST_RINGS};
+use crate::book::{book_of, end_of, file_of, kept, old_file, readings, MOST_BYTES, MOST_RINGS};
 use crate::calls::points_of;
 use crate::replay::polygons::near;
 use crate::replay::{edge, patch, with};
@@ -77,10 +77,23 @@ fn turned(seeded: &mut Seeded, ring: &[f64]) -> Vec<f64> {
     all[seeded.below(all.len())].iter().flat_map(|p| [p.0, p.1]).collect()
 }
 
+/// A part: one of few numbers, or any.
+fn part(seeded: &mut Seeded) -> u32 {
+    if seeded.below(2) == 0 {
+        return seeded.pick(&FIELDS);
+    }
+    seeded.bits() as u32
+}
+
 /// Something wrong, or only odd, about what is lent for writing.
-fn disturb(seeded: &mut Seeded, coordinates: &mut Vec<f64>, counts: &mut Vec<u32>) {
+fn disturb(
+    seeded: &mut Seeded,
+    coordinates: &mut Vec<f64>,
+    counts: &mut Vec<u32>,
+    parts: &mut Vec<u32>,
+) {
     let place = seeded.below(counts.len().max(1));
-    match seeded.below(11) {
+    match seeded.below(13) {
         0 => {
             let cut = seeded.below(coordinates.len() + 1);
             coordinates.truncate(cut);
@@ -93,6 +106,8 @@ fn disturb(seeded: &mut Seeded, coordinates: &mut Vec<f64>, counts: &mut Vec<u32
         4 if !counts.is_empty() => counts[place] = counts[place].wrapping_sub(1),
         5 => counts.push(seeded.pick(&FIELDS)),
         6 => counts.truncate(place),
+        7 => parts.push(part(seeded)),
+        8 => parts.truncate(place),
         _ if !coordinates.is_empty() => {
             let at = seeded.below(coordinates.len());
             *coordinates = with(coordinates, at, edge(seeded));
@@ -105,11 +120,12 @@ fn disturb(seeded: &mut Seeded, coordinates: &mut Vec<f64>, counts: &mut Vec<u32
 fn writing(seeded: &mut Seeded) -> Case {
     let rings = rings(seeded);
     let (mut coordinates, mut counts) = (rings.concat(), counts(&rings));
+    let mut parts: Vec<u32> = rings.iter().map(|_| part(seeded)).collect();
     let room = near(seeded, length(&rings));
     for _ in 0..[0, 0, 1, 2][seeded.below(4)] {
-        disturb(seeded, &mut coordinates, &mut counts);
+        disturb(seeded, &mut coordinates, &mut counts, &mut parts);
     }
-    Case::Write { coordinates, counts, room: room.min(MOST_FILE) }
+    Case::Write { coordinates, counts, parts, room: room.min(MOST_FILE) }
 }
 
 /// The points of all rings cut otherwise: one ring a vertex shorter, the next
@@ -129,13 +145,18 @@ fn exchange(file: &mut [u8], a: usize, b: usize) {
     (0..fitting).for_each(|i| file.swap(a + i, b + i));
 }
 
+/// Whether the file's end is that of a book, so that it has an old form.
+fn old_too(file: &[u8]) -> bool {
+    end_of(file).is_ok()
+}
+
 /// Damages the file in one of several ways.
 fn damage(seeded: &mut Seeded, file: &mut Vec<u8>) {
     let length = file.len().max(1);
     let place = seeded.below(length);
-    // A field among the last eighteen.
-    let tail = length.saturating_sub(4 * (1 + seeded.below(18)));
-    match seeded.below(9) {
+    // A field among the last twenty-six.
+    let tail = length.saturating_sub(4 * (1 + seeded.below(26)));
+    match seeded.below(10) {
         0 if !file.is_empty() => file[place] ^= 1 << seeded.below(8),
         1 => patch(file, place, &[seeded.bits() as u8]),
         2 => file.truncate(place),
@@ -147,6 +168,7 @@ fn damage(seeded: &mut Seeded, file: &mut Vec<u8>) {
             let other = seeded.below(length);
             exchange(file, place / 16 * 16, other / 16 * 16);
         }
+        8 if old_too(file) => *file = old_file(file),
         _ if seeded.below(50) == 0 => file.resize(MOST_BYTES - 4 + seeded.below(8), 0),
         _ => patch(file, length.saturating_sub(8), &[seeded.below(11) as u8]),
     }
@@ -177,7 +199,8 @@ fn reading(seeded: &mut Seeded) -> Case {
     }
     let coordinates = near(seeded, rings.concat().len());
     let counts = near(seeded, rings.len()).min(MOST_COUNTS);
-    Case::Read { file, coordinates, counts }
+    let parts = near(seeded, rings.len()).min(MOST_COUNTS);
+    Case::Read { file, coordinates, counts, parts }
 }
 
 /// A seeded case.

@@ -15,7 +15,7 @@ use Rattle.book_layout.specs.Layout.{fieldBytes, vertexBytes, entryBytes, count
 use Rattle.book_layout.specs.Faults.{entriesCheck}
 use Rattle.refusals.specs.Refusals.{none}
 use Rattle.refusals.proofs.Counts.{is-within}
-use Rattle.book_reader.proofs.Entries.{offset-bad, count-bad, entry-good, total-left, entries-start, entries-end, counts-start, total-end, list-wrong, list-long, list-fine}
+use Rattle.book_reader.proofs.Entries.{offset-bad, count-bad, entry-good, total-left, entries-start, entries-end, fields-start, total-end, list-wrong, list-long, list-fine}
 use Rattle.book_reader.proofs.check.check_entries.Statement.{statement}
 use Rattle.book_reader.proofs.check.check_entries.Tie as tie
 
@@ -32,7 +32,7 @@ abbrev μ-loop : tie.MeasureT-loop
 loop-holds : tie.Need-loop-holds Inv-loop μ-loop
 loop-holds c =
     let a = c .before .args in
-    let t : total (countsIn (a .k) (drop (a .from) (a .f .now))) ≡ total (countsIn (a .k - 0) (drop (a .from + entryBytes * 0) (a .f .now))) = ap total (counts-start (a .f .now) (a .from) (a .k)) in
+    let t : total (countsIn (a .k) (drop (a .from) (a .f .now))) ≡ total (countsIn (a .k - 0) (drop (a .from + entryBytes * 0) (a .f .now))) = ap total (fields-start (a .f .now) fieldBytes (a .from) (a .k)) in
     ((omega arith), (omega arith), entries-start (a .f .now) (a .from) (a .k), (omega arith))
 
 mul-at : tie.Need-mul-at Inv-loop μ-loop

@@ -13,7 +13,7 @@ use Rattle.number_bytes.specs.Bytes.{numberOf}
 use Rattle.refusals.specs.Rings.{verticesLeast, verticesMost, total}
 use Rattle.book_layout.specs.Layout.{fieldBytes, coordinateBytes, vertexBytes, entryBytes, coordsIn, countsIn}
 use Rattle.book_layout.specs.Faults.{_passes, entriesCheck, coordsCheck, leastCheck}
-use Rattle.book_reader.proofs.Entries.{entry-held, total-left, entries-start, counts-start, counts-end, list-passed}
+use Rattle.book_reader.proofs.Entries.{entry-held, total-left, entries-start, fields-start, fields-end, list-passed}
 use Rattle.book_reader.proofs.Rings.{coords-next, least-good, least-bad, least-end}
 use Rattle.book_reader.proofs.check.check_rings.Statement.{statement}
 use Rattle.book_reader.proofs.check.check_rings.Tie as tie
@@ -36,7 +36,7 @@ loop-holds c =
     let from = s .args .from in
     let k = s .args .k in
     let p = list-passed f from k (s .pre .1 .0) in
-    let z = counts-start f from k in
+    let z = fields-start f fieldBytes from k in
     let t : total (countsIn k (drop from f)) ≡ total (countsIn (k - 0) (drop (from + entryBytes * 0) f)) = ap total z in
     let m : 2 * total (countsIn (k - 0) (drop (from + entryBytes * 0) f)) ≡ from / coordinateBytes = omega (arith, p .1) in (
       (omega arith),
@@ -157,7 +157,7 @@ returns-2 c =
     let f = s .f .now in
     let i = l .loop .i in
     c .none .ensures
-    ∙ sym (l .loop .inv .1 ∙ least-end f (countsIn (s .k - i) (drop (s .from + entryBytes * i) f)) (l .loop .at) (counts-end f (s .from) (s .k) i (c .before .loop-test .left)))
+    ∙ sym (l .loop .inv .1 ∙ least-end f (countsIn (s .k - i) (drop (s .from + entryBytes * i) f)) (l .loop .at) (fields-end f fieldBytes (s .from) (s .k) i (c .before .loop-test .left)))
 
 pub check-rings-spec : {M : Type 1} → statement M
 check-rings-spec =

@@ -22,7 +22,7 @@ returns c =
     let b = p .before in
     let a = b .before .before .args in
     b .check-book .ensures
-    ∙ at-fault (a .f .now) (a .room) (a .counts) (ap passed (sym (b .check-book .ensures)) ∙ sym (p .passed .ensures) ∙ not-true (p .passed .result) (c .if1 .taken))
+    ∙ at-fault (a .f .now) (a .room) (a .counts) (a .parts) (ap passed (sym (b .check-book .ensures)) ∙ sym (p .passed .ensures) ∙ not-true (p .passed .result) (c .if1 .taken))
 
 -- the file has no fault
 fine : (c : tie.Else1) → bookCheck (c .before .before .before .before .args .f .now) passes
@@ -45,7 +45,7 @@ returns-2 c =
     let o = k .before in
     let e = o .before in
     let a = e .before .before .before .before .args in
-    rooms-read (a .f .now) (a .room) (a .counts) (fine e) (o .entry-offset .ensures .0) (k .ring-count .ensures .0) (c .book-rooms .ensures)
+    rooms-read (a .f .now) (a .room) (a .counts) (a .parts) (fine e) (o .entry-offset .ensures .0) (k .ring-count .ensures .0) (c .book-rooms .ensures)
 
 pub refusal-spec : {M : Type 1} → statement M
 refusal-spec =

@@ -19,8 +19,8 @@ put-book-requires c κs =
     let t = c .before in
     let p = t .before in
     let n = p .before in
-    let a = n .before .before .before .before .args in
-    takes (a .coordinates .now) (a .counts .now) (length (a .room .now)) (ap passed (sym (n .refusal .ensures)) ∙ sym (p .passed .ensures) ∙ t .if1 .taken)
+    let a = n .before .before .before .before .before .args in
+    takes (a .coordinates .now) (a .counts .now) (a .parts .now) (length (a .room .now)) (ap passed (sym (n .refusal .ensures)) ∙ sym (p .passed .ensures) ∙ t .if1 .taken)
 
 same-length : tie.Need-same-length
 same-length c = search needs

@@ -25,8 +25,8 @@ returns c =
 size-of-requires : tie.Need-size-of-requires
 size-of-requires c κs =
     let p = c .before in
-    let a = p .before .before .before .before .args in
-    let t = rings-taken (a .xs .now) (a .counts .now) (rw (← p .before .lent .ensures, ← p .passed .ensures) (not-false (p .passed .result) (c .if1 .left))) in
+    let a = p .before .before .before .before .before .args in
+    let t = rings-taken (a .xs .now) (a .counts .now) (a .parts .now) (rw (← p .before .lent .ensures, ← p .passed .ensures) (not-false (p .passed .result) (c .if1 .left))) in
     (t .1, t .2)
 
 short-requires : tie.Need-short-requires
@@ -38,7 +38,7 @@ returns-2 c =
     let e = c .before .before in
     let p = e .before in
     c .short .ensures
-    ∙ ap (λ (n : ℕ). shortRoom n (p .before .before .before .before .args .size)) (c .before .size-of .ensures)
+    ∙ ap (λ (n : ℕ). shortRoom n (p .before .before .before .before .before .args .size)) (c .before .size-of .ensures)
     ∙ sym (on _ _ (p .before .lent .ensures) (p .passed .ensures) (not-false (p .passed .result) (e .if1 .left)))
 
 pub refusal-spec : {M : Type 1} → statement M

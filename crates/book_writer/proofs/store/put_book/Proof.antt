@@ -17,18 +17,21 @@ use Rattle.book_writer.proofs.store.put_book.Statement.{statement}
 use Rattle.book_writer.proofs.store.put_book.Tie as tie
 
 sum-of-requires : tie.Need-sum-of-requires
-sum-of-requires c κs = let s = c .before .before .before in s .pre .0 .few
+sum-of-requires c κs = let s = c .before .before .before .before in s .pre .0 .few
 
 -- what is lent, the sum, and that it is small
 module _ (c : tie.After-sum-of) where
   abbrev s : tie.Start
-  s = c .before .before .before .before
+  s = c .before .before .before .before .before
 
   abbrev xs : List Float
   xs = s .args .xs .now
 
   abbrev ns : List ℕ
   ns = s .args .counts .now
+
+  abbrev ps : List ℕ
+  ps = s .args .parts .now
 
   abbrev room : List ℕ
   room = s .args .room .now
@@ -49,7 +52,9 @@ add-tail : tie.Need-add-tail
 add-tail c = omega (arith, sum c, small c)
 
 put-rings-requires : tie.Need-put-rings-requires
-put-rings-requires c κs = let s = c .before .before .before .before .before in (s .pre .0, (omega (arith, s .pre .0 .whole)))
+put-rings-requires c κs =
+    let h = c .before .before .before .before .before .before .pre .0 in
+    ((h .sized, h .whole, h .bounded), (omega (arith, h .whole)))
 
 -- the room after each run
 first-run : (c : tie.After-put-rings) → c .put-rings .last .1 .1 .0 ≡ sets (room (c .before .before)) 0 (stored (ns (c .before .before)) (xs (c .before .before)))
@@ -62,19 +67,19 @@ put-entries-requires : tie.Need-put-entries-requires
 put-entries-requires c κs =
     let a = c .before .before .before in
     let k = a .before .before in
-    ((s k .pre .0 .few, (omega (arith, first-length a, sum k, s k .pre .1))), (omega (arith, small k, s k .pre .0 .few)))
+    ((s k .pre .0 .few, (omega (arith, first-length a, sum k, s k .pre .1))), ((omega (arith, small k, s k .pre .0 .few)), s k .pre .0 .many))
 
-second-run : (c : tie.After-put-entries) → c .put-entries .last .1 .0 ≡ sets (c .before .before .before .before .put-rings .last .1 .1 .0) (vertexBytes * total (ns (c .before .before .before .before .before .before))) (entries 0 (ns (c .before .before .before .before .before .before)))
+second-run : (c : tie.After-put-entries) → c .put-entries .last .1 .1 .0 ≡ sets (c .before .before .before .before .put-rings .last .1 .1 .0) (vertexBytes * total (ns (c .before .before .before .before .before .before))) (entries 0 (ns (c .before .before .before .before .before .before)) (ps (c .before .before .before .before .before .before)))
 second-run c =
     let a = c .before .before .before .before in
     let k = a .before .before in
-    c .put-entries .ensures ∙ ap (λ (j : ℕ). sets (a .put-rings .last .1 .1 .0) (vertexBytes * j) (entries 0 (ns k))) (sum k)
+    c .put-entries .ensures ∙ ap (λ (j : ℕ). sets (a .put-rings .last .1 .1 .0) (vertexBytes * j) (entries 0 (ns k) (ps k))) (sum k)
 
-second-length : (c : tie.After-put-entries) → length (c .put-entries .last .1 .0) ≡ length (room (c .before .before .before .before .before .before))
+second-length : (c : tie.After-put-entries) → length (c .put-entries .last .1 .1 .0) ≡ length (room (c .before .before .before .before .before .before))
 second-length c =
     let a = c .before .before .before .before in
     let k = a .before .before in
-    ap length (second-run c) ∙ length-sets (a .put-rings .last .1 .1 .0) (vertexBytes * total (ns k)) (entries 0 (ns k)) ∙ first-length a
+    ap length (second-run c) ∙ length-sets (a .put-rings .last .1 .1 .0) (vertexBytes * total (ns k)) (entries 0 (ns k) (ps k)) ∙ first-length a
 
 put-requires : tie.Need-put-requires
 put-requires c κs =
@@ -82,12 +87,12 @@ put-requires c κs =
     let k = b .before .before .before .before .before .before in
     omega (arith, second-length b, sum k, s k .pre .1)
 
-third-run : (c : tie.After-put) → c .put .last .0 ≡ sets (c .before .before .before .before .put-entries .last .1 .0) (vertexBytes * total (ns (c .before .before .before .before .before .before .before .before .before .before)) + entryBytes * length (ns (c .before .before .before .before .before .before .before .before .before .before))) (bytesOf fieldBytes (length (ns (c .before .before .before .before .before .before .before .before .before .before))))
+third-run : (c : tie.After-put) → c .put .last .0 ≡ sets (c .before .before .before .before .put-entries .last .1 .1 .0) (vertexBytes * total (ns (c .before .before .before .before .before .before .before .before .before .before)) + entryBytes * length (ns (c .before .before .before .before .before .before .before .before .before .before))) (bytesOf fieldBytes (length (ns (c .before .before .before .before .before .before .before .before .before .before))))
 third-run c =
     let b = c .before .before .before .before in
     let k = b .before .before .before .before .before .before in
     let n = length (ns k) in
-    c .put .ensures ∙ ap (λ (j : ℕ). sets (b .put-entries .last .1 .0) (vertexBytes * j + entryBytes * n) (bytesOf fieldBytes n)) (sum k)
+    c .put .ensures ∙ ap (λ (j : ℕ). sets (b .put-entries .last .1 .1 .0) (vertexBytes * j + entryBytes * n) (bytesOf fieldBytes n)) (sum k)
 
 add-put : tie.Need-add-put
 add-put c =
@@ -100,7 +105,7 @@ put-requires-2 c κs =
     let b = d .before .before .before .before in
     let k = b .before .before .before .before .before .before in
     let n = length (ns k) in
-    omega (arith, ap length (third-run d) ∙ length-sets (b .put-entries .last .1 .0) (vertexBytes * total (ns k) + entryBytes * n) (bytesOf fieldBytes n) ∙ second-length b, sum k, s k .pre .1)
+    omega (arith, ap length (third-run d) ∙ length-sets (b .put-entries .last .1 .1 .0) (vertexBytes * total (ns k) + entryBytes * n) (bytesOf fieldBytes n) ∙ second-length b, sum k, s k .pre .1)
 
 add-result : tie.Need-add-result
 add-result c =
@@ -122,8 +127,8 @@ returns c =
       (omega (arith, sum k)),
       p .put2 .ensures
           ∙ ap (λ (j : ℕ). sets (d .put .last .0) (vertexBytes * j + entryBytes * n + fieldBytes) (bytesOf fieldBytes (vertexBytes * j))) (sum k)
-          ∙ ap (λ (r : List ℕ). sets r (f + entryBytes * n + fieldBytes) (bytesOf fieldBytes f)) (third-run d ∙ ap (λ (r : List ℕ). sets r (f + entryBytes * n) (bytesOf fieldBytes n)) (second-run b ∙ ap (λ (r : List ℕ). sets r f (entries 0 (ns k))) (first-run a)))
-          ∙ four-runs (xs k) (ns k) (room k) (s k .pre .0 .sized) (s k .pre .0 .whole) (s k .pre .1),
+          ∙ ap (λ (r : List ℕ). sets r (f + entryBytes * n + fieldBytes) (bytesOf fieldBytes f)) (third-run d ∙ ap (λ (r : List ℕ). sets r (f + entryBytes * n) (bytesOf fieldBytes n)) (second-run b ∙ ap (λ (r : List ℕ). sets r f (entries 0 (ns k) (ps k))) (first-run a)))
+          ∙ four-runs (xs k) (ns k) (ps k) (room k) (s k .pre .0 .sized) (s k .pre .0 .whole) (s k .pre .0 .many) (s k .pre .1),
     )
 
 pub put-book-spec : {M : Type 1} → statement M

@@ -16,19 +16,19 @@ use Rattle.book_writer.proofs.store.put_entries.Statement.{statement}
 use Rattle.book_writer.proofs.store.put_entries.Tie as tie
 
 abbrev Inv-loop : tie.InvT-loop
-Inv-loop counts room₀ from before₀ i₀ room before i =
+Inv-loop counts parts room₀ from before₀ i₀ room before i =
     (i ≤ length counts)
     × (length room ≡ length room₀)
     × (before + vertexBytes * total (drop i counts) ≡ vertexBytes * total counts)
-    × (sets room₀ from (entries 0 counts) ≡ sets room (from + entryBytes * i) (entries before (drop i counts)))
+    × (sets room₀ from (entries 0 counts parts) ≡ sets room (from + entryBytes * i) (entries before (drop i counts) (drop i parts)))
 
 abbrev μ-loop : tie.MeasureT-loop
-μ-loop counts room₀ from before₀ i₀ room before i = length counts - i
+μ-loop counts parts room₀ from before₀ i₀ room before i = length counts - i
 
 loop-holds : tie.Need-loop-holds Inv-loop μ-loop
 loop-holds c =
-    let a = c .before .before .args in
-    ((omega arith), refl, (omega arith), entries-start (a .room .now) (a .counts .now) (a .from))
+    let a = c .before .before .before .args in
+    ((omega arith), refl, (omega arith), entries-start (a .room .now) (a .counts .now) (a .parts .now) (a .from))
 
 mul-n : tie.Need-mul-n Inv-loop μ-loop
 mul-n c = omega arith
@@ -37,7 +37,7 @@ shared-slice-read-n : tie.Need-shared-slice-read-n Inv-loop μ-loop
 shared-slice-read-n c = omega arith
 
 cast-n : tie.Need-cast-n Inv-loop μ-loop
-cast-n c = omega (arith, c .shared-slice-known2 .given (c .before .before .loop .i))
+cast-n c = omega (arith, c .shared-slice-known3 .given (c .before .before .loop .i))
 
 mul-at : tie.Need-mul-at Inv-loop μ-loop
 mul-at c = omega arith
@@ -54,17 +54,35 @@ add-put c = omega arith
 put-requires-2 : tie.Need-put-requires-2 Inv-loop μ-loop
 put-requires-2 c κs = search needs
 
+mul-put : tie.Need-mul-put Inv-loop μ-loop
+mul-put c = omega arith
+
+add-put-2 : tie.Need-add-put-2 Inv-loop μ-loop
+add-put-2 c = omega arith
+
+mul-put-2 : tie.Need-mul-put-2 Inv-loop μ-loop
+mul-put-2 c = omega arith
+
+shared-slice-read-put : tie.Need-shared-slice-read-put Inv-loop μ-loop
+shared-slice-read-put c = omega arith
+
+cast-put : tie.Need-cast-put Inv-loop μ-loop
+cast-put c = omega (arith, c .shared-slice-known4 .given (c .before .before .before .before .before .before .before .before .before .before .before .before .loop .i))
+
+put-requires-3 : tie.Need-put-requires-3 Inv-loop μ-loop
+put-requires-3 c κs = search needs
+
 -- the count of this turn is a part of the total
-part : (c : tie.In-loop Inv-loop μ-loop)
-    → total (drop (c .before .loop .i) (c .before .before .before .before .args .counts .now))
-    ≡ getD (c .before .before .before .before .args .counts .now) (c .before .loop .i) 0 + total (drop (c .before .loop .i + 1) (c .before .before .before .before .args .counts .now))
-part c = total-on (c .before .before .before .before .args .counts .now) (c .before .loop .i) (c .loop-test .taken)
+share : (c : tie.In-loop Inv-loop μ-loop)
+    → total (drop (c .before .loop .i) (c .before .before .before .before .before .args .counts .now))
+    ≡ getD (c .before .before .before .before .before .args .counts .now) (c .before .loop .i) 0 + total (drop (c .before .loop .i + 1) (c .before .before .before .before .before .args .counts .now))
+share c = total-on (c .before .before .before .before .before .args .counts .now) (c .before .loop .i) (c .loop-test .taken)
 
 mul-before : tie.Need-mul-before Inv-loop μ-loop
-mul-before c = omega (arith, part (c .before .before .before .before .before .before .before .before .before))
+mul-before c = omega (arith, share (c .before .before .before .before .before .before .before .before .before .before .before .before .before .before))
 
 add-before : tie.Need-add-before Inv-loop μ-loop
-add-before c = omega (arith, part (c .before .before .before .before .before .before .before .before .before))
+add-before c = omega (arith, share (c .before .before .before .before .before .before .before .before .before .before .before .before .before .before))
 
 add-i : tie.Need-add-i Inv-loop μ-loop
 add-i c = omega arith
@@ -74,25 +92,34 @@ loop-less c = omega arith
 
 loop-again : tie.Need-loop-again Inv-loop μ-loop
 loop-again c =
-    let k = c .before .before .before .before .before .before .before .before .before in
+    let d = c .before .before .before .before .before .before .before in
+    let k = d .before .before .before .before .before .before .before in
     let l = k .before in
-    let s = l .before .before .before in
+    let s = l .before .before .before .before in
     let ns = s .args .counts .now in
+    let ps = s .args .parts .now in
     let i = l .loop .i in
     let n = getD ns i 0 in
+    let p = getD ps i 0 in
     let room = l .loop .room in
     let a = s .args .from + entryBytes * i in
     let b = l .loop .before in
-    let d = c .before .before .before .before .before .before .put .last .0 in
-    let e : d ≡ sets room a (bytesOf fieldBytes b) = c .before .before .before .before .before .before .put .ensures in
-    let f : c .before .before .put2 .last .0 ≡ sets (sets room a (bytesOf fieldBytes b)) (a + fieldBytes) (bytesOf fieldBytes n) =
-    c .before .before .put2 .ensures ∙ ap (λ (r : List ℕ). sets r (a + fieldBytes) (bytesOf fieldBytes n)) e in (
+    let r1 = sets room a (bytesOf fieldBytes b) in
+    let r2 = sets r1 (a + fieldBytes) (bytesOf fieldBytes n) in
+    let e : d .before .before .before .before .put .last .0 ≡ r1 = d .before .before .before .before .put .ensures in
+    let f : d .put2 .last .0 ≡ r2 = d .put2 .ensures ∙ ap (λ (r : List ℕ). sets r (a + fieldBytes) (bytesOf fieldBytes n)) e in
+    let g : c .before .before .put3 .last .0 ≡ sets r2 (a + 2 * fieldBytes) (bytesOf fieldBytes p) =
+    c .before .before .put3 .ensures ∙ ap (λ (r : List ℕ). sets r (a + 2 * fieldBytes) (bytesOf fieldBytes p)) f in (
       (omega arith),
-      ap length f ∙ length-sets (sets room a (bytesOf fieldBytes b)) (a + fieldBytes) (bytesOf fieldBytes n) ∙ length-sets room a (bytesOf fieldBytes b) ∙ l .loop .inv .1,
-      (omega (arith, part k)),
+      ap length g
+          ∙ length-sets r2 (a + 2 * fieldBytes) (bytesOf fieldBytes p)
+          ∙ length-sets r1 (a + fieldBytes) (bytesOf fieldBytes n)
+          ∙ length-sets room a (bytesOf fieldBytes b)
+          ∙ l .loop .inv .1,
+      (omega (arith, share k)),
       l .loop .inv .3
-          ∙ entries-on room ns (s .args .from) b i (k .loop-test .taken)
-          ∙ ap (λ (r : List ℕ). sets r (s .args .from + entryBytes * (i + 1)) (entries (b + vertexBytes * n) (drop (i + 1) ns))) (sym f),
+          ∙ entries-on room ns ps (s .args .from) b i (s .pre .1 .1) (k .loop-test .taken)
+          ∙ ap (λ (r : List ℕ). sets r (s .args .from + entryBytes * (i + 1)) (entries (b + vertexBytes * n) (drop (i + 1) ns) (drop (i + 1) ps))) (sym g),
     )
 
 same-length : tie.Need-same-length Inv-loop μ-loop
@@ -101,8 +128,10 @@ same-length c = search needs
 returns : tie.Need-returns Inv-loop μ-loop
 returns c =
     let l = c .before in
-    let s = l .before .before .before in
-    sym (l .loop .inv .3 ∙ entries-end (l .loop .room) (s .args .counts .now) (s .args .from) (l .loop .before) (l .loop .i) (c .loop-test .left))
+    let s = l .before .before .before .before in
+    sym
+    (l .loop .inv .3
+    ∙ entries-end (l .loop .room) (s .args .counts .now) (s .args .parts .now) (s .args .from) (l .loop .before) (l .loop .i) (s .pre .1 .1) (c .loop-test .left))
 
 pub put-entries-spec : {M : Type 1} → statement M
 put-entries-spec =
@@ -119,6 +148,12 @@ put-entries-spec =
     put-requires
     add-put
     put-requires-2
+    mul-put
+    add-put-2
+    mul-put-2
+    shared-slice-read-put
+    cast-put
+    put-requires-3
     mul-before
     add-before
     add-i

@@ -33,7 +33,7 @@ abbrev μ-loop : tie.MeasureT-loop
 loop-holds : tie.Need-loop-holds Inv-loop μ-loop
 loop-holds c =
     let h = c .before .before .before .pre .0 in
-    ((omega arith), refl, (omega (arith, h .whole)), h .sized, refl)
+    ((omega arith), refl, (omega (arith, h .1)), h .0, refl)
 
 -- the ring of this turn
 module _ (c : tie.In-loop Inv-loop μ-loop) where
@@ -92,7 +92,7 @@ put-least-requires : tie.Need-put-least-requires Inv-loop μ-loop
 put-least-requires c κs =
     let k = c .before .before .before in
     let s = l k .before .before .before .before in
-    let t = s .pre .0 .bounded in
+    let t = s .pre .0 .2 in
     let z = part-length (xs k) (l k .loop .at) (n k) t (inside k .1) in (
       part-lent (xs k) (l k .loop .at) (n k) t (inside k .1) (inside k .0),
       ((omega (arith, sized k .0)), (omega (arith, inside k .1, s .pre .1, l k .loop .inv .1))),
@@ -113,7 +113,7 @@ loop-again c =
     let u = coordBytes (flat (leastReading (ringOf (take (2 * n k) (drop at (xs k)))))) in
     let e : c .before .before .put-least .last .1 .0 ≡ sets room (coordinateBytes * at) u =
     c .before .before .put-least .ensures
-    ∙ ap (λ (p : List Float). sets room (coordinateBytes * at) (coordBytes (flat (leastReading (ringOf p))))) (part-is (xs k) at (n k) (l k .before .before .before .before .pre .0 .bounded) (inside k .1)) in (
+    ∙ ap (λ (p : List Float). sets room (coordinateBytes * at) (coordBytes (flat (leastReading (ringOf p))))) (part-is (xs k) at (n k) (l k .before .before .before .before .pre .0 .2) (inside k .1)) in (
       (omega arith),
       ap length e ∙ length-sets room (coordinateBytes * at) u ∙ l k .loop .inv .1,
       left k,

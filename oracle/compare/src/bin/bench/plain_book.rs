@@ -48,15 +48,16 @@ fn put(room: &mut [u8], place: usize, bytes: &[u8]) -> usize {
     place + bytes.len()
 }
 
-/// Writes the book of these rings; answers its length.
-pub fn write(coordinates: &[f64], counts: &[u32], room: &mut [u8]) -> usize {
+/// Writes the book of these rings and parts; answers its length.
+pub fn write(coordinates: &[f64], counts: &[u32], parts: &[u32], room: &mut [u8]) -> usize {
     let entries = 8 * coordinates.len();
     let (mut place, mut entry, mut rest) = (0, entries, coordinates);
-    for &count in counts {
+    for (&count, &part) in counts.iter().zip(parts) {
         let (ring, others) = rest.split_at(2 * count as usize);
         assert!(ring.iter().all(|x| x.abs() <= LARGEST));
         entry = put(room, entry, &(place as u32).to_le_bytes());
         entry = put(room, entry, &count.to_le_bytes());
+        entry = put(room, entry, &part.to_le_bytes());
         let reading = least(ring);
         for i in 0..count as usize {
             let (x, y) = vertex(ring, reading, i);
@@ -77,13 +78,20 @@ fn field(book: &[u8], place: usize) -> usize {
 
 /// Hands out the rings of a book; answers how many there are, nothing for a book
 /// that is wrong.
-pub fn read(book: &[u8], coordinates: &mut [f64], counts: &mut [u32]) -> Option<usize> {
-    let length = (64..=32_840).contains(&book.len()).then_some(book.len())?;
+pub fn read(
+    book: &[u8],
+    coordinates: &mut [f64],
+    counts: &mut [u32],
+    parts: &mut [u32],
+) -> Option<usize> {
+    let length = (68..=32_872).contains(&book.len()).then_some(book.len())?;
     let rings = Some(field(book, length - 8)).filter(|rings| (1..=8).contains(rings))?;
-    let entries = Some(field(book, length - 4)).filter(|at| at + 8 * rings + 8 == length)?;
+    let entries = Some(field(book, length - 4)).filter(|at| at + 12 * rings + 8 == length)?;
     let mut before = 0;
     for (i, count) in counts[..rings].iter_mut().enumerate() {
-        let (offset, vertices) = (field(book, entries + 8 * i), field(book, entries + 8 * i + 4));
+        let entry = entries + 12 * i;
+        let (offset, vertices) = (field(book, entry), field(book, entry + 4));
+        parts[i] = field(book, entry + 8) as u32;
         *count = (offset == before && (3..=256).contains(&vertices)).then_some(vertices as u32)?;
         before += 16 * vertices;
     }

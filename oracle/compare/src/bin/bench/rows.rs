@@ -244,8 +244,8 @@ fn eight_rings(equal: bool) -> Vec<f64> {
 
 /// `write_book` of eight rings.
 fn writing(equal: bool) -> Sides {
-    let (list, counts) = (eight_rings(equal), [256_u32; 8]);
-    let (mut room, mut plain) = (vec![0; 32_840], vec![0; 32_840]);
+    let (list, counts, parts) = (eight_rings(equal), [256_u32; 8], [7_u32; 8]);
+    let (mut room, mut plain) = (vec![0; 32_872], vec![0; 32_872]);
     let same = list.clone();
     let write = move |room: &mut [u8]| {
         let (mut length, mut place) = (0, 0);
@@ -256,6 +256,8 @@ fn writing(equal: bool) -> Sides {
                 list.len(),
                 counts.as_ptr(),
                 counts.len(),
+                parts.as_ptr(),
+                parts.len(),
                 room.as_mut_ptr(),
                 room.len(),
                 &mut length,
@@ -264,18 +266,21 @@ fn writing(equal: bool) -> Sides {
         };
         (number, length)
     };
-    assert_eq!(write(&mut room), (0, 32_840));
-    assert_eq!(plain_book::write(&same, &counts, &mut plain), 32_840);
+    assert_eq!(write(&mut room), (0, 32_872));
+    assert_eq!(plain_book::write(&same, &counts, &parts, &mut plain), 32_872);
     assert!(room == plain);
-    [side(move || plain_book::write(&same, &counts, &mut plain)), side(move || write(&mut room))]
+    [
+        side(move || plain_book::write(&same, &counts, &parts, &mut plain)),
+        side(move || write(&mut room)),
+    ]
 }
 
 /// `read_book` of eight rings.
 fn reading(equal: bool) -> Sides {
-    let mut book = vec![0; 32_840];
-    plain_book::write(&eight_rings(equal), &[256; 8], &mut book);
+    let mut book = vec![0; 32_872];
+    plain_book::write(&eight_rings(equal), &[256; 8], &[7; 8], &mut book);
     let same = book.clone();
-    let read = move |coordinates: &mut [f64], counts: &mut [u32]| {
+    let read = move |coordinates: &mut [f64], counts: &mut [u32], parts: &mut [u32]| {
         let (mut rings, mut place) = (0, 0);
         // SAFETY: all lists are as long as is said, and every pointer has its cell.
         let number = unsafe {
@@ -286,19 +291,23 @@ fn reading(equal: bool) -> Sides {
                 coordinates.len(),
                 counts.as_mut_ptr(),
                 counts.len(),
+                parts.as_mut_ptr(),
+                parts.len(),
                 &mut rings,
                 &mut place,
             )
         };
         (number, rings)
     };
-    let (mut one, mut other) = ((vec![0.0; 4096], [0; 8]), (vec![0.0; 4096], [0; 8]));
-    assert_eq!(read(&mut one.0, &mut one.1), (0, 8));
-    assert_eq!(plain_book::read(&same, &mut other.0, &mut other.1), Some(8));
+    let rooms = (vec![0.0; 4096], [0; 8], [0; 8]);
+    let (mut one, mut other) = (rooms.clone(), rooms);
+    assert_eq!(read(&mut one.0, &mut one.1, &mut one.2), (0, 8));
+    let plain = plain_book::read(&same, &mut other.0, &mut other.1, &mut other.2);
+    assert_eq!(plain, Some(8));
     assert!(one == other);
     [
-        side(move || plain_book::read(&same, &mut other.0, &mut other.1)),
-        side(move || read(&mut one.0, &mut one.1)),
+        side(move || plain_book::read(&same, &mut other.0, &mut other.1, &mut other.2)),
+        side(move || read(&mut one.0, &mut one.1, &mut one.2)),
     ]
 }
 
