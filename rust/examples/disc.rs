@@ -12,11 +12,11 @@ const CARRIER: [(f64, f64); 5] = [(0.0, 0.0), (40.0, 0.0), (40.0, 20.0), (20.0, 
 fn main() -> Result<(), byrlygent::Refusal> {
     let disc = make_disc((0.0, 0.0), 8.0, 64)?;
     println!("a disc of {} vertices, the second at {:?}", disc.len(), disc[1]);
-    let book = write_book(&[&CARRIER[..], &disc])?;
+    let book = write_book(&[(1, &CARRIER[..]), (2, &disc)])?;
     println!("a book of {} bytes", book.len());
-    let rings = read_book(&book)?;
+    let outlines = read_book(&book)?;
     let limited = SlidingNfpConfig { max_iterations: 400, ..SlidingNfpConfig::default() };
-    let nfp = compute_nfp_sliding(&rings[0], &rings[1], &limited)?;
+    let nfp = compute_nfp_sliding(&outlines[0].1, &outlines[1].1, &limited)?;
     let path = &nfp.polygons[0];
     println!("{} passes, ended {}", nfp.passes, nfp.stop);
     println!("a path of {} points, from {:?} to {:?}", path.len(), path[0], path[path.len() - 1]);

@@ -96,7 +96,7 @@ fn run(a: &[Point], b: &[Point], max_iterations: usize) -> (Trace, Vec<Point>) {
 fn book(ring: &[Point]) -> Option<Vec<u8>> {
     let numbers: Vec<f64> = ring.iter().flat_map(|p| [p.0, p.1]).collect();
     let mut room = vec![0; 5000];
-    let n = write_book(&numbers, &[ring.len() as u32], &mut room).ok()?;
+    let n = write_book(&numbers, &[ring.len() as u32], &[0], &mut room).ok()?;
     room.truncate(n);
     Some(room)
 }
