@@ -12,6 +12,10 @@ const MINUS: u64 = 1 << 63;
 /// How many rings of 3, 4 and 5 vertices there are over nine points.
 const RINGS: usize = 9 * 9 * 9 * (1 + 9 + 9 * 9);
 
+/// The words that follow the coordinates in the file of one ring: an entry of 12 bytes
+/// and 8 bytes at the end, filled up.
+const TRAILER: usize = 3;
+
 /// A ring's coordinates, by their bits.
 type Bits = Vec<u64>;
 
@@ -102,7 +106,7 @@ fn every_ring_of_the_grid_is_written_and_read() {
     whole(written().into_iter().map(|(ring, _)| ring).collect());
     let records = swept(1, RINGS as u64);
     assert!(records.iter().all(|met| met.call == book::READ));
-    let ring = |met: Met| met.lent[..met.lent.len() - 2].to_vec();
+    let ring = |met: Met| met.lent[..met.lent.len() - TRAILER].to_vec();
     whole(records.into_iter().map(ring).collect());
 }
 
@@ -116,7 +120,7 @@ fn rings_are_kept_alike_exactly_if_they_are_one_as_numbers() {
 #[test]
 fn of_the_grid_the_books_alone_are_read() {
     for met in swept(1, RINGS as u64) {
-        let ring = &met.lent[..met.lent.len() - 2];
+        let ring = &met.lent[..met.lent.len() - TRAILER];
         let told = match ring.iter().position(|&bits| bits == MINUS) {
             Some(i) => (7, 8 * i as u64),
             None if ring == words(&class(ring)) => (0, 0),
