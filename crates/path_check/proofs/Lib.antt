@@ -2,4 +2,5 @@
 pub mod Search
 pub mod Placed
 pub mod Told
+pub mod Only
 pub mod Worked
