@@ -2,7 +2,7 @@
 
 use super::Case;
 use crate::answers::Point;
-use crate::refusals::{Settings, LEAST_POINTS, MOST_POINTS};
+use crate::refusals::{Settings, LARGEST, LEAST_POINTS, MOST_POINTS};
 use crate::replay::lengths::{self, Lengths, PATHS};
 use crate::replay::traces::{eventful, path_of};
 use crate::replay::{with, EDGES};
@@ -186,6 +186,13 @@ fn numbers() -> Vec<Case> {
     let huge = [[f64::MAX, 0.0], [f64::MIN, 0.0], [1e200, -1e200], [-0.0, -2.0]];
     all.extend(huge.map(|point| round(DEFAULT, &changed(7, point))));
     all.push(round(DEFAULT, &[-0.0, -2.0, 0.0, -2.0, 5e-324, -2.0, -5e-324, -2.0]));
+    // In the corner of the bounds the moved square goes past them.
+    let corner = LARGEST - 4.0;
+    let far = placed(&s, 1.0, corner, corner);
+    let paths = [path.clone(), changed(5, [4.5, 2.0]), ROUND[..7].concat()];
+    all.extend(
+        paths.map(|path| Case::of([&far, &q], DEFAULT, &placed(&path, 1.0, corner, corner))),
+    );
     all
 }
 
