@@ -6,10 +6,10 @@ use Rattle.replay_paths.proofs.check_told.Statement.{statement}
 use Rattle.replay_paths.proofs.check_told.Tie as tie
 
 slice-aggregate-check-path : tie.Need-slice-aggregate-check-path
-slice-aggregate-check-path c = sym (length-take-le _ _ (c .before .before .before .before .before .pre .0))
+slice-aggregate-check-path c = sym (length-take-le _ _ (c .before .before .before .before .pre .0))
 
 slice-aggregate-check-path-2 : tie.Need-slice-aggregate-check-path-2
-slice-aggregate-check-path-2 c = sym (length-take-le _ _ (c .before .before .before .before .before .before .pre .1))
+slice-aggregate-check-path-2 c = sym (length-take-le _ _ (c .before .before .before .before .before .pre .1))
 
 settings-requires : tie.Need-settings-requires
 settings-requires c κs = search needs
@@ -26,12 +26,6 @@ words-requires c κs = search needs
 told-so-requires : tie.Need-told-so-requires
 told-so-requires c κs = search needs
 
-same-length : tie.Need-same-length
-same-length c = search needs
-
-same-length-2 : tie.Need-same-length-2
-same-length-2 c = search needs
-
 returns : tie.Need-returns
 returns c = search needs
 
@@ -46,6 +40,4 @@ check-told-spec =
     check-path-requires
     words-requires
     told-so-requires
-    same-length
-    same-length-2
     returns)
