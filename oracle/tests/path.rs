@@ -71,16 +71,16 @@ fn one_point_of_contact_repeated_is_accepted() {
 
 #[test]
 fn a_point_without_contact_is_told_at_every_place() {
-    for place in 0..ROUND.len() {
-        let path = with(place, outward(ROUND[place]));
+    for (place, point) in ROUND.into_iter().enumerate() {
+        let path = with(place, outward(point));
         assert_eq!(checked(&path), Some(Fault::Point(place)), "{place}");
     }
 }
 
 #[test]
 fn a_blocked_leg_is_told_at_every_place() {
-    for place in 0..ROUND.len() - 1 {
-        let path = with(place + 1, across(ROUND[place]));
+    for (place, point) in ROUND[..11].iter().enumerate() {
+        let path = with(place + 1, across(*point));
         assert_eq!(checked(&path), Some(Fault::Leg(place)), "{place}");
     }
     // A part of the round: only the leg from its last point to its first is blocked.
@@ -173,6 +173,30 @@ fn every_point_and_leg_is_that_of_the_calls() {
     };
     let first = (0..path.len() / 2).find_map(fault);
     assert_eq!(check_path(&s, &q, &DEFAULT, path), Ok(first));
+}
+
+#[test]
+fn a_path_through_the_stationary_polygon_may_be_accepted() {
+    // The trace's own path; at its second point the triangles lie in each other.
+    let (a, b) = ([-3.0, 0.0, 0.0, 0.0, -2.0, 3.0], [-2.0, -2.0, 0.0, -2.0, -2.0, -1.0]);
+    let path = [-1.0, 1.0, -1.0, 2.0, -3.0, 2.0];
+    assert_eq!(check_path(&a, &b, &DEFAULT, &path), Ok(None));
+}
+
+#[test]
+fn a_hit_a_hair_beyond_the_tolerance_blocks_a_leg_of_our_own() {
+    let own = |a: &[f64], b: &[f64]| {
+        let (mut work, mut result) = ([0.0; 128], [0.0; 128]);
+        let traced = compute_nfp_sliding(a, b, &DEFAULT, &mut work, &mut result);
+        let Traced::Done { stored, .. } = traced else { panic!("{traced:?}") };
+        check_path(a, b, &DEFAULT, &work[..2 * stored as usize])
+    };
+    let (s, q) = (square(4.0), square(2.0));
+    assert_eq!(own(&s, &s), Ok(None));
+    assert_eq!(own(&s, &q), Ok(Some(Fault::Leg(4))));
+    assert_eq!(own(&q, &s), Ok(Some(Fault::Leg(8))));
+    let (a, b) = ([0.0, 1.0, 1.0, 0.0, 1.0, 1.0], [0.0, 0.0, 1.0, 0.0, 1.0, 1.0]);
+    assert_eq!(own(&a, &b), Ok(Some(Fault::Leg(4))));
 }
 
 #[test]

@@ -158,8 +158,28 @@ fn seeded(count: usize, number: fn(&mut Seeded) -> f64) -> Vec<Pair> {
     (0..count).map(|_| [polygon(), polygon()]).collect()
 }
 
+/// How often the first fault is another with one of two triangles turned round: seeded
+/// ones, and three seeded points.
+fn windings(count: usize) {
+    let seeded = &mut Seeded::new(5);
+    let mut differ = 0;
+    for _ in 0..count {
+        let mut triangle = || -> Vec<f64> { (0..6).map(|_| seeded.whole(3)).collect() };
+        let [a, b] = [triangle(), triangle()];
+        let contact_tolerance = seeded.pick(&[0.1, 0.25, 0.3, 0.5, 1.0, 1e-6]);
+        let settings = Settings { contact_tolerance, ..limited(0) };
+        let number = |_| seeded.whole(4) * seeded.pick(&[1.0, 0.5, 0.1]);
+        let path: Vec<f64> = (0..6).map(number).collect();
+        let told = |a: &[f64], b: &[f64]| check_path(a, b, &settings, &path);
+        let own = told(&a, &b);
+        differ += usize::from(own != told(&reversed(&a), &b) || own != told(&a, &reversed(&b)));
+    }
+    println!("{count} paths of three points: {differ} have another fault with a winding turned");
+}
+
 /// Prints all counts.
 pub fn print() {
+    windings(400_000);
     let (small, large) = (triangles(&[0.0, 1.0]), triangles(&[0.0, 1.0, 2.0]));
     report("triangles of a 2 by 2 grid", pairs(&small, &small), 60);
     report("triangles of a 3 by 3 and a 2 by 2 grid", pairs(&large, &small), 60);

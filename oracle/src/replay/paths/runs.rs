@@ -66,7 +66,7 @@ fn rounds() -> Vec<Case> {
 /// rounding alone; and the round with each winding.
 fn windings() -> Vec<Case> {
     let at = |contact_tolerance| Settings { contact_tolerance, ..DEFAULT };
-    let some: [([f64; 6], [f64; 6], f64, [f64; 6]); 5] = [
+    let some = [
         (
             [0.0, 3.0, -1.0, -1.0, -1.0, 0.0],
             [0.0, -3.0, 0.0, 0.0, -1.0, 0.0],
