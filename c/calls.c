@@ -1132,6 +1132,119 @@ static void traces(void) {
     CHECK(t.points == 4 && t.stored == 8 && t.passes == 8 && t.stop == BYR_STOP_CLOSED);
 }
 
+/* The cells of a checked path. */
+struct verdict {
+    uint32_t fault;
+    uint64_t index;
+    uint64_t place;
+};
+
+/* The path's first fault, or why it is refused, of a polygon round another. */
+static uint32_t checked(struct verdict *v, const double *a, size_t an, const double *b, size_t bn,
+                        double tolerance, double smallest, uint64_t limit, const double *path, size_t n) {
+    v->fault = HELD_WORD;
+    v->index = v->place = HELD_COUNT;
+    return byr_check_path(a, an, b, bn, tolerance, smallest, limit, path, n, &v->fault, &v->index, &v->place);
+}
+
+/* Whether the cells are these. */
+static int told_as(const struct verdict *v, uint32_t fault, uint64_t index, uint64_t place) {
+    return v->fault == fault && v->index == index && v->place == place;
+}
+
+static uint32_t lend_checked(const double *a, size_t an, const double *b, size_t bn, uint64_t *place) {
+    struct verdict v;
+    uint32_t number = checked(&v, a, an, b, bn, 0, -1, 10001, GOOD, 6);
+
+    CHECK(told_as(&v, HELD_WORD, HELD_COUNT, v.place));
+    *place = v.place;
+    return number;
+}
+
+/* Paths of a wrong length, the number with which they are refused, and the place. */
+static const struct lent_path {
+    size_t n;
+    uint32_t number;
+    uint64_t place;
+} LENT_PATHS[] = {
+    {0, BYR_REFUSED_FEW, 2},        {1, BYR_REFUSED_LENGTH, 2},    {2, BYR_REFUSED_FEW, 2},
+    {3, BYR_REFUSED_LENGTH, 2},     {4, BYR_REFUSED_FEW, 2},       {5, BYR_REFUSED_LENGTH, 2},
+    {7, BYR_REFUSED_LENGTH, 2},     {20001, BYR_REFUSED_LENGTH, 2}, {20003, BYR_REFUSED_LENGTH, 2},
+    {20004, BYR_REFUSED_MANY, 2},   {6, BYR_REFUSED_NUMBER, HELD_COUNT},
+    {20002, BYR_REFUSED_NUMBER, HELD_COUNT},
+};
+
+static void path_refusals(void) {
+    static const double path[6] = {0, -2, 2, -2, 0, -2};
+    double wrong[8];
+    struct verdict v;
+    size_t i;
+
+    begin("byr_check_path");
+    try_polygons(lend_checked);
+    for (i = 0; i < sizeof LENT_PATHS / sizeof *LENT_PATHS; i++) {
+        const struct lent_path *p = &LENT_PATHS[i];
+        row = i + 1;
+        CHECK(checked(&v, S, 8, Q, 8, 0, 0, 0, p->n == 0 ? NULL : WRONG, p->n) == p->number);
+        CHECK(told_as(&v, HELD_WORD, HELD_COUNT, p->place));
+    }
+    row = 0;
+    CHECK(checked(&v, S, 8, WRONG, 8, 0, 0, 0, path, 5) == BYR_REFUSED_LENGTH);
+    CHECK(told_as(&v, HELD_WORD, HELD_COUNT, 2));
+    memcpy(wrong, Q, sizeof wrong);
+    wrong[5] = past_million();
+    CHECK(checked(&v, S, 8, wrong, 8, 0, 0, 0, path, 6) == BYR_REFUSED_NUMBER);
+    CHECK(checked(&v, S, 8, Q, 8, 0, 1e-8, 10000, path, 6) == BYR_REFUSED_SETTING);
+    CHECK(checked(&v, S, 8, Q, 8, 1, -1e-9, 10000, path, 6) == BYR_REFUSED_SETTING);
+    CHECK(checked(&v, S, 8, Q, 8, 1, 1e-8, 10001, path, 6) == BYR_REFUSED_SETTING);
+    CHECK(told_as(&v, HELD_WORD, HELD_COUNT, HELD_COUNT));
+    /* A point past a million is no coordinate, and is lent all the same. */
+    CHECK(checked(&v, S, 8, Q, 8, TOLERANCE, 0, 0, wrong, 8) == 0 && v.fault != HELD_WORD);
+}
+
+/* Q round S: a corner meets a corner at the end of each leg. */
+static const double ROUND[24] = {-2, -2, 0, -2, 2, -2, 4, -2, 4, 0, 4, 2, 4, 4, 2, 4, 0, 4, -2, 4, -2, 2, -2, 0};
+
+/* The whole round; a point off the square at every place; a leg across the square at every place but the last;
+ * and each part of the round, of which the last leg is blocked. Then a trace's own path. */
+static void paths(void) {
+    double path[24];
+    struct trace t;
+    struct verdict v;
+    uint64_t i;
+
+    CHECK(checked(&v, S, 8, Q, 8, TOLERANCE, 1e-8, 10000, ROUND, 24) == 0);
+    CHECK(told_as(&v, BYR_FAULT_NONE, HELD_COUNT, HELD_COUNT));
+    for (i = 0; i < 12; i++) {
+        double x = ROUND[2 * i];
+        double y = ROUND[2 * i + 1];
+        row = i + 1;
+        memcpy(path, ROUND, sizeof path);
+        path[2 * i] = x < 1 ? x - 0.5 : x + 0.5;
+        path[2 * i + 1] = y < 1 ? y - 0.5 : y + 0.5;
+        CHECK(checked(&v, S, 8, Q, 8, TOLERANCE, 0, 0, path, 24) == 0);
+        CHECK(told_as(&v, BYR_FAULT_POINT, i, HELD_COUNT));
+        if (i < 11) {
+            memcpy(path, ROUND, sizeof path);
+            path[2 * i + 2] = 2 - x;
+            path[2 * i + 3] = 2 - y;
+            CHECK(checked(&v, S, 8, Q, 8, TOLERANCE, 0, 0, path, 24) == 0);
+            CHECK(told_as(&v, BYR_FAULT_LEG, i, HELD_COUNT));
+        }
+        if (i >= 2 && i < 11) {
+            CHECK(checked(&v, S, 8, Q, 8, TOLERANCE, 0, 0, ROUND, 2 * i + 2) == 0);
+            CHECK(told_as(&v, BYR_FAULT_LEG, i, HELD_COUNT));
+        }
+    }
+    row = 0;
+    CHECK(traced(&t, S, 8, Q, 8, TOLERANCE, 1e-8, 10000, 16, 17) == 0 && t.stored == 7);
+    CHECK(checked(&v, S, 8, Q, 8, TOLERANCE, 1e-8, 10000, t.work, 14) == 0);
+    CHECK(told_as(&v, BYR_FAULT_LEG, 4, HELD_COUNT));
+    /* One list lent as both polygons and as the path. */
+    CHECK(checked(&v, S, 8, S, 8, TOLERANCE, 1e-8, 10000, S, 8) == 0);
+    CHECK(told_as(&v, BYR_FAULT_NONE, HELD_COUNT, HELD_COUNT));
+}
+
 /* ---- The outline book ---- */
 
 /* The book of the triangle (4,0), (0,3), (0,0), of part 7, and parts for ten rings. */
@@ -1793,6 +1906,8 @@ int main(void) {
     simplification();
     trace_refusals();
     traces();
+    path_refusals();
+    paths();
     writing();
     closed_drawings();
     books_of_zeros();

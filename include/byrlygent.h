@@ -30,8 +30,8 @@
  *
  * Bounds. A polygon has 3 to 256 vertices, a ring 0 to 256. A coordinate, of a
  * single point or segment end too, is finite and at most 1000000 in size. Moves,
- * positions, visited positions and the points of a list to simplify are finite. A
- * tolerance is above 0 and at most 1.
+ * positions, visited positions and the points of a list to simplify or of a path to
+ * check are finite. A tolerance is above 0 and at most 1.
  *
  * Refusals. First the lists are gone through in the order in which they are lent:
  * of one list 1, then 8, then 9 are tested before the next is looked at. Then 2 is
@@ -46,7 +46,7 @@
  *
  *     0    the stationary polygon; a; the only list
  *     1    the orbiting polygon; b
- *     2    the visited positions
+ *     2    the visited positions; the path to check
  *
  * For byr_write_book it is a ring or the number of rings; byr_read_book writes it
  * with 7 and byr_read_wkb with 10, and it is a byte of what is read. With any other
@@ -98,6 +98,13 @@ enum {
     BYR_STOP_SHORT_MOVE = 3, /* the move is below the smallest one */
     BYR_STOP_CLOSED = 4,     /* back at the start */
     BYR_STOP_PASSES = 5      /* passes used up */
+};
+
+/* The first fault of a path that byr_check_path is lent. */
+enum {
+    BYR_FAULT_NONE = 0,  /* there is none: the path is accepted */
+    BYR_FAULT_POINT = 1, /* at a point there is no contact */
+    BYR_FAULT_LEG = 2    /* a leg runs into something */
 };
 
 /* Why byr_mend_ring drops a vertex. */
@@ -284,8 +291,9 @@ uint32_t byr_whole_signed_area2(const int32_t *ring, size_t n, int64_t *area2, u
  * the orbiting one (or b) at place 1.
  *
  * The orbiting polygon is lent where it stands, already moved; only
- * byr_detect_interlocking_opportunity, byr_find_start_position and
- * byr_compute_nfp_sliding take it as drawn, with its position apart. */
+ * byr_detect_interlocking_opportunity, byr_find_start_position,
+ * byr_compute_nfp_sliding and byr_check_path take it as drawn, with its position
+ * apart. */
 
 /* Every contact of the two polygons, nearer than the tolerance. Per contact,
  * which: kind, stationary index, orbiting index, foot; points: x, y. count: how
@@ -400,6 +408,23 @@ uint32_t byr_compute_nfp_sliding(const double *stationary, size_t sn, const doub
                                  double *work, size_t work_n, double *result, size_t result_n,
                                  uint64_t *points, uint64_t *stored, uint64_t *passes, uint32_t *stop,
                                  uint64_t *place);
+
+/* Checks a path of 3 to 10001 points that another program traced. It is accepted, and
+ * fault is BYR_FAULT_NONE, exactly if at each point the orbiting polygon, moved there,
+ * has a contact, by byr_find_contacts, and on each leg, that from the last point to the
+ * first included, byr_check_translation_collision finds nothing for the polygon at the
+ * leg's first point and the difference of the two. Else fault is that of the first in the
+ * order point 0, leg 0, point 1 and so on, and index is the point's, or that of the point
+ * at which the leg begins. Moved vertices and differences are rounded once, and not held
+ * to bounds. Windings stay as lent. Both polygons are tested with contact_tolerance;
+ * min_translation and max_iterations keep the bounds of byr_compute_nfp_sliding, and are
+ * not used. A path of that function may have a fault.
+ *
+ * Refusals: 1, 8, 9, those of the path at place 2; 2, 3. index is written with
+ * BYR_FAULT_POINT and BYR_FAULT_LEG only. */
+uint32_t byr_check_path(const double *stationary, size_t sn, const double *orbiting, size_t on,
+                        double contact_tolerance, double min_translation, uint64_t max_iterations,
+                        const double *path, size_t path_n, uint32_t *fault, uint64_t *index, uint64_t *place);
 
 /* ---- The outline book ---- */
 

@@ -1,6 +1,6 @@
 //! The answer that docs/SCOPE.md gives to each exported function but those of
-//! `book`, `wkb`, `grounds` and `mend`: the refusals in their order, then the text over the
-//! fixed helpers.
+//! `book`, `wkb`, `grounds`, `path` and `mend`: the refusals in their order, then the
+//! text over the fixed helpers.
 //! Lists are x, y alternating; a room is written on success only, at its front.
 
 use crate::answers::{Error, Nfp, Point, Trace};

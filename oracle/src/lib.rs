@@ -6,9 +6,9 @@
 //! text and of Rust's library, `swapped` the fixed ones with the two zeros in the
 //! other order. `calls` gives docs/SCOPE.md's answers over `fixed`; `book` is no
 //! text of theirs, but the outline book written down from docs/SCOPE.md, `wkb` the
-//! well-known binary, `grounds` why a move is clear or not, `whole` the predicates
-//! in whole numbers, `mend` the mending of a ring, `discs` the discs from a table, and
-//! `inspection` the places that a shift inspects.
+//! well-known binary, `grounds` why a move is clear or not, `path` the check of a path,
+//! `whole` the predicates in whole numbers, `mend` the mending of a ring, `discs` the
+//! discs from a table, and `inspection` the places that a shift inspects.
 
 #![allow(clippy::duplicate_mod)] // The text is compiled three times on purpose.
 
@@ -21,6 +21,7 @@ pub mod fixed;
 pub mod grounds;
 pub mod inspection;
 pub mod mend;
+pub mod path;
 pub mod printer;
 pub mod refusals;
 pub mod replay;

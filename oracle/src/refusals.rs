@@ -45,8 +45,10 @@ pub type Answer<T> = Result<T, Refusal>;
 pub const MOST_VERTICES: usize = 256;
 /// Fewest vertices of a sliding polygon.
 pub const LEAST_VERTICES: usize = 3;
-/// Most points among visited positions or in a list to simplify.
+/// Most points among visited positions, in a list to simplify or in a path to check.
 pub const MOST_POINTS: usize = 10_001;
+/// Fewest points of a path to check.
+pub const LEAST_POINTS: usize = 3;
 /// Most passes that a pass limit may allow.
 pub const MOST_PASSES: u64 = 10_000;
 /// Largest size of a coordinate.
@@ -86,6 +88,8 @@ pub const MENDABLE: Kind = Kind { width: 2, least: 1, most: MOST_VERTICES };
 pub const POLYGON: Kind = Kind { width: 2, least: LEAST_VERTICES, most: MOST_VERTICES };
 /// Visited positions, or a list to simplify.
 pub const PATH: Kind = Kind { width: 2, least: 0, most: MOST_POINTS };
+/// A path to check.
+pub const CHECKED: Kind = Kind { width: 2, least: LEAST_POINTS, most: MOST_POINTS };
 /// Vectors to select from.
 pub const VECTORS: Kind = Kind { width: 3, least: 0, most: usize::MAX };
 

@@ -1,7 +1,7 @@
 //! The replay lists hold lists about the bounds of their length in every way, alone
 //! and together, and each record tells what is wrong with the first wrong one.
 
-use oracle::replay::{book, list, rings, sliding, traces};
+use oracle::replay::{book, list, paths, rings, sliding, traces};
 use oracle::seeded::Seeded;
 use std::collections::BTreeSet;
 
@@ -26,6 +26,7 @@ const RING: Bounds = Bounds(2, 0, 512);
 const MENDABLE: Bounds = Bounds(2, 2, 512);
 const POLYGON: Bounds = Bounds(2, 6, 512);
 const PATH: Bounds = Bounds(2, 0, 20_002);
+const CHECKED: Bounds = Bounds(2, 6, 20_002);
 const VECTORS: Bounds = Bounds(3, 0, usize::MAX);
 
 /// The way of a list of so many numbers with these bounds.
@@ -94,11 +95,19 @@ impl Met {
         Self { call: 0, ..Self::new(record, traces::HEADER, &lent, [7, 12]) }
     }
 
+    /// A record of the list `paths`, which has one call.
+    fn paths(record: &[u64]) -> Self {
+        let bounds = [POLYGON, POLYGON, CHECKED].map(Some);
+        let lent = [0, 1, 2].map(|i: usize| (record[i], bounds[i]));
+        Self { call: 0, ..Self::new(record, paths::HEADER, &lent, [6, 9]) }
+    }
+
     /// A record of the list with this name.
     fn of(name: &str, record: &[u64]) -> Self {
         match name {
             "sliding" => Self::sliding(record),
             "rings" => Self::rings(record),
+            "paths" => Self::paths(record),
             _ => Self::traces(record),
         }
     }
@@ -160,7 +169,7 @@ fn calls_with_two_lists() -> Vec<(&'static str, u64, &'static [Way])> {
 
 #[test]
 fn every_record_tells_its_first_wrong_list() {
-    for name in ["rings", "sliding", "traces"] {
+    for name in ["rings", "sliding", "traces", "paths"] {
         for record in stored(name).iter().chain(&long(name)) {
             let (call, told) = (record.call, record.told);
             match record.asked() {
@@ -222,6 +231,37 @@ fn visited_positions_are_met_in_every_way_beside_the_polygons() {
             }
         }
     }
+}
+
+#[test]
+fn paths_to_check_are_met_in_every_way_beside_the_polygons() {
+    let every = [Fine, Odd, Short, Long, OddAndShort, OddAndLong];
+    let [stored, long] = [stored("paths"), long("paths")];
+    let [met, more] = [&stored, &long].map(|records| all(records, 0, |met| met.ways.clone()));
+    for pair in pairs(&[Fine, Odd, Short, Long]) {
+        assert!(met.contains(&[&pair[..], &[Odd]].concat()), "{pair:?}");
+        for third in every {
+            let ways = [&pair[..], &[third]].concat();
+            assert!(more.contains(&ways), "{ways:?}");
+            let few = pair.contains(&Long) || matches!(third, Long | OddAndLong);
+            assert!(few || met.contains(&ways), "{ways:?}");
+        }
+    }
+    // With a wrong number in neither polygon, in the first and in the second.
+    let wrong = all(&long, 0, |met| (met.ways.clone(), met.wrong()));
+    for pair in pairs(&[Fine, Odd, Short, Long]) {
+        for which in [None, Some(0), Some(1)] {
+            assert!(wrong.contains(&([&pair[..], &[Short]].concat(), which)), "{pair:?}");
+        }
+    }
+    let polygons = all(&long, 0, |met| met.lengths()[..2].to_vec());
+    let lengths = [0, 1, 3, 4, 5, 6, 7, 8, 511, 512, 513, 514, 515];
+    assert!(pairs(&lengths).iter().all(|pair| polygons.contains(pair)));
+    let lengths = [0, 1, 2, 3, 4, 5, 20_002, 20_003, 20_004, 20_005];
+    let paths = all(&long, 0, |met| met.lengths()[2]);
+    assert!(lengths.iter().all(|n| paths.contains(n)), "{paths:?}");
+    let paths = all(&stored, 0, |met| met.lengths()[2]);
+    assert!([0, 1, 2, 3, 4, 5, 6, 20_002, 20_004].iter().all(|n| paths.contains(n)), "{paths:?}");
 }
 
 #[test]

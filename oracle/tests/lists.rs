@@ -2,7 +2,7 @@
 //! their bounds, and hold every outcome there is.
 
 use oracle::replay::{
-    book, bytes, discs, list, places, rings, scalars, sliding, traces, whole, wkb,
+    book, bytes, discs, list, paths, places, rings, scalars, sliding, traces, whole, wkb,
 };
 use oracle::seeded::Seeded;
 use std::collections::BTreeSet;
@@ -115,6 +115,74 @@ fn place_records_keep_their_bounds_and_meet_every_outcome() {
         for outcome in ["refusal 0", "refusal 5", "refusal 13"].into_iter().chain(ends) {
             assert!(met.contains(&format!("next_places: {outcome}")), "{outcome}");
         }
+    }
+}
+
+#[test]
+fn paths_are_as_written() {
+    as_written("replay_paths", paths::records());
+}
+
+#[test]
+fn path_records_keep_their_bounds_and_meet_every_outcome() {
+    for records in [paths::records(), long("paths", 4_000)] {
+        let mut met = BTreeSet::new();
+        for record in records {
+            let [a, b, path] = lengths(&record, [0, 1, 2]);
+            assert!(a <= paths::MOST_POLYGON && b <= paths::MOST_POLYGON);
+            assert!(path <= paths::MOST_PATH);
+            assert_eq!(record.len(), paths::HEADER + a + b + path);
+            met.extend((paths::LIST.counted)(&record));
+        }
+        let faults = ["no contact at a point", "a leg blocked", "the last leg blocked"];
+        let refusals = [1, 2, 3, 8, 9].map(|number| format!("refusal {number}"));
+        let told = ["accepted"].iter().chain(&faults).map(|told| told.to_string());
+        for outcome in told.chain(refusals) {
+            assert!(met.contains(&format!("check_path: {outcome}")), "{outcome}");
+        }
+    }
+}
+
+/// The fault and the index of each stored path that is not refused, with its points.
+fn judged() -> Vec<([u64; 2], u64)> {
+    let answered = paths::records().into_iter().filter(|record| record[6] == 0);
+    answered.map(|record| ([record[7], record[8]], record[2] / 2)).collect()
+}
+
+#[test]
+fn paths_have_a_fault_at_every_place() {
+    let judged = judged();
+    for index in 0..12 {
+        assert!(judged.contains(&([1, index], 12)), "point {index}");
+        assert!(index == 11 || judged.contains(&([2, index], 12)), "leg {index}");
+    }
+    for points in 3..12 {
+        assert!(judged.contains(&([2, points - 1], points)), "the last leg of {points}");
+    }
+    assert!(judged.contains(&([2, 10_000], 10_001)));
+    assert!(judged.contains(&([0, 0], 3)));
+}
+
+#[test]
+fn paths_are_met_whose_fault_depends_on_a_winding() {
+    let records = paths::records();
+    // The lists of a record, with one of its polygons turned round.
+    let turned = |record: &[u64], which: usize| {
+        let [a, b, path] = lengths(record, [0, 1, 2]);
+        let (from, n) = if which == 0 { (paths::HEADER, a) } else { (paths::HEADER + a, b) };
+        let ring: Vec<u64> =
+            record[from..from + n].chunks_exact(2).rev().flatten().copied().collect();
+        let lists = paths::HEADER + a + b + path;
+        [&record[paths::HEADER..from], &ring, &record[from + n..lists]].concat()
+    };
+    for which in [0, 1] {
+        let depends = |record: &&Vec<u64>| {
+            let (lists, told) = (turned(record, which), &record[7..9]);
+            let same =
+                |other: &&Vec<u64>| other[..7] == record[..7] && other[paths::HEADER..] == lists;
+            records.iter().find(same).is_some_and(|other| told != &other[7..9])
+        };
+        assert!(records.iter().any(|record| record[6] == 0 && depends(&record)), "{which}");
     }
 }
 

@@ -379,6 +379,20 @@ functions! {
         stop: *mut u32,
         place: *mut u64,
     ) -> u32;
+    fn byr_check_path(
+        stationary: *const f64,
+        sn: usize,
+        orbiting: *const f64,
+        on: usize,
+        contact_tolerance: f64,
+        min_translation: f64,
+        max_iterations: u64,
+        path: *const f64,
+        path_n: usize,
+        fault: *mut u32,
+        index: *mut u64,
+        place: *mut u64,
+    ) -> u32;
     fn byr_write_book(
         coordinates: *const f64,
         n: usize,

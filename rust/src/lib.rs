@@ -30,7 +30,8 @@
 //! Parts whose coordinates are whole numbers have predicates of their own, without a
 //! float: [`whole`].
 //!
-//! Which places of a path a shift inspects, so that none is forgotten: [`inspection`].
+//! A path that another program traced is judged by [`nfp_sliding::check_path`]; which
+//! places of a path a shift inspects, so that none is forgotten, tells [`inspection`].
 //!
 //! A list with too few entries or too many is refused by name:
 //!

@@ -13,6 +13,8 @@ pub enum List {
     Orbiting,
     /// The positions that were visited.
     Visited,
+    /// The path that is checked.
+    Path,
     /// The first of two rings, or of two polygons.
     First,
     /// The second of them.
@@ -32,7 +34,7 @@ impl List {
     fn entries(self) -> (&'static str, &'static str) {
         match self {
             Self::Visited => ("position", "positions"),
-            Self::Points => ("point", "points"),
+            Self::Path | Self::Points => ("point", "points"),
             Self::Book => ("ring", "rings"),
             _ => ("vertex", "vertices"),
         }
@@ -45,6 +47,7 @@ impl fmt::Display for List {
             Self::Stationary => "the stationary polygon",
             Self::Orbiting => "the orbiting polygon",
             Self::Visited => "the visited list",
+            Self::Path => "the path",
             Self::First => "the first outline",
             Self::Second => "the second outline",
             Self::Ring => "the ring",
@@ -92,6 +95,11 @@ impl Entries {
     /// A list of so many points, which may have none.
     pub(crate) fn points(list: List, has: usize) -> Self {
         Self { list, has, least: 0, most: 10_001 }
+    }
+
+    /// A path of so many points that is to be checked: it has three at least.
+    pub(crate) fn path(has: usize) -> Self {
+        Self { list: List::Path, has, least: 3, most: 10_001 }
     }
 
     /// A book of so many rings.

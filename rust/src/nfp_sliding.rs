@@ -8,6 +8,7 @@
 mod contacts;
 mod grounds;
 mod moves;
+mod path;
 mod segments;
 mod trace;
 
@@ -20,6 +21,7 @@ pub use moves::{
     check_translation_collision, detect_interlocking_opportunity, polygons_overlap,
     polygons_overlap_with_tolerance, recover_contact, CollisionEvent,
 };
+pub use path::{check_path, Fault};
 pub use segments::{
     point_on_segment, point_to_segment_distance, project_point_to_segment, Foot, Projection,
 };

@@ -31,7 +31,7 @@ fn many(list: List, has: usize, least: usize, most: usize) -> Option<Refusal> {
 }
 
 /// What the calls with a stationary and an orbiting polygon refuse these with.
-fn sliding(stationary: &[Point], orbiting: &[Point]) -> [Option<Refusal>; 9] {
+fn sliding(stationary: &[Point], orbiting: &[Point]) -> [Option<Refusal>; 10] {
     let (s, o, at) = (stationary, orbiting, NOWHERE);
     let none: [Point; 0] = [];
     [
@@ -44,6 +44,7 @@ fn sliding(stationary: &[Point], orbiting: &[Point]) -> [Option<Refusal>; 9] {
         nfp_sliding::recover_contact(s, o, at, TOLERANCE).err(),
         nfp_sliding::find_start_position(s, o).err(),
         nfp_sliding::compute_nfp_sliding(s, o, &SlidingNfpConfig::default()).err(),
+        nfp_sliding::check_path(s, o, &SlidingNfpConfig::default(), &[at; 3]).err(),
     ]
 }
 
@@ -73,6 +74,7 @@ fn the_words_say_which_list_what_it_has_and_what_it_may_have() {
         (List::Stationary, "the stationary polygon has 5 vertices"),
         (List::Orbiting, "the orbiting polygon has 5 vertices"),
         (List::Visited, "the visited list has 5 positions"),
+        (List::Path, "the path has 5 points"),
         (List::First, "the first outline has 5 vertices"),
         (List::Second, "the second outline has 5 vertices"),
         (List::Ring, "the ring has 5 vertices"),
@@ -95,12 +97,12 @@ fn polygons_of_the_sliding_have_3_to_256_vertices() {
     let four = points(4);
     for has in [0, 1, 2] {
         let short = points(has);
-        assert_eq!(sliding(&short, &four), [few(List::Stationary, has as usize); 9]);
-        assert_eq!(sliding(&four, &short), [few(List::Orbiting, has as usize); 9]);
+        assert_eq!(sliding(&short, &four), [few(List::Stationary, has as usize); 10]);
+        assert_eq!(sliding(&four, &short), [few(List::Orbiting, has as usize); 10]);
     }
     let long = points(257);
-    assert_eq!(sliding(&long, &four), [many(List::Stationary, 257, 3, 256); 9]);
-    assert_eq!(sliding(&four, &long), [many(List::Orbiting, 257, 3, 256); 9]);
+    assert_eq!(sliding(&long, &four), [many(List::Stationary, 257, 3, 256); 10]);
+    assert_eq!(sliding(&four, &long), [many(List::Orbiting, 257, 3, 256); 10]);
     for (stationary, orbiting) in [(3, 256), (256, 3)] {
         let start = nfp_sliding::find_start_position(&points(stationary), &points(orbiting));
         assert!(start.is_ok());
@@ -155,6 +157,18 @@ fn lists_of_points_have_0_to_10001() {
 }
 
 #[test]
+fn a_path_to_check_has_3_to_10001_points() {
+    let (four, config) = (points(4), SlidingNfpConfig::default());
+    let checked = |has| nfp_sliding::check_path(&four, &four, &config, &points(has)).err();
+    assert_eq!([3, 4, 10_001].map(checked), [None; 3]);
+    for has in [0, 1, 2] {
+        let entries = Entries { list: List::Path, has: has as usize, least: 3, most: 10_001 };
+        assert_eq!(checked(has), Some(Refusal::Few(entries)));
+    }
+    assert_eq!(checked(10_002), many(List::Path, 10_002, 3, 10_001));
+}
+
+#[test]
 fn books_have_1_to_8_rings_of_3_to_256_vertices() {
     let refused = |counts: &[u32]| {
         let rings: Vec<(u32, Vec<Point>)> =
@@ -190,14 +204,18 @@ fn place_0_of_a_book_is_the_book_or_its_first_ring() {
 
 #[test]
 fn the_first_list_speaks_and_all_of_them_before_any_number() {
-    assert_eq!(sliding(&points(257), &points(2)), [many(List::Stationary, 257, 3, 256); 9]);
-    assert_eq!(sliding(&points(2), &points(257)), [few(List::Stationary, 2); 9]);
-    assert_eq!(sliding(&wrong(4), &points(2)), [few(List::Orbiting, 2); 9]);
-    assert_eq!(sliding(&wrong(4), &points(4)), [Some(Refusal::Number); 9]);
+    assert_eq!(sliding(&points(257), &points(2)), [many(List::Stationary, 257, 3, 256); 10]);
+    assert_eq!(sliding(&points(2), &points(257)), [few(List::Stationary, 2); 10]);
+    assert_eq!(sliding(&wrong(4), &points(2)), [few(List::Orbiting, 2); 10]);
+    assert_eq!(sliding(&wrong(4), &points(4)), [Some(Refusal::Number); 10]);
     let (list, at) = (points(10_002), NOWHERE);
     let fit = |o: &[Point]| nfp_sliding::handle_perfect_fit(&wrong(4), o, at, &list, 0.0).err();
     assert_eq!(fit(&points(2)), few(List::Orbiting, 2));
     assert_eq!(fit(&wrong(4)), many(List::Visited, 10_002, 0, 10_001));
+    let none = SlidingNfpConfig { contact_tolerance: 0.0, ..Default::default() };
+    let checked = |o: &[Point]| nfp_sliding::check_path(&wrong(4), o, &none, &list).err();
+    assert_eq!(checked(&points(2)), few(List::Orbiting, 2));
+    assert_eq!(checked(&wrong(4)), many(List::Path, 10_002, 3, 10_001));
     let (short, long) = (points(2), points(257));
     assert_eq!(write_book(&[(1, wrong(3)), (2, short)]).err(), few(List::RingOfBook(1), 2));
     assert_eq!(

@@ -3,6 +3,7 @@
 mod book;
 mod discs;
 mod mirrors;
+mod paths;
 pub mod places;
 mod rings;
 pub mod scalars;
@@ -38,16 +39,17 @@ const RINGS: [Law; 5] = [
 ];
 
 /// All lists; the shares add up to a hundred.
-pub const LISTS: [Checked; 9] = [
+pub const LISTS: [Checked; 10] = [
     Checked { name: "scalars", share: 12, check: scalars::check, laws: &[] },
-    Checked { name: "rings", share: 20, check: rings::check, laws: &RINGS },
+    Checked { name: "rings", share: 18, check: rings::check, laws: &RINGS },
     Checked { name: "whole", share: 8, check: whole::check, laws: &[] },
     Checked { name: "discs", share: 4, check: discs::check, laws: &[] },
-    Checked { name: "sliding", share: 29, check: sliding::check, laws: &[] },
+    Checked { name: "sliding", share: 26, check: sliding::check, laws: &[] },
     Checked { name: "book", share: 10, check: book::check, laws: &[mirrors::book_mirrored] },
     Checked { name: "wkb", share: 10, check: wkb::check, laws: &[] },
     Checked { name: "places", share: 1, check: places::check, laws: &[] },
     Checked { name: "traces", share: 6, check: traces::check, laws: &[traces::larger] },
+    Checked { name: "paths", share: 5, check: paths::check, laws: &[paths::pieced] },
 ];
 
 /// The check of a record of every small ring to mend.

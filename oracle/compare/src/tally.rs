@@ -15,6 +15,8 @@ pub struct Compared {
     pub stop: Option<u64>,
     /// The ground of an explanation, where that is answered.
     pub explained: Option<Explained>,
+    /// The number of a path's first fault, where that is answered.
+    pub fault: Option<u64>,
     /// What differs, if anything does.
     pub difference: Option<String>,
 }
@@ -29,7 +31,7 @@ pub struct Explained {
 }
 
 impl Compared {
-    /// The comparison of a call that is no trace and no explanation.
+    /// The comparison of a call that is no trace, no explanation and no path's check.
     pub fn of<T: PartialEq + fmt::Debug>(
         call: &'static str,
         number: u64,
@@ -41,7 +43,7 @@ impl Compared {
             let [oracle, library] = [format!("{oracle:x?}"), format!("{library:x?}")];
             format!("{call}: expected {oracle:.MOST$}, the library has {library:.MOST$}")
         });
-        Self { call, number, stop: None, explained: None, difference }
+        Self { call, number, stop: None, explained: None, fault: None, difference }
     }
 }
 
@@ -51,6 +53,8 @@ const NUMBERS: usize = 14;
 const STOPS: usize = 5;
 /// How many grounds there are, from 0 on.
 const GROUNDS: usize = 6;
+/// How many numbers of a path's fault there are, from 0, which is none, on.
+const FAULTS: usize = 3;
 /// How many kinds of hit there are.
 const KINDS: usize = 2;
 /// How many other pairs at a hit's distance a comparison must reach.
@@ -116,6 +120,7 @@ pub struct Tally {
     rows: Vec<Row>,
     stops: [u64; STOPS],
     explanations: Explanations,
+    faults: [u64; FAULTS],
     differences: Vec<String>,
 }
 
@@ -133,6 +138,9 @@ impl Tally {
         }
         if let Some(explained) = compared.explained {
             self.explanations.add(explained);
+        }
+        if let Some(fault) = compared.fault {
+            self.faults[fault as usize] += 1;
         }
         match compared.difference {
             None => self.rows[place].agree += 1,
@@ -157,9 +165,11 @@ impl Tally {
         (all.numbers.iter().sum(), all.agree)
     }
 
-    /// What no explanation had, of what some must have.
+    /// What no explanation and no path had, of what some must have.
     pub fn unreached(&self) -> Vec<String> {
-        self.explanations.unreached()
+        let missing = (0..FAULTS).filter(|&fault| self.faults[fault] == 0);
+        let paths = missing.map(|fault| format!("no path has fault {fault}"));
+        self.explanations.unreached().into_iter().chain(paths).collect()
     }
 
     /// Whether this call was compared.
@@ -183,6 +193,8 @@ impl fmt::Display for Tally {
             write!(f, " {}: {count}{}", place + 1, if place + 1 < STOPS { "," } else { "\n" })?;
         }
         write!(f, "{}", self.explanations)?;
+        let [accepted, points, legs] = self.faults;
+        writeln!(f, "paths: accepted: {accepted}, fault at a point: {points}, at a leg: {legs}")?;
         self.differences.iter().try_for_each(|told| writeln!(f, "DIFFERENCE {told}"))?;
         let (cases, agree) = self.totals();
         write!(f, "{} calls and laws, {cases} cases, {agree} agree", self.rows.len())

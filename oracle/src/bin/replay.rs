@@ -10,7 +10,7 @@ use std::io::{BufWriter, Result, Write};
 use std::process::ExitCode;
 
 const USAGE: &str = "give the name of a list: scalars, rings, whole, discs, book, wkb, places,
-sliding or traces;
+sliding, traces or paths;
 after it, `long COUNT SEED` for so many seeded records";
 
 /// Writes records and counts what they hold.

@@ -4,6 +4,7 @@
 pub mod book;
 pub mod discs;
 mod lengths;
+pub mod paths;
 pub mod places;
 mod polygons;
 pub mod rings;
@@ -69,6 +70,7 @@ pub fn list(name: &str) -> Option<List> {
         "book_equal" => Some(book::EQUAL),
         "book_one" => Some(book::ONE),
         "discs" => Some(discs::LIST),
+        "paths" => Some(paths::LIST),
         "places" => Some(places::LIST),
         "sliding" => Some(sliding::LIST),
         "traces" => Some(traces::LIST),

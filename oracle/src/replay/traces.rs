@@ -16,6 +16,8 @@ use crate::fixed::nfp_sliding::{self as text, SlidingNfpConfig};
 use crate::refusals::{self, Settings};
 use crate::seeded::Seeded;
 
+pub use runs::eventful;
+
 /// Words of the header.
 pub const HEADER: usize = 16;
 /// Most words of a room in the list.

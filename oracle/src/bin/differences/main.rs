@@ -6,6 +6,7 @@ mod answers;
 mod findings;
 mod inputs;
 mod mirrors;
+mod paths;
 
 use answers::{Answer, Function, FUNCTIONS, PASSES};
 use inputs::Input;
@@ -97,4 +98,5 @@ fn main() {
     println!("\n== findings");
     findings::print();
     mirrors::print();
+    paths::print();
 }

@@ -1,11 +1,13 @@
 //! Times the Rust and the library beside each other: the oracle's text over the
 //! fixed helpers, called straight, against the exported function with its
-//! refusals; the library's explanation of a collision against its check; and its
-//! calls in whole numbers against those in floats, and against plain Rust in i64.
+//! refusals; the check of a path against the text's pieces put together; the
+//! library's explanation of a collision against its check; and its calls in whole
+//! numbers against those in floats, and against plain Rust in i64.
 //! `bench [PART]` measures the rows whose name has this part, all of them without
 //! it, and prints tables of them.
 
 mod memory;
+mod paths;
 mod plain_book;
 mod plain_whole;
 mod plain_wkb;
@@ -22,6 +24,9 @@ type Heads = [&'static str; 3];
 
 /// The Rust beside the library: a ratio above 1 is the library being faster.
 const RUST: Heads = ["the Rust", "the library", "Rust / library"];
+
+/// The Rust's pieces put together beside the library's check of a path.
+const CHECKED: Heads = ["the Rust", "the library", "Rust / library, at least 1.5"];
 
 /// Two calls of the library: the ratio is what the explanation costs, and may be 1.25
 /// at most.
@@ -59,6 +64,7 @@ fn main() {
     let part = words.first().copied().unwrap_or("");
     println!("Median of {} runs by turns, one process, time of one call.\n", timing::RUNS);
     table("Calls", RUST, rows::calls(), part);
+    table("A path that another program traced", CHECKED, paths::paths(), part);
     table("Explain against the collision call", EXPLAINED, rows::explanations(), part);
     table("Whole numbers against floats", FLOATS, rows::whole_and_floats(), part);
     table("Whole numbers against plain Rust", INTEGERS, rows::whole_and_plain(), part);

@@ -22,7 +22,7 @@ pub struct Row {
 
 impl Row {
     /// The row with this name and these sides, and nothing to be said of them.
-    fn new(name: &str, sides: impl FnOnce() -> Sides + 'static) -> Self {
+    pub fn new(name: &str, sides: impl FnOnce() -> Sides + 'static) -> Self {
         Self { name: name.to_string(), sides: Box::new(|| (sides(), String::new())) }
     }
 }

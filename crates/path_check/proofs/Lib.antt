@@ -1,0 +1,6 @@
+-- The modules that belong to no one function.
+pub mod Search
+pub mod Placed
+pub mod Told
+pub mod Only
+pub mod Worked
