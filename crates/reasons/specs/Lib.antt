@@ -1,0 +1,6 @@
+-- What the theorems about reasons speak of.
+pub mod Sides
+pub mod Hull
+pub mod Moves
+pub mod Crossing
+pub mod Reason
