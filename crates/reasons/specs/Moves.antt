@@ -1,5 +1,5 @@
 -- A move: each corner goes from one point to another, all at one pace. Definitions only.
-use Prim.Native.Nat.{ℕ, _+_, _*_, _-_, _≤_, _<_}
+use Prim.Native.Nat.{ℕ, zero, suc, _+_, _*_, _-_, _≤_, _<_}
 use mathlib.Core.Path.{_≡_}
 use mathlib.Core.List.{List, [], _∷_}
 use Rattle.shifted.specs.declared.Spot.{Spot}
@@ -9,6 +9,15 @@ use Rattle.reasons.specs.Hull.{total, sumX, sumY}
 pub record Leg : Type 0 where
   pub from : Spot
   pub to : Spot
+
+-- the legs of so many corners from number k on, corner i going from a i to b i
+unfoldable pub legsFrom : (ℕ → Spot) → (ℕ → Spot) → ℕ → ℕ → List Leg
+legsFrom a b k zero = []
+legsFrom a b k (suc more) = record { from = a k; to = b k } ∷ legsFrom a b (suc k) more
+
+-- of n corners
+abbrev pub legs : (ℕ → Spot) → (ℕ → Spot) → ℕ → List Leg
+legs a b n = legsFrom a b 0 n
 
 -- both ends of every leg
 unfoldable pub way : List Leg → List Spot
