@@ -1,7 +1,7 @@
 -- The check says `clear` exactly if the lines are a reason, for numbers of any size. So where it does, at every time of the move
 -- no point of a stationary edge lies inside the moved polygon, and each point inside it lies outside the ring: of all that is
 -- proved here a reader need believe the definitions alone. Assumes nothing.
-use Prim.Native.Nat.{ℕ, suc, _+_, _*_, _/_, _%_, _≤_, _<_}
+use Prim.Native.Nat.{ℕ, suc, _+_, _*_, _/_, _≤_, _<_}
 use native.Mathlib.Nat.{mod-self, zero-mod}
 use native.Mathlib.Omega.{arith}
 use mathlib.Core.Path.{_≡_, refl, sym, ap, subst, _∙_}
@@ -19,7 +19,7 @@ use Rattle.reasons.specs.Reason.{marksUp, marksDown, Reason}
 use Rattle.reasons.specs.Parting.{parts}
 use Rattle.reasons.specs.Lowest.{lowSpot, lowest}
 use Rattle.reasons.specs.First.{firstFrom}
-use Rattle.reasons.specs.Check.{Ground, clear, edge, enclosed, balance, judged, groundOf, corner, lineFrom, lineTo, checkOf}
+use Rattle.reasons.specs.Check.{clear, edge, enclosed, balance, judged, groundOf, corner, lineFrom, lineTo, checkOf}
 use Rattle.reasons.proofs.First.{none-before, none-first}
 use Rattle.reasons.proofs.Parting.{parts-parted, parted-parts}
 use Rattle.reasons.proofs.Lowest.{low-among, low-level, low-only}
@@ -54,7 +54,7 @@ module _ (s : ℕ → Spot) (m : ℕ) (a b : ℕ → Spot) (n : ℕ) (p q : ℕ 
         closed = closed;
         parted =
             λ j l. parts-parted a b n (s j) (s (suc j)) (p j) (q j)
-                (not-false (test j) (none-before (λ j. not (test j)) 0 m j (omega arith) (omega (arith, c .0))));
+            (not-false (test j) (none-before (λ j. not (test j)) 0 m j (omega arith) (omega (arith, c .0))));
         among = low-among a b n some;
         lowest = low-level a b n;
         balanced = eqb-true _ _ (c .1);
@@ -65,10 +65,10 @@ module _ (s : ℕ → Spot) (m : ℕ) (a b : ℕ → Spot) (n : ℕ) (p q : ℕ 
   reason-ground {low} r =
       let e : low .y ≡ lowest a b n = low-only a b n some low (r .among) (r .lowest) in
       let f : firstFrom (λ j. not (test j)) 0 m ≡ 0 + m =
-          none-first (λ j. not (test j)) 0 m
-          (λ j l k. ap not (parted-parts a b n (s j) (s (suc j)) (p j) (q j) (r .parted j (omega arith)))) in
+      none-first (λ j. not (test j)) 0 m
+      (λ j l k. ap not (parted-parts a b n (s j) (s (suc j)) (p j) (q j) (r .parted j (omega arith)))) in
       let g : marksUp (lowest a b n) p q s m ≡ marksDown (lowest a b n) p q s m =
-          subst (λ (h : ℕ). marksUp h p q s m ≡ marksDown h p q s m) e (r .balanced) in
+      subst (λ (h : ℕ). marksUp h p q s m ≡ marksDown h p q s m) e (r .balanced) in
       clear-judged m _ _ (omega arith) (eq-eqb _ _ g)
 
 -- ---- of lists: the check
@@ -85,7 +85,7 @@ module _ (st a b ls : List ℕ) (some : 0 < length a / 2) where
 
   pub check-exactly : checkOf st a b ls ≡ clear
       ↔ Reason (way (legs (spotAt a) (spotAt b) (length a / 2))) (lowSpot (spotAt a) (spotAt b) (length a / 2))
-          (corner st) (lineFrom ls) (lineTo ls) (length st / 2)
+      (corner st) (lineFrom ls) (lineTo ls) (length st / 2)
   check-exactly =
       (ground-reason (corner st) _ (spotAt a) (spotAt b) _ (lineFrom ls) (lineTo ls) ring-closed some, reason-check)
 
@@ -97,5 +97,6 @@ module _ (st a b ls : List ℕ) (some : 0 < length a / 2) where
         → g * corner st j .x + h * corner st (suc j) .x ≡ X → g * corner st j .y + h * corner st (suc j) .y ≡ Y → ⊥
     check-never-on-an-edge = never-on-an-edge (check-exactly .0 found) u v l X Y i
 
-    pub check-ever-outside : ups (corner st) (length st / 2) ((u + v) * l) X Y ≡ downs (corner st) (length st / 2) ((u + v) * l) X Y
+    pub check-ever-outside : ups (corner st) (length st / 2) ((u + v) * l) X Y
+        ≡ downs (corner st) (length st / 2) ((u + v) * l) X Y
     check-ever-outside = ever-outside (check-exactly .0 found) u v l X Y i

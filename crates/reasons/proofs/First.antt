@@ -46,7 +46,8 @@ unfolding firstFrom
 none-before t k zero i l h = absurd (omega arith)
 none-before t k (suc n) i l h = go (t k) refl (none-before t (suc k) n i) h
   where
-    go : (b : Bool) → t k ≡ b → (k < i → i < firstFrom t (suc k) n → t i ≡ false) → i < cond b k (firstFrom t (suc k) n) → t i ≡ false
+    go : (b : Bool) → t k ≡ b → (k < i → i < firstFrom t (suc k) n → t i ≡ false)
+        → i < cond b k (firstFrom t (suc k) n) → t i ≡ false
     go true e rest h = absurd (omega arith)
     go false e rest h = ⊎-elim (λ q. subst (λ (j : ℕ). t j ≡ false) q e) (λ g. rest g h) (eq-or-lt-of-le l)
 

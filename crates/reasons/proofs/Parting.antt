@@ -5,7 +5,7 @@ use native.Mathlib.Omega.{arith}
 use mathlib.Core.Path.{_≡_, refl, sym, _∙_}
 use mathlib.Core.Bool.{Bool, true, false, not, _&&_, true≢false}
 use lib.Dec.{eqb}
-use borrow.Author.Tests.{leb-true, le-leb, eqb-true, eq-eqb, not-true}
+use borrow.Author.Tests.{leb-true, le-leb, eqb-true, eq-eqb}
 use Rattle.laws.proofs.Both.{both}
 use Rattle.ring.specs.Each.{each}
 use Rattle.shifted.specs.declared.Spot.{Spot}
@@ -43,7 +43,8 @@ module _ (p q v : Spot) where
 
 module _ (a b : ℕ → Spot) (p q : Spot) where
   -- each corner, at the start and at the end
-  pub all-left : (k n : ℕ) → ((i : ℕ) → k ≤ i → i < k + n → Left p q (a i) × Left p q (b i)) → AllLeft p q (way (legsFrom a b k n))
+  pub all-left : (k n : ℕ) → ((i : ℕ) → k ≤ i → i < k + n → Left p q (a i) × Left p q (b i))
+      → AllLeft p q (way (legsFrom a b k n))
   unfolding way legsFrom
   all-left k zero h = tt
   all-left k (suc n) h =

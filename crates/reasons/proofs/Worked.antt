@@ -1,5 +1,5 @@
--- The definitions say something: S and Q of SCOPE's measured pieces, Q sliding by (2, 0) below S, each coordinate 10 more. A point
--- within S is told from one below it; the middle of Q half-way is inside, and by the theorem outside S.
+-- The definitions say something: S and Q of SCOPE's measured pieces, Q sliding by (2, 0) below S, each coordinate 10 more. A
+-- point within S is told from one below it; the middle of Q half-way is inside, and by the theorem outside S.
 use mathlib.Core.Path.{_≡_, refl}
 use Prim.Native.Nat.{ℕ, zero, suc, _<_}
 use native.Mathlib.Omega.{arith}

@@ -1,5 +1,6 @@
 -- The check of a reason: whether each line parts its edge from the way, and then the balance. All lists hold x, y, x, y .. moved
--- up: st the stationary corners, a the orbiting ones at the start, b at the end, ls the points p, q of each line. Definitions only.
+-- up: st the stationary corners, a the orbiting ones at the start, b at the end, ls the points p, q of each line. Definitions
+-- only.
 use Prim.Native.Nat.{ℕ, suc, _+_, _*_, _/_, _%_}
 use mathlib.Core.Bool.{Bool, not, cond}
 use mathlib.Core.List.{List}
@@ -41,6 +42,15 @@ lineFrom ls j = spotAt ls (2 * j)
 
 abbrev pub lineTo : List ℕ → ℕ → Spot
 lineTo ls j = spotAt ls (2 * j + 1)
+
+-- the balance of these lines at the height h
+abbrev pub balanceAt : List ℕ → List ℕ → ℕ → Bool
+balanceAt st ls h = balance h (lineFrom ls) (lineTo ls) (corner st) (length st / 2)
+
+-- the line of edge j parts it from the way
+abbrev pub partsAt : List ℕ → List ℕ → List ℕ → List ℕ → ℕ → Bool
+partsAt st a b ls j =
+    parts (spotAt a) (spotAt b) (length a / 2) (corner st j) (corner st (suc j)) (lineFrom ls j) (lineTo ls j)
 
 abbrev pub checkOf : List ℕ → List ℕ → List ℕ → List ℕ → Ground
 checkOf st a b ls =

@@ -1,5 +1,5 @@
--- Whether a line parts an edge from a way, as it is computed. The way's corner i is at `a i` at the start and at `b i` at the end.
--- Definitions only.
+-- Whether a line parts an edge from a way, as it is computed. The way's corner i is at `a i` at the start and at `b i` at the
+-- end. Definitions only.
 use Prim.Native.Nat.{ℕ, _+_, _*_}
 use mathlib.Core.Bool.{Bool, not, _&&_}
 use lib.Dec.{leb, eqb}
