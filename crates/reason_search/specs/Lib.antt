@@ -1,0 +1,3 @@
+-- The definitions that the contracts of reason_search cite.
+pub mod Lines
+pub mod Search
