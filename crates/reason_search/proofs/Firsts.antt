@@ -10,8 +10,9 @@ use Rattle.shifted.specs.declared.Spot.{Spot}
 use Rattle.reasons.specs.Parting.{differ, wayLeft, edgeRight, parts}
 use Rattle.reasons.specs.First.{firstFrom}
 use Rattle.reasons.proofs.First.{first-later, first-same}
-use Rattle.reason_search.specs.Lines.{wayLine, lineOf, useful}
-use Rattle.reason_search.specs.Search.{tried, wayLines, firstLine, helpful, firstOfWay}
+use Rattle.reason_search.specs.Lines.{wayLine, lineOf}
+use Rattle.reason_search.specs.Search.{tried, firstLine}
+use Rattle.reason_search.specs.Noted.{useful, wayLines, helpful, firstOfWay}
 
 grouped : (d w e : Bool) → (d && w) && e ≡ d && (w && e)
 grouped true w e = refl

@@ -13,8 +13,8 @@ use Rattle.shifted.specs.Shifted.{spotAt}
 use Rattle.shifted.specs.declared.Spot.{Spot}
 use Rattle.reasons.specs.Crossing.{one}
 use Rattle.reasons.specs.Parting.{edgeRight}
-use Rattle.reason_search.specs.Lines.{wayLine, useful}
-use Rattle.reason_search.specs.Search.{wayLines, Noted, helpful}
+use Rattle.reason_search.specs.Lines.{wayLine}
+use Rattle.reason_search.specs.Noted.{useful, wayLines, Noted, helpful}
 use Rattle.reason_search.specs.declared.Line.{Line}
 
 -- ---- noted

@@ -20,7 +20,8 @@ use Rattle.reasons.specs.Check.{clear, edge, enclosed, balance, judged, groundO
 use Rattle.reasons.specs.Check.{balanceAt, partsAt, checkOf}
 use Rattle.reasons.proofs.First.{first-most, first-passes, none-before, none-first}
 use Rattle.reasons.proofs.Exactly.{judged-clear, clear-judged}
-use Rattle.reason_search.specs.Search.{tried, firstLine, taken, lineAt, reached, searchOf, numbers, linesTo, roomOf}
+use Rattle.reason_search.specs.Search.{tried, firstLine, taken, lineAt, reached, searchOf}
+use Rattle.reason_search.specs.Room.{numbers, linesTo, roomOf}
 use Rattle.reason_search.proofs.Firsts.{test}
 use Rattle.reason_search.proofs.Laying.{length-lines, lost}
 

@@ -15,7 +15,8 @@ use Rattle.shifted.specs.declared.Spot.{Spot}
 use Rattle.reasons.specs.Check.{corner}
 use Rattle.reasons.proofs.First as row
 use Rattle.reason_search.specs.Lines.{lineOf}
-use Rattle.reason_search.specs.Search.{tried, firstLine, taken, lineAt, reached, numbers, linesTo, roomOf}
+use Rattle.reason_search.specs.Search.{tried, firstLine, taken, lineAt, reached}
+use Rattle.reason_search.specs.Room.{numbers, linesTo, roomOf}
 use Rattle.reason_search.specs.declared.Line.{Line}
 
 -- ---- a room

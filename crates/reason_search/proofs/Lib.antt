@@ -4,4 +4,5 @@ pub mod Flags
 pub mod Firsts
 pub mod Laying
 pub mod Found
+pub mod Within
 pub mod Worked

@@ -7,19 +7,20 @@ use Rattle.ring.specs.Ring.{nextOf}
 use Rattle.shifted.specs.Shifted.{Small}
 use Rattle.shifted.specs.declared.Spot.{Spot}
 use Rattle.reasons.specs.Parting.{differ, wayLeft}
-use Rattle.reason_search.specs.Lines.{line, sixth, wayLine, lineOf, useful}
+use Rattle.reason_search.specs.Lines.{line, sixth, wayLine, lineOf}
+use Rattle.reason_search.specs.Noted.{useful}
 use Rattle.reason_search.specs.declared.Line.{Line}
 
 -- ---- of a corner
 
-abbrev Fit : Line → Type 0
+abbrev pub Fit : Line → Type 0
 Fit l = Small (l .p) × Small (l .q)
 
 pub sixth-last : (c : ℕ) (u u' v v' : Spot) → 5 ≤ c → line v u ≡ sixth c u u' v v'
 unfolding sixth
 sixth-last c u u' v v' h = let e : c ≡ suc (suc (suc (suc (suc (c - 5))))) = omega arith in rw e
 
-sixth-fits : (c : ℕ) (u u' v v' : Spot) → Small u → Small u' → Small v → Small v' → Fit (sixth c u u' v v')
+pub sixth-fits : (c : ℕ) (u u' v v' : Spot) → Small u → Small u' → Small v → Small v' → Fit (sixth c u u' v v')
 unfolding sixth
 sixth-fits zero u u' v v' h h' k k' = (h, h')
 sixth-fits (suc zero) u u' v v' h h' k k' = (h', h)

@@ -10,7 +10,8 @@ use Rattle.reasons.specs.Lowest.{lower, lowSpot}
 use Rattle.reasons.specs.First.{firstFrom}
 use Rattle.reasons.specs.Check.{clear, edge, enclosed, balance, judged}
 use Rattle.reason_search.specs.Lines.{sixth, wayLine, lineOf}
-use Rattle.reason_search.specs.Search.{firstLine, taken, reached, searchOf, linesTo}
+use Rattle.reason_search.specs.Search.{firstLine, taken, reached, searchOf}
+use Rattle.reason_search.specs.Room.{linesTo}
 
 abbrev S : List ℕ
 S = 10 ∷ 10 ∷ 14 ∷ 10 ∷ 14 ∷ 14 ∷ 10 ∷ 14 ∷ []

@@ -1,9 +1,7 @@
 -- The lines that are tried for an edge, in their order: its own, and then six for each corner of the way. Definitions only.
 use Prim.Native.Nat.{ℕ, zero, suc, _/_, _%_}
-use mathlib.Core.Bool.{Bool, _&&_}
 use Rattle.ring.specs.Ring.{nextOf}
 use Rattle.shifted.specs.declared.Spot.{Spot}
-use Rattle.reasons.specs.Parting.{differ, wayLeft}
 use Rattle.reason_search.specs.declared.Line.{Line}
 
 abbrev pub line : Spot → Spot → Line
@@ -31,7 +29,3 @@ unfoldable pub lineOf : (ℕ → Spot) → (ℕ → Spot) → ℕ → Spot → S
 lineOf a b n s t zero = line s t
 lineOf a b n s t (suc zero) = line t s
 lineOf a b n s t (suc (suc c)) = wayLine a b n c
-
--- line c of the way has two points, and the whole way left of it or on it
-unfoldable pub useful : (ℕ → Spot) → (ℕ → Spot) → ℕ → ℕ → Bool
-useful a b n c = let l = wayLine a b n c in differ (l .p) (l .q) && wayLeft a b n (l .p) (l .q)

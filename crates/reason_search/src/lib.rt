@@ -18,9 +18,10 @@ ghost use Rattle.shifted.specs.Shifted.{Small, spotAt};
 ghost use Rattle.reasons.specs.Crossing.{one};
 ghost use Rattle.reason_check.specs.Lent.{WayLent};
 ghost use Rattle.reason_check.specs.Told.{ground};
-ghost use Rattle.reason_search.specs.Lines.{sixth, lineOf, useful};
-ghost use Rattle.reason_search.specs.Search.{tried, firstLine, reached, searchOf, numbers, roomOf};
-ghost use Rattle.reason_search.specs.Search.{SearchLent, wayLines, lineIn, Noted, Prepared, helpful, firstOfWay};
+ghost use Rattle.reason_search.specs.Lines.{sixth, lineOf};
+ghost use Rattle.reason_search.specs.Search.{tried, firstLine, reached, searchOf};
+ghost use Rattle.reason_search.specs.Room.{SearchLent, numbers, roomOf};
+ghost use Rattle.reason_search.specs.Noted.{useful, wayLines, lineIn, Noted, Prepared, helpful, firstOfWay};
 
 // A line, by two points.
 pub struct Line {

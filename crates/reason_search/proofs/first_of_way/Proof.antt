@@ -3,7 +3,7 @@ use Prim.Native.Nat.{_-_}
 use native.Mathlib.Omega.{arith}
 use borrow.Author.Needs.{needs}
 use Rattle.reasons.proofs.First.{Rest, start, turn, here, end}
-use Rattle.reason_search.specs.Search.{wayLines, helpful}
+use Rattle.reason_search.specs.Noted.{wayLines, helpful}
 use Rattle.reason_search.proofs.first_of_way.Statement.{statement}
 use Rattle.reason_search.proofs.first_of_way.Tie as tie
 
