@@ -1,0 +1,3 @@
+-- The definitions that the contracts of the calls on whole moves cite.
+pub mod Rows
+pub mod Calls
