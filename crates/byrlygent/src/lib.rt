@@ -1,6 +1,7 @@
 // The exported functions: what a layout program links and calls as C. All but the scalars return 0 or the refusal's number.
 pub mod book;
 pub mod disc;
+pub mod path;
 pub mod places;
 pub mod rings;
 pub mod scalars;

@@ -11,6 +11,8 @@ use Rattle.refusals.specs.Refusals.{refusedBook, refusedFew, refusedSetting, re
 use Rattle.handed.specs.Handed.{refusalIn, returned, told, toldFound, placeOf, toldPlace, itself, flag, isFound, hitDistance, hitKind, hitStationary, hitOrbiting}
 use Rattle.handed.specs.Explanations.{hitIn, withHit, othersTold, groundIn, nearIn, betweenIn, farIn}
 use Rattle.handed.specs.Places.{placesIn, followingIn}
+use Rattle.handed.specs.Verdicts.{faultNumber, faultIndex, indexIn}
+use Rattle.path_check.specs.declared.Fault.the-variants.{Nothing as Accepted, Leg}
 
 -- a book of two rings: 0, the count, and no place
 abbrev read : Outcome ℕ
@@ -190,3 +192,16 @@ no-shift = refuses (refuse refusedInspection 0)
 no-shift-told : (returned no-shift ≡ 13) × (told followingIn no-shift 20 ≡ 20) × (told placesIn no-shift 9 ≡ 9)
 unfolding refusalIn told
 no-shift-told = (refl, refl, refl)
+
+-- a path whose leg 3 runs into something: 2, and where; and one that is accepted: 0, and the index as it was
+blocked-fault : told faultNumber (answers (Leg 3)) 9 ≡ 2
+unfolding told faultNumber
+blocked-fault = refl
+
+blocked-index : toldFound itself (indexIn (answers (Leg 3))) 9 ≡ 3
+unfolding toldFound faultIndex
+blocked-index = refl
+
+accepted-index : toldFound itself (indexIn (answers Accepted)) 9 ≡ 9
+unfolding toldFound faultIndex
+accepted-index = refl

@@ -4,3 +4,4 @@ pub mod Explanations
 pub mod Traces
 pub mod Mends
 pub mod Places
+pub mod Verdicts

@@ -6,4 +6,5 @@ pub mod places;
 pub mod refusal;
 pub mod trace;
 pub mod value;
+pub mod verdict;
 pub mod whole;

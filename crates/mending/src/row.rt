@@ -1,11 +1,9 @@
 // The tests of a ring to mend, of what is left of it, and of the three rooms.
-use refusals::REFUSED_FEW;
-use refusals::REFUSED_LENGTH;
-use refusals::REFUSED_MANY;
 use refusals::REFUSED_REMAINING;
 use refusals::Refusal;
 use refusals::VERTICES_LEAST;
 use refusals::VERTICES_MOST;
+use refusals::lists::fault;
 use refusals::row::rooms;
 use refusals::screen::first;
 use refusals::screen::fit;
@@ -20,14 +18,7 @@ ghost use Rattle.mending.specs.Rows.{mendableExtent, ofMendable, ofMendi
 fn length(ring: &[f64]) -> Refusal
     ensures { λ r. ⌜ r ≡ listFault (mendableExtent (now (ring .entry))) 0 ⌝ }
 {
-    if ring.len() % 2 != 0 {
-        return Refusal::new(REFUSED_LENGTH, 0);
-    }
-    let n = ring.len() / 2;
-    if n < 1 {
-        return Refusal::new(REFUSED_FEW, 0);
-    }
-    unless(n <= VERTICES_MOST, REFUSED_MANY, 0)
+    fault(ring.len(), 2, 1, VERTICES_MOST, 0)
 }
 
 // A ring of 1 to 256 vertices. The numbers of one with a fault are not read.

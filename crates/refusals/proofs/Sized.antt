@@ -71,7 +71,7 @@ unfolding ofList
 is-list r tol h =
     fine (pointsExtent r) 0 (row-parts (listFault (pointsExtent r) 0) (first (wrongInfinite r) (wrongTolerance tol)) h .0) .whole
 
-is-polygon : (r : List Float) → Fine (polygonExtent r) → Polygon r
+pub is-polygon : (r : List Float) → Fine (polygonExtent r) → Polygon r
 is-polygon r f = record { even = f .whole; least = omega (arith, f .whole, f .enough); most = omega (arith, f .whole, f .within) }
 
 -- a polygon that is not refused

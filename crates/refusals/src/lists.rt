@@ -18,7 +18,7 @@ ghost use Rattle.refusals.specs.Lists.{Extent, listFault, faultOf, ringE
 ghost use Rattle.refusals.specs.Lists.{vectorsExtent, ringsExtent, countExtent};
 
 // A list of size numbers, of which each entry has so many, in its place.
-fn fault(size: usize, width: usize, least: usize, most: usize, place: u64) -> Refusal
+pub fn fault(size: usize, width: usize, least: usize, most: usize, place: u64) -> Refusal
     requires { ⌜ 1 ≤ width ⌝ }
     ensures { λ r. ⌜ r ≡ listFault (record { width = width; least = least; most = most; size = size }) place ⌝ }
 {

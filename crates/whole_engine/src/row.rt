@@ -1,9 +1,8 @@
 // The tests of what the calls are lent: the numbers of single points, and a ring.
-use refusals::REFUSED_LENGTH;
-use refusals::REFUSED_MANY;
 use refusals::REFUSED_NUMBER;
 use refusals::Refusal;
 use refusals::VERTICES_MOST;
+use refusals::lists::fault;
 use refusals::screen::unless;
 use shifted::is_within;
 ghost use mathlib.Core.Path.{_≡_};
@@ -36,10 +35,7 @@ pub fn numbers(list: &[i32]) -> Refusal
 fn length(list: &[i32]) -> Refusal
     ensures { λ r. ⌜ r ≡ listFault (wholeExtent (now (list .entry))) 0 ⌝ }
 {
-    if list.len() % 2 != 0 {
-        return Refusal::new(REFUSED_LENGTH, 0);
-    }
-    unless(list.len() / 2 <= VERTICES_MOST, REFUSED_MANY, 0)
+    fault(list.len(), 2, 0, VERTICES_MOST, 0)
 }
 
 // A ring of 0 to 256 vertices. The numbers of one with a fault are not read.

@@ -1,0 +1,5 @@
+-- The modules that belong to no one function.
+pub mod Search
+pub mod Placed
+pub mod Told
+pub mod Worked
