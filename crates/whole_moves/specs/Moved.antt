@@ -1,4 +1,5 @@
--- Whole coordinates x, y, x, y .. moved by a whole move, and numbers that were moved up by a million brought down again. Definitions only.
+-- Whole coordinates x, y, x, y .. moved by a whole move, and numbers that were moved up by a million brought down again.
+-- Definitions only.
 use Prim.Native.Nat.{ℕ}
 use mathlib.Core.List.{List, [], _∷_, map}
 use lib.IntN.{ℤ, pos, negsuc, _+ℤ_}
