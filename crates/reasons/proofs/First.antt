@@ -1,33 +1,51 @@
 -- The first number of a row that passes a test: a loop that looks for it, where what is left of the row decides; that it passes,
--- and that none before it does. Assumes nothing.
+-- and none before it; and the same row counted or tested otherwise. Assumes nothing.
 use Prim.Native.Nat.{ℕ, zero, suc, _+_, _-_, _≤_, _<_}
 use native.Mathlib.Nat.{eq-or-lt-of-le}
 use native.Mathlib.Numerals.{add-one}
 use native.Mathlib.Omega.{arith}
-use mathlib.Core.Path.{_≡_, refl, subst}
+use mathlib.Core.Path.{_≡_, refl, sym, subst, _∙_}
 use mathlib.Core.Logic.{⊎-elim}
 use mathlib.Core.Bool.{Bool, true, false, cond}
 use Rattle.reasons.specs.First.{firstFrom}
 
 -- ---- a loop
 
-module _ (t : ℕ → Bool) (k n : ℕ) where
-  one-less : k < n → n - k ≡ suc (n - (k + 1))
-  one-less h = omega arith
+module _ (t : ℕ → Bool) (n : ℕ) where
+  -- the first of all is the first of those from k on
+  pub record Rest (k : ℕ) : Type 0 where
+    pub most : k ≤ n
+    pub left : firstFrom t 0 n ≡ firstFrom t k (n - k)
 
-  pub first-here : k < n → t k ≡ true → firstFrom t k (n - k) ≡ k
-  unfolding firstFrom
-  first-here h e = rw (one-less h, e)
+  pub start : Rest 0
+  start = let e : n - 0 ≡ n = omega arith in record { most = omega arith; left = rw e }
 
-  pub first-on : k < n → t k ≡ false → firstFrom t k (n - k) ≡ firstFrom t (k + 1) (n - (k + 1))
-  unfolding firstFrom
-  first-on h e = rw (one-less h, e, add-one k)
+  module _ {k : ℕ} (R : Rest k) where
+    one-less : k < n → n - k ≡ suc (n - (k + 1))
+    one-less h = omega arith
 
-  pub first-end : n ≤ k → firstFrom t k (n - k) ≡ k
-  unfolding firstFrom
-  first-end h = let e : n - k ≡ 0 = omega arith in rw e
+    pub turn : {x : Bool} → k < n → x ≡ t k → x ≡ false → Rest (k + 1)
+    unfolding firstFrom
+    turn h e f = record { most = omega arith; left = R .left ∙ (rw (one-less h, ← e, f, add-one k)) }
+
+    pub here : {x : Bool} → k < n → x ≡ t k → x ≡ true → k ≡ firstFrom t 0 n
+    unfolding firstFrom
+    here h e f = sym (R .left ∙ (rw (one-less h, ← e, f)))
+
+    pub end : n ≤ k → k ≡ firstFrom t 0 n
+    unfolding firstFrom
+    end h = let e : n - k ≡ 0 = omega arith in sym (R .left ∙ (rw e))
 
 -- ---- what it tells
+
+pub first-most : (t : ℕ → Bool) (k n : ℕ) → firstFrom t k n ≤ k + n
+unfolding firstFrom
+first-most t k zero = omega arith
+first-most t k (suc n) = go (t k) (first-most t (suc k) n)
+  where
+    go : (b : Bool) → firstFrom t (suc k) n ≤ suc k + n → cond b k (firstFrom t (suc k) n) ≤ k + suc n
+    go true h = omega arith
+    go false h = omega arith
 
 -- it passes
 pub first-passes : (t : ℕ → Bool) (k n : ℕ) → firstFrom t k n < k + n → t (firstFrom t k n) ≡ true
@@ -58,3 +76,22 @@ none-first t k zero h = omega arith
 none-first t k (suc n) h =
     rw (h k (omega arith) (omega arith))
     (let e = none-first t (suc k) n (λ i l m. h i (omega arith) (omega arith)) in omega arith)
+
+-- ---- other rows
+
+-- a row that starts one later
+pub first-later : (t : ℕ → Bool) (k n : ℕ) → firstFrom t (suc k) n ≡ suc (firstFrom (λ i. t (suc i)) k n)
+unfolding firstFrom
+first-later t k zero = refl
+first-later t k (suc n) = go (t (suc k)) (first-later t (suc k) n)
+  where
+    go : (b : Bool) → firstFrom t (suc (suc k)) n ≡ suc (firstFrom (λ i. t (suc i)) (suc k) n)
+        → cond b (suc k) (firstFrom t (suc (suc k)) n) ≡ suc (cond b k (firstFrom (λ i. t (suc i)) (suc k) n))
+    go true e = refl
+    go false e = e
+
+-- another test that says the same
+pub first-same : (t u : ℕ → Bool) (k n : ℕ) → ((i : ℕ) → t i ≡ u i) → firstFrom t k n ≡ firstFrom u k n
+unfolding firstFrom
+first-same t u k zero h = refl
+first-same t u k (suc n) h = rw (h k, first-same t u (suc k) n h)

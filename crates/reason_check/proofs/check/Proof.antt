@@ -1,25 +1,19 @@
 -- `reason_check::check` meets its contract. The invariant: the edges from j on decide. Assumes nothing.
-use Prim.Native.Nat.{_-_, _/_}
+use Prim.Native.Nat.{_-_}
 use native.Mathlib.Omega.{arith}
 use borrow.Author.Needs.{needs}
-use lib.ListN.{length}
-use Rattle.shifted.specs.Shifted.{spotAt}
-use Rattle.reasons.specs.Lowest.{lowest}
-use Rattle.reasons.specs.Check.{balanceAt, groundOf, partsAt}
-use Rattle.reason_check.proofs.Edges.{Rest, start, turn, stop, all-clear, all-enclosed}
+use Rattle.reason_check.proofs.Edges.{Edges, start, turn, stop, all-clear, all-enclosed}
 use Rattle.reason_check.proofs.check.Statement.{statement}
 use Rattle.reason_check.proofs.check.Tie as tie
 
 abbrev Inv-loop : tie.InvT-loop
-Inv-loop st a b ls m j₀ j =
-    Rest (partsAt st a b ls) (length st / 2)
-    (balanceAt st ls (lowest (spotAt a) (spotAt b) (length a / 2))) j
+Inv-loop st a b ls m j₀ j = Edges st a b ls j
 
 abbrev μ-loop : tie.MeasureT-loop
 μ-loop st a b ls m j₀ j = m - j
 
 loop-holds : tie.Need-loop-holds Inv-loop μ-loop
-loop-holds c = start _ _ _
+loop-holds c = start _ _ _ _
 
 parts-edge-requires : tie.Need-parts-edge-requires Inv-loop μ-loop
 parts-edge-requires c κs = search needs
@@ -33,13 +27,12 @@ loop-less c = omega arith
 loop-again : tie.Need-loop-again Inv-loop μ-loop
 loop-again c =
     let l = c .before .before in
-    turn _ _ _ (l .before .loop .inv) (l .loop-test .taken) (c .before .parts-edge .ensures) (c .if1 .taken)
+    turn _ _ _ _ (l .before .loop .inv) (l .loop-test .taken) (c .before .parts-edge .ensures) (c .if1 .taken)
 
 returns : tie.Need-returns Inv-loop μ-loop
-unfolding groundOf
 returns c =
     let l = c .before .before in
-    stop _ _ _ (l .before .loop .inv) (l .loop-test .taken) (c .before .parts-edge .ensures) (c .if1 .left)
+    stop _ _ _ _ (l .before .loop .inv) (l .loop-test .taken) (c .before .parts-edge .ensures) (c .if1 .left)
 
 lowest-requires : tie.Need-lowest-requires Inv-loop μ-loop
 lowest-requires c κs = search needs
@@ -48,17 +41,15 @@ balanced-requires : tie.Need-balanced-requires Inv-loop μ-loop
 balanced-requires c κs = search needs
 
 returns-2 : tie.Need-returns-2 Inv-loop μ-loop
-unfolding groundOf
 returns-2 c =
-    let l = c .before .before .before in
-    all-clear _ _ _ _ _ _ (l .before .loop .inv) (l .loop-test .left) (c .before .before .lowest .ensures)
+    let w = c .before .before in
+    all-clear _ _ _ _ (w .before .before .loop .inv) (w .before .loop-test .left) (w .lowest .ensures)
     (c .before .balanced .ensures) (c .if2 .taken)
 
 returns-3 : tie.Need-returns-3 Inv-loop μ-loop
-unfolding groundOf
 returns-3 c =
-    let l = c .before .before .before in
-    all-enclosed _ _ _ _ _ _ (l .before .loop .inv) (l .loop-test .left) (c .before .before .lowest .ensures)
+    let w = c .before .before in
+    all-enclosed _ _ _ _ (w .before .before .loop .inv) (w .before .loop-test .left) (w .lowest .ensures)
     (c .before .balanced .ensures) (c .if2 .left)
 
 pub check-spec : {M : Type 1} → statement M
