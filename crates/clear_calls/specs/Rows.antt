@@ -1,5 +1,6 @@
--- The refusals of the calls on whole moves: 1, 8 and 9 of the lists, then 2, of a corner at the end of the move too. Definitions only.
-use Prim.Native.Nat.{ℕ, _/_}
+-- The refusals of the calls on whole moves: 1, 8 and 9 of the lists, then 2, of a corner at the end of the move too.
+-- Definitions only.
+use Prim.Native.Nat.{_/_}
 use mathlib.Core.List.{List, [], _∷_}
 use lib.ListN.{length}
 use lib.IntN.{ℤ}
