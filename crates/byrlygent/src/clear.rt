@@ -5,7 +5,7 @@ use handed::refusal::hand_refusal;
 ghost use mathlib.Core.Path.{_≡_};
 ghost use lib.ListN.{length};
 ghost use Rattle.handed.specs.Handed.{returned, told, toldFound, toldPlace, itself};
-ghost use Rattle.handed.specs.Clear.{moveGround, edgeIn, pathGround, legIn, legEdgeIn};
+ghost use Rattle.handed.specs.Clear.{moveGround, edgeIn, legGround, legIn, legEdgeIn};
 ghost use Rattle.clear_calls.specs.Calls.{clearMoveCall, clearMoveRoom, checkReasonCall};
 ghost use Rattle.clear_path.specs.Calls.{clearPathCall};
 
@@ -95,7 +95,7 @@ pub extern "C" fn byr_whole_clear_path(
 ) -> u32
     ensures { λ r. ⌜ r ≡ returned (clearPathCall (now (stationary .entry)) (now (orbiting .entry)) (now (path .entry))) ⌝ }
     ensures { λ _.
-        ⌜ now (ground .exit) ≡ told pathGround
+        ⌜ now (ground .exit) ≡ told legGround
         (clearPathCall (now (stationary .entry)) (now (orbiting .entry)) (now (path .entry))) (now (ground .entry)) ⌝ }
     ensures { λ _.
         ⌜ now (leg .exit) ≡ toldFound itself
