@@ -1,0 +1,3 @@
+-- What is printed for an input: every byte. Definitions only.
+-- An input is the move, two words of four bytes, and then a book whose first ring is the stationary polygon and whose second is the orbiting one, at
+-- the start.
