@@ -1,2 +1,2 @@
--- The definitions that the program on whole moves cites of its input.
+-- The definitions that the contracts of whole_input cite.
 pub mod Whole

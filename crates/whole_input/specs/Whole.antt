@@ -1,6 +1,6 @@
 -- Whole numbers in a program's input: words of four bytes with a sign, and floats that are whole numbers. Definitions only.
 use Prim.Native.Nat.{ℕ, _-_}
-use mathlib.Core.Bool.{Bool, _&&_, cond}
+use mathlib.Core.Bool.{Bool, cond}
 use mathlib.Core.List.{List, map}
 use lib.Dec.{ltb}
 use lib.ListN.{take, drop}
