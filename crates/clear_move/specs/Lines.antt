@@ -14,13 +14,14 @@ unfoldable pub signed : ℤ → List ℕ
 signed (pos n) = decimal n
 signed (negsuc n) = 45 ∷ decimal (suc n)
 
+-- number i of a list, and what follows it
+abbrev pub field : List ℤ → ℕ → List ℕ → List ℕ
+field ls i after = signed (getD ls i (pos 0)) ++ after
+
 -- the line of edge j: p.x p.y q.x q.y of a reason's numbers
 unfoldable pub reasonLine : List ℤ → ℕ → List ℕ
 reasonLine ls j =
-    signed (getD ls (4 * j) (pos 0))
-    ++ (space
-    ++ (signed (getD ls (4 * j + 1) (pos 0))
-    ++ (space ++ (signed (getD ls (4 * j + 2) (pos 0)) ++ (space ++ (signed (getD ls (4 * j + 3) (pos 0)) ++ newline))))))
+    field ls (4 * j) space ++ (field ls (4 * j + 1) space ++ (field ls (4 * j + 2) space ++ field ls (4 * j + 3) newline))
 
 -- those of the first m edges
 unfoldable pub reasonLines : List ℤ → ℕ → List ℕ

@@ -1,11 +1,12 @@
--- What is printed for an input: every byte. An input is the move, two words of four bytes, and then a book whose first ring is the stationary polygon and
--- whose second is the orbiting one, at the start. Definitions only.
+-- What is printed for an input: every byte. An input is the move, two words of four bytes, and then a book whose first ring is the
+-- stationary polygon and whose second is the orbiting one, at the start. Definitions only.
 use Prim.Native.Nat.{ℕ, _/_}
 use mathlib.Core.Bool.{cond}
 use mathlib.Core.List.{List}
 use lib.Dec.{ltb, eqb}
 use lib.ListN.{length, drop}
 use lib.IntN.{ℤ}
+use lib.Ieee.{Float}
 use Rattle.refusals.specs.Refusals.{refusedNumber, refusedBook, refusedFew, refuse, passed}
 use Rattle.book_layout.specs.Faults.{bookCheck}
 use Rattle.book_layout.specs.Layout.{countsOf}
@@ -24,15 +25,18 @@ roomSize = 1024
 unfoldable pub pairText : List ℤ → List ℤ → ℤ → ℤ → List ℕ
 pairText st orb dx dy = judgedText (clearMoveCall st orb dx dy roomSize) (reasonOf st orb dx dy) (length st / 2)
 
--- a right book: of one ring the orbiting polygon has too few corners; a coordinate that is not whole, of any ring, is out of bounds
-unfoldable pub ringsText : List ℕ → ℤ → ℤ → List ℕ
-ringsText book dx dy =
-    cond (eqb (length (countsOf book)) 1) (refusalLine (refuse refusedFew 1))
-    (cond (allWhole (numbersOf book)) (pairText (wholes (stationaryIn book)) (wholes (orbitingIn book)) dx dy) (refusalLine (refuse refusedNumber 0)))
+-- a number of rings, all their coordinates, and the first two: of one ring the orbiting polygon has too few corners; a coordinate that is
+-- not whole, of any ring, is out of bounds
+unfoldable pub ringsText : ℕ → List Float → List Float → List Float → ℤ → ℤ → List ℕ
+ringsText rings xs st orb dx dy =
+    cond (eqb rings 1) (refusalLine (refuse refusedFew 1))
+    (cond (allWhole xs) (pairText (wholes st) (wholes orb) dx dy) (refusalLine (refuse refusedNumber 0)))
 
--- a book: its fault, or what is said of its first two rings
+-- a book: its fault, or what is said of its rings
 unfoldable pub bookText : List ℕ → ℤ → ℤ → List ℕ
-bookText book dx dy = cond (passed (bookCheck book)) (ringsText book dx dy) (refusalLine (bookCheck book))
+bookText book dx dy =
+    cond (passed (bookCheck book))
+    (ringsText (length (countsOf book)) (numbersOf book) (stationaryIn book) (orbitingIn book) dx dy) (refusalLine (bookCheck book))
 
 -- bytes of the move
 abbrev pub moveBytes : ℕ
