@@ -35,14 +35,16 @@ module _ (ls rest : List ℤ) where
   lines-front zero h = refl
   lines-front (suc m) h = rw (lines-front m (omega arith), line-front m (omega arith))
 
-ground-said : (g : Ground) (ls room : List ℤ) (m : ℕ) → 4 * m ≤ length ls → groundText g (writtenFor g ls room) m ≡ groundText g ls m
+ground-said : (g : Ground) (ls room : List ℤ) (m : ℕ) → 4 * m ≤ length ls
+    → groundText g (writtenFor g ls room) m ≡ groundText g ls m
 unfolding groundText writtenFor
 ground-said clear ls room m h = ap (λ (l : List ℕ). 99 ∷ 108 ∷ 101 ∷ 97 ∷ 114 ∷ 10 ∷ l) (lines-front ls (drop (length ls) room) m h)
 ground-said (edge j) ls room m h = refl
 ground-said enclosed ls room m h = refl
 
 outcome-said : (t : Bool) (r : Refusal) (g : Ground) (ls room : List ℤ) (m : ℕ) → 4 * m ≤ length ls
-    → judgedText (cond t (answers g) (refuses r)) (cond t (writtenFor g ls room) room) m ≡ judgedText (cond t (answers g) (refuses r)) ls m
+    → judgedText (cond t (answers g) (refuses r)) (cond t (writtenFor g ls room) room) m
+    ≡ judgedText (cond t (answers g) (refuses r)) ls m
 unfolding judgedText
 outcome-said true r g ls room m h = ground-said g ls room m h
 outcome-said false r g ls room m h = refl
@@ -53,10 +55,12 @@ room = replicate roomSize (pos 0)
 
 module _ (st orb : List ℤ) (dx dy : ℤ) where
   four-each : length (reasonOf st orb dx dy) ≡ 4 * (length st / 2)
-  four-each = let ls = linesTo (map upOf st) (map upOf orb) (movedUp orb dx dy) (length st / 2) in length-map ls downOf ∙ length-lines _ _ _ _
+  four-each =
+      let ls = linesTo (map upOf st) (map upOf orb) (movedUp orb dx dy) (length st / 2) in
+      length-map ls downOf ∙ length-lines _ _ _ _
 
-  pub pair-said : {out : List ℤ} {o : Outcome Ground} → o ≡ clearMoveCall st orb dx dy (length room) → out ≡ clearMoveRoom st orb dx dy room
-      → judgedText o out (length st / 2) ≡ pairText st orb dx dy
+  pub pair-said : {out : List ℤ} {o : Outcome Ground} → o ≡ clearMoveCall st orb dx dy (length room)
+      → out ≡ clearMoveRoom st orb dx dy room → judgedText o out (length st / 2) ≡ pairText st orb dx dy
   unfolding pairText
   pair-said p q =
       let no-one = ofClearMove st orb dx dy (length room) in

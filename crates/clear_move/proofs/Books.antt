@@ -1,4 +1,5 @@
--- What the reader leaves of a book: the number of its rings, and a room whose numbers are the book's and then zeros. Assumes nothing.
+-- What the reader leaves of a book: the number of its rings, and a room whose numbers are the book's and then zeros. Assumes
+-- nothing.
 use Prim.Native.Nat.{ℕ, _<_}
 use mathlib.Core.Path.{_≡_, ap, _∙_}
 use mathlib.Core.Bool.{true}
@@ -21,13 +22,14 @@ pub record Read (f : List ℕ) (k : ℕ) (x : List Float) : Type 0 where
   pub bounded : coordinates x ≡ true
   pub whole : allWhole x ≡ allWhole (numbersOf f)
 
-module _ (f : List ℕ) (bytes : (i : ℕ) → getD f i 0 < 256) (x : List Float) (n q : List ℕ) (r : Count) (p : Promised f room counts parts r x n q)
-    (k : ℕ) (e : r ≡ Is k) where
+module _ (f : List ℕ) (bytes : (i : ℕ) → getD f i 0 < 256) (x : List Float) (n q : List ℕ) (r : Count)
+    (p : Promised f room counts parts r x n q) (k : ℕ) (e : r ≡ Is k) where
   pub read : Read f k x
   read =
       let is = room-is f bytes room x counts n parts q r p k e in
+      let held = book-held f bytes room x counts n parts q r p k e in
       record {
         told = rings-told f bytes room x counts n parts q r p k e;
-        bounded = ap coordinates is ∙ coordinates-laid (numbersOf f) numbersMost ∙ book-held f bytes room x counts n parts q r p k e .bounded;
+        bounded = ap coordinates is ∙ coordinates-laid (numbersOf f) numbersMost ∙ held .bounded;
         whole = ap allWhole is ∙ whole-laid (numbersOf f) numbersMost;
       }

@@ -10,8 +10,8 @@ use Rattle.clear_move.specs.Lines.{field, reasonLine, reasonLines}
 
 -- a line, number by number
 pub line-put : (ls : List ℤ) (j : ℕ) {a b c d e : List ℕ} {at k m n r : ℕ} → Put a at (field ls (4 * j) space) b k
-    → Put b k (field ls (4 * j + 1) space) c m → Put c m (field ls (4 * j + 2) space) d n → Put d n (field ls (4 * j + 3) newline) e r
-    → Put a at (reasonLine ls j) e r
+    → Put b k (field ls (4 * j + 1) space) c m → Put c m (field ls (4 * j + 2) space) d n
+    → Put d n (field ls (4 * j + 3) newline) e r → Put a at (reasonLine ls j) e r
 unfolding reasonLine
 line-put ls j w x y z = then w (then x (then y z))
 

@@ -25,8 +25,8 @@ roomSize = 1024
 unfoldable pub pairText : List ℤ → List ℤ → ℤ → ℤ → List ℕ
 pairText st orb dx dy = judgedText (clearMoveCall st orb dx dy roomSize) (reasonOf st orb dx dy) (length st / 2)
 
--- a number of rings, all their coordinates, and the first two: of one ring the orbiting polygon has too few corners; a coordinate that is
--- not whole, of any ring, is out of bounds
+-- a number of rings, all their coordinates, and the first two: of one ring the orbiting polygon has too few corners; a coordinate
+-- that is not whole, of any ring, is out of bounds
 unfoldable pub ringsText : ℕ → List Float → List Float → List Float → ℤ → ℤ → List ℕ
 ringsText rings xs st orb dx dy =
     cond (eqb rings 1) (refusalLine (refuse refusedFew 1))

@@ -1,5 +1,6 @@
-// Says whether a whole move is clear, and why. Standard input has the move's x and y, four bytes each in two's complement, and then a
-// book whose first ring is the stationary polygon and whose second is the orbiting one, at the start; all coordinates are whole.
+// Says whether a whole move is clear, and why. Standard input has the move's x and y, four bytes each in two's complement, and
+// then a book whose first ring is the stationary polygon and whose second is the orbiting one, at the start; all coordinates are
+// whole.
 mod say;
 
 use book_layout::BOOK_MOST;
@@ -44,7 +45,8 @@ const TEXT_MOST: usize = 23000;
 // What is printed for two polygons and a move.
 fn put_pair(stationary: &[i32], orbiting: &[i32], dx: i32, dy: i32, out: &mut [u8]) -> usize
     requires { ⌜ (length (now stationary) ≤ 512) × (23000 ≤ length (now out)) ⌝ }
-    ensures { λ r. ⌜ Put (now (out .entry)) 0 (pairText (now (stationary .entry)) (now (orbiting .entry)) dx dy) (now (out .exit)) r ⌝ }
+    ensures { λ r.
+        ⌜ Put (now (out .entry)) 0 (pairText (now (stationary .entry)) (now (orbiting .entry)) dx dy) (now (out .exit)) r ⌝ }
 {
     let mut reason = [0i32; REASON_MOST];
     let answer = clear_move(stationary, orbiting, dx, dy, &mut reason);
@@ -57,7 +59,8 @@ fn put_polygons(stationary: &[f64], orbiting: &[f64], dx: i32, dy: i32, out: &mu
     requires { ⌜ (length (now orbiting) ≤ 512) × (coordinates (now orbiting) ≡ true) ⌝ }
     requires { ⌜ 23000 ≤ length (now out) ⌝ }
     ensures { λ r.
-        ⌜ Put (now (out .entry)) 0 (pairText (wholes (now (stationary .entry))) (wholes (now (orbiting .entry))) dx dy) (now (out .exit)) r ⌝ }
+        ⌜ Put (now (out .entry)) 0 (pairText (wholes (now (stationary .entry))) (wholes (now (orbiting .entry))) dx dy)
+        (now (out .exit)) r ⌝ }
 {
     let mut st = [0i32; POLYGON_MOST];
     let mut orb = [0i32; POLYGON_MOST];
@@ -71,8 +74,8 @@ fn put_two(xs: &[f64], n: usize, m: usize, dx: i32, dy: i32, out: &mut [u8]) -> 
     requires { ⌜ (n ≤ verticesMost) × (m ≤ verticesMost) × (2 * n + 2 * m ≤ length (now xs)) ⌝ }
     requires { ⌜ (coordinates (now xs) ≡ true) × (23000 ≤ length (now out)) ⌝ }
     ensures { λ r.
-        ⌜ Put (now (out .entry)) 0 (pairText (wholes (firstPart (now (xs .entry)) n)) (wholes (secondPart (now (xs .entry)) n m)) dx dy)
-        (now (out .exit)) r ⌝ }
+        ⌜ Put (now (out .entry)) 0
+        (pairText (wholes (firstPart (now (xs .entry)) n)) (wholes (secondPart (now (xs .entry)) n m)) dx dy) (now (out .exit)) r ⌝ }
 {
     let middle = 2 * n;
     let end = middle + 2 * m;
@@ -93,7 +96,8 @@ fn put_rings(
     requires { ⌜ (coordinates (now xs) ≡ true) × (23000 ≤ length (now out)) ⌝ }
     ensures { λ r.
         ⌜ Put (now (out .entry)) 0
-        (ringsText rings (now (xs .entry)) (firstPart (now (xs .entry)) n) (secondPart (now (xs .entry)) n m) dx dy) (now (out .exit)) r ⌝ }
+        (ringsText rings (now (xs .entry)) (firstPart (now (xs .entry)) n) (secondPart (now (xs .entry)) n m) dx dy)
+        (now (out .exit)) r ⌝ }
 {
     if rings == 1 {
         return put_refusal(Refusal::new(REFUSED_FEW, 1), out);

@@ -25,8 +25,8 @@ pub record Written (xs : List Float) (d room : List ℤ) (i : ℕ) : Type 0 wher
 pub start : (xs : List Float) (d : List ℤ) → Written xs d d 0
 start xs d = record { most = omega arith; same = refl; holds = refl }
 
-pub turn : {xs : List Float} {d room : List ℤ} {i : ℕ} {v : ℤ} → length xs ≤ length d → i < length xs → v ≡ wholePart (getD xs i nan)
-    → Written xs d room i → Written xs d (set room i v) (i + 1)
+pub turn : {xs : List Float} {d room : List ℤ} {i : ℕ} {v : ℤ} → length xs ≤ length d → i < length xs
+    → v ≡ wholePart (getD xs i nan) → Written xs d room i → Written xs d (set room i v) (i + 1)
 turn {xs} {d} {room} {i} {v} fits more is t =
     let e : v ≡ getD (wholes xs) i (pos 0) = is ∙ sym (part-at xs i more) in
     record {

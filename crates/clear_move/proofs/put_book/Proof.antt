@@ -99,7 +99,9 @@ returns c =
     let q = rings r (t .rings .given .0 .0) (t .rings .given .1) in
     let u = toZ-ofZ w32 _ (s r .fits .dx) in
     let v = toZ-ofZ w32 _ (s r .fits .dy) in
-    reads (same-rings _ _ _ _ (q .told) (q .whole) u v ∙ pair-said (say r) refusalLine (f r) p) (c .before .before .put-rings .ensures)
+    reads
+    (same-rings _ _ _ _ (q .told) (q .whole) u v ∙ pair-said (say r) refusalLine (f r) p)
+    (c .before .before .put-rings .ensures)
 
 same-length-2 : tie.Need-same-length-2
 same-length-2 c = search needs

@@ -24,7 +24,8 @@ returns c =
     let p = c .before .before in
     let n = p .before .before in
     let t = n .before in
-    reads (ap refusalLine (n .new .ensures) ∙ too-short (t .before .before .before .args .input .now) (t .if1 .taken)) (p .put-refusal .ensures)
+    let l = t .before .before .before .args .input .now in
+    reads (ap refusalLine (n .new .ensures) ∙ too-short l (t .if1 .taken)) (p .put-refusal .ensures)
 
 sub-put-book : tie.Need-sub-put-book
 sub-put-book c = search needs

@@ -24,7 +24,9 @@ returns c =
     let n = p .before .before in
     let t = n .before in
     let a = t .before .before .before .args in
-    reads (ap refusalLine (n .new .ensures) ∙ one-ring (a .rings) (a .xs .now) _ _ (a .dx) (a .dy) (t .if1 .taken)) (p .put-refusal .ensures)
+    reads
+    (ap refusalLine (n .new .ensures) ∙ one-ring (a .rings) (a .xs .now) _ _ (a .dx) (a .dy) (t .if1 .taken))
+    (p .put-refusal .ensures)
 
 are-whole-requires : tie.Need-are-whole-requires
 are-whole-requires c κs = search needs

@@ -25,7 +25,9 @@ shared-slice-read-is-whole : tie.Need-shared-slice-read-is-whole Inv-loop μ-loo
 shared-slice-read-is-whole c = omega arith
 
 is-whole-requires : tie.Need-is-whole-requires Inv-loop μ-loop
-is-whole-requires c κs = let l = c .before .before in every-at coordinate _ (l .loop .i) (l .before .before .pre) (c .before .loop-test .taken)
+is-whole-requires c κs =
+    let l = c .before .before in
+    every-at coordinate _ (l .loop .i) (l .before .before .pre) (c .before .loop-test .taken)
 
 add-i : tie.Need-add-i Inv-loop μ-loop
 add-i c = omega arith
@@ -35,13 +37,13 @@ loop-less c = omega arith
 
 loop-again : tie.Need-loop-again Inv-loop μ-loop
 loop-again c =
-    let l = c .before .before .before .before in
-    (omega arith, l .loop .inv .1 ∙ every-on _ _ _ (c .before .before .before .loop-test .taken) (sym (c .before .is-whole .ensures) ∙ c .if1 .taken))
+    let t = c .before .before .before in
+    (omega arith, t .before .loop .inv .1 ∙ every-on _ _ _ (t .loop-test .taken) (sym (c .before .is-whole .ensures) ∙ c .if1 .taken))
 
 returns : tie.Need-returns Inv-loop μ-loop
 returns c =
-    let l = c .before .before .before .before in
-    sym (l .loop .inv .1 ∙ every-off _ _ _ (c .before .before .before .loop-test .taken) (sym (c .before .is-whole .ensures) ∙ c .if1 .left))
+    let t = c .before .before .before in
+    sym (t .before .loop .inv .1 ∙ every-off _ _ _ (t .loop-test .taken) (sym (c .before .is-whole .ensures) ∙ c .if1 .left))
 
 returns-2 : tie.Need-returns-2 Inv-loop μ-loop
 returns-2 c = sym (c .before .loop .inv .1 ∙ every-end _ _ _ (c .loop-test .left))

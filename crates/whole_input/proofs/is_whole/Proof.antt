@@ -19,7 +19,8 @@ returns : tie.Need-returns
 unfolding isWhole
 returns c =
     let p = c .before in
-    ap (λ (z : ℤ). eq (ofInt binary64 z) (p .before .args .x)) (toZ-ofZ w32 _ (record { sfits = p .whole-part .ok }) ∙ p .whole-part .ensures)
+    let is = toZ-ofZ w32 _ (record { sfits = p .whole-part .ok }) ∙ p .whole-part .ensures in
+    ap (λ (z : ℤ). eq (ofInt binary64 z) (p .before .args .x)) is
 
 pub is-whole-spec : {M : Type 1} → statement M
 is-whole-spec = tie.close (tie.spec whole-part-requires int-to-float-result returns)

@@ -29,7 +29,9 @@ shared-slice-read-whole-part : tie.Need-shared-slice-read-whole-part Inv-loop μ
 shared-slice-read-whole-part c = omega arith
 
 whole-part-requires : tie.Need-whole-part-requires Inv-loop μ-loop
-whole-part-requires c κs = let l = c .before .before in every-at coordinate _ (l .loop .i) (l .before .before .pre .0) (c .before .loop-test .taken)
+whole-part-requires c κs =
+    let l = c .before .before in
+    every-at coordinate _ (l .loop .i) (l .before .before .pre .0) (c .before .loop-test .taken)
 
 mul-t9 : tie.Need-mul-t9 Inv-loop μ-loop
 mul-t9 c = omega arith

@@ -10,7 +10,9 @@ use Rattle.whole_input.proofs.whole_part.Statement.{statement}
 use Rattle.whole_input.proofs.whole_part.Tie as tie
 
 truncating-f64-to-i64-requires : tie.Need-truncating-f64-to-i64-requires
-truncating-f64-to-i64-requires c κs = (subst T (sym (above-least (c .args .x) (c .pre))) tt, subst T (sym (below-most (c .args .x) (c .pre))) tt)
+truncating-f64-to-i64-requires c κs =
+    let x = c .args .x in
+    (subst T (sym (above-least x (c .pre))) tt, subst T (sym (below-most x (c .pre))) tt)
 
 -- the whole part, as the machine has it
 part : (c : tie.After-truncating-f64-to-i64) → toZ w64 (ofZ w64 (c .truncating-f64-to-i64 .result)) ≡ wholePart (c .before .args .x)

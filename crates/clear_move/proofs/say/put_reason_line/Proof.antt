@@ -60,7 +60,8 @@ returns c =
     let f2 = f3 .before .before .before .before .before in
     let f1 = f2 .before .before .before .before .before in
     let a = f1 .before .before .before .before .args in (
-      line-put (a .ls .now) (a .j) (f1 .put-field .ensures .0) (f2 .put-field2 .ensures .0) (f3 .put-field3 .ensures .0) (f4 .put-field4 .ensures .0),
+      line-put (a .ls .now) (a .j)
+          (f1 .put-field .ensures .0) (f2 .put-field2 .ensures .0) (f3 .put-field3 .ensures .0) (f4 .put-field4 .ensures .0),
       omega (arith, f1 .put-field .ensures .1, f2 .put-field2 .ensures .1, f3 .put-field3 .ensures .1, f4 .put-field4 .ensures .1),
     )
 
