@@ -17,6 +17,7 @@ pub mod answers;
 pub mod book;
 pub mod calls;
 pub mod clear;
+pub mod clear_move;
 pub mod discs;
 pub mod explain;
 pub mod fixed;
