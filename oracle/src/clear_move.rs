@@ -155,8 +155,8 @@ fn refused() -> Cases {
     let [s, q] = squares(4.0, 0.0);
     let half = vec![0.0, 0.0, 4.0, 0.0, 4.0, 3.5];
     vec![
-        ("one_ring", input_of((1, 0), &[s.clone()])),
-        ("one_ring_and_not_whole", input_of((1, 0), &[half.clone()])),
+        ("one_ring", input_of((1, 0), std::slice::from_ref(&s))),
+        ("one_ring_and_not_whole", input_of((1, 0), std::slice::from_ref(&half))),
         ("stationary_not_whole", input_of((1, 0), &[half.clone(), q.clone()])),
         ("orbiting_not_whole", input_of((1, 0), &[s.clone(), half.clone()])),
         ("third_ring_not_whole", input_of((1, 0), &[s.clone(), q.clone(), half])),
