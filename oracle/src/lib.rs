@@ -25,6 +25,7 @@ pub mod grounds;
 pub mod inspection;
 pub mod mend;
 pub mod path;
+pub mod pictures;
 pub mod printer;
 pub mod refusals;
 pub mod replay;

@@ -44,3 +44,11 @@ fn ring_printer_is_as_written() {
 fn clear_move_is_as_written() {
     as_written("clear_move", &oracle::clear_move::PROGRAM);
 }
+
+#[test]
+fn the_pictures_are_as_written() {
+    let directory = PathBuf::from(env!("CARGO_MANIFEST_DIR")).join("../docs");
+    for (name, held) in oracle::pictures::files() {
+        assert!(std::fs::read(directory.join(&name)).is_ok_and(|stored| stored == held), "{name}");
+    }
+}
