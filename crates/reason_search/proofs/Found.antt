@@ -9,7 +9,7 @@ use mathlib.Core.Bool.{Bool, true, false, not}
 use mathlib.Core.List.{List, _++_, append-assoc}
 use lib.ListN.{length, getD, List·getD-append}
 use lib.Seq.{getD-append-add}
-use borrow.Author.Tests.{ltb-true, lt-ltb, le-ltb, not-false}
+use borrow.Author.Tests.{lt-ltb, le-ltb}
 use Rattle.ring.specs.Room.{laid}
 use Rattle.shifted.specs.Shifted.{spotAt}
 use Rattle.shifted.specs.declared.Spot.{Spot}
@@ -18,12 +18,12 @@ use Rattle.reasons.specs.Parting.{parts}
 use Rattle.reasons.specs.Lowest.{lowest}
 use Rattle.reasons.specs.Check.{clear, edge, enclosed, balance, judged, groundOf, corner, lineFrom, lineTo}
 use Rattle.reasons.specs.Check.{balanceAt, partsAt, checkOf}
-use Rattle.reasons.proofs.First.{first-most, first-passes, none-before, none-first}
+use Rattle.reasons.proofs.First.{first-most, first-passes, none-first}
 use Rattle.reasons.proofs.Exactly.{judged-clear, clear-judged}
-use Rattle.reason_search.specs.Search.{tried, firstLine, taken, lineAt, reached, searchOf}
+use Rattle.reason_search.specs.Search.{tried, firstLine, lineAt, reached, searchOf}
 use Rattle.reason_search.specs.Room.{numbers, linesTo, roomOf}
 use Rattle.reason_search.proofs.Firsts.{test}
-use Rattle.reason_search.proofs.Laying.{length-lines, lost}
+use Rattle.reason_search.proofs.Laying.{length-lines, lined}
 
 -- ---- the lines in the room
 
@@ -124,14 +124,13 @@ module _ (st a b d : List ℕ) {room : List ℕ} (is : room ≡ roomOf st a b d)
     all-edges = let h : reached st a b ≤ 0 + length st / 2 = first-most _ 0 _ in omega (arith, told .0)
 
     edge-parted : (j : ℕ) → j < length st / 2 → partsAt st a b room j ≡ true
-    unfolding reached firstLine
+    unfolding firstLine
     edge-parted j l =
         let s = corner st j in
         let t = corner st (suc j) in
-        let k : taken st a b j < tried a =
-        ltb-true _ _ (not-false _ (none-before (lost st a b) 0 (length st / 2) j (omega arith) (omega (arith, told .0)))) in
-        by-line s t (from-room st a b d is j (omega (arith, told .0))) (to-room st a b d is j (omega (arith, told .0)))
-        (first-passes (test a b s t) 0 (tried a) (omega arith))
+        let r : j < reached st a b = omega (arith, told .0) in
+        by-line s t (from-room st a b d is j r) (to-room st a b d is j r)
+        (first-passes (test a b s t) 0 (tried a) (omega (arith, lined st a b j r)))
 
     pub search-checked : checkOf st a b room ≡ clear
     unfolding groundOf

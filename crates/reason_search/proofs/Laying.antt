@@ -9,11 +9,12 @@ use mathlib.Core.List.{List, [], _∷_, _++_}
 use lib.Dec.{ltb}
 use lib.ListN.{length, take, drop, set, length-append}
 use lib.Seq.{sets, sets-eq, length-sets, take-at, drop-append-add, drop-drop}
-use borrow.Author.Tests.{lt-ltb, le-ltb}
+use borrow.Author.Tests.{ltb-true, lt-ltb, le-ltb, not-false}
 use Rattle.shifted.specs.Shifted.{spotAt}
 use Rattle.shifted.specs.declared.Spot.{Spot}
 use Rattle.reasons.specs.Check.{corner}
 use Rattle.reasons.proofs.First as row
+use Rattle.reasons.proofs.First.{none-before}
 use Rattle.reason_search.specs.Lines.{lineOf}
 use Rattle.reason_search.specs.Search.{tried, firstLine, taken, lineAt, reached}
 use Rattle.reason_search.specs.Room.{numbers, linesTo, roomOf}
@@ -49,8 +50,13 @@ length-lines st a b zero = refl
 length-lines st a b (suc k) = simp length-append (omega (arith, length-lines st a b k))
 
 -- no line parts edge j
-abbrev pub lost : (st a b : List ℕ) → ℕ → Bool
+abbrev lost : (st a b : List ℕ) → ℕ → Bool
 lost st a b j = not (ltb (taken st a b j) (tried a))
+
+-- an edge before the first of these has a line
+pub lined : (st a b : List ℕ) (j : ℕ) → j < reached st a b → taken st a b j < tried a
+unfolding reached
+lined st a b j h = ltb-true _ _ (not-false _ (none-before (lost st a b) 0 (length st / 2) j (omega arith) h))
 
 module _ (st a b d : List ℕ) where
   pub record Laid (room : List ℕ) (j : ℕ) : Type 0 where

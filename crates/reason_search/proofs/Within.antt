@@ -6,17 +6,16 @@ use mathlib.Core.Path.{_≡_, sym, subst}
 use mathlib.Core.Logic.{⊎-elim}
 use mathlib.Core.List.{List}
 use lib.ListN.{length}
-use borrow.Author.Tests.{ltb-true, not-false}
 use Rattle.shifted.specs.Shifted.{spotAt, Small}
 use Rattle.shifted.specs.declared.Spot.{Spot}
 use Rattle.reasons.specs.Check.{corner}
-use Rattle.reasons.proofs.First.{first-most, none-before}
+use Rattle.reasons.proofs.First.{first-most}
 use Rattle.reason_check.specs.Lent.{WayLent}
 use Rattle.reason_search.specs.Lines.{wayLine, lineOf}
 use Rattle.reason_search.specs.Search.{tried, taken, lineAt, reached}
 use Rattle.reason_search.specs.Room.{SearchLent, roomOf}
 use Rattle.reason_search.proofs.WayLines.{Fit, sixth-fits}
-use Rattle.reason_search.proofs.Laying.{lost}
+use Rattle.reason_search.proofs.Laying.{lined}
 use Rattle.reason_search.proofs.Found.{from-room, to-room}
 
 module _ (a b : List ℕ) (W : WayLent a b) where
@@ -45,9 +44,8 @@ module _ (st a b d : List ℕ) (L : SearchLent st a b d) where
   unfolding reached
   at-fits j h =
       let m : reached st a b ≤ 0 + length st / 2 = first-most _ 0 _ in
-      let g = none-before (lost st a b) 0 (length st / 2) j (omega arith) h in
-      let l : taken st a b j < tried a = ltb-true _ _ (not-false _ g) in
-      line-fits a b (L .moved) _ _ (taken st a b j) (corner-small j (omega arith)) (corner-small (suc j) (omega arith)) l
+      line-fits a b (L .moved) _ _ (taken st a b j) (corner-small j (omega arith)) (corner-small (suc j) (omega arith))
+      (lined st a b j h)
 
   -- point i of the room, where it is the first of a line or the second
   pub room-small : {room : List ℕ} → room ≡ roomOf st a b d → (i : ℕ) → i < 2 * reached st a b → Small (spotAt room i)

@@ -49,7 +49,7 @@ module _ (s : ℕ → Spot) (m : ℕ) (a b : ℕ → Spot) (n : ℕ) (p q : ℕ 
   pub ground-reason : groundOf s m a b n p q ≡ clear → Reason (way (legs a b n)) (lowSpot a b n) s p q m
   unfolding groundOf balance
   ground-reason h =
-      let c = judged-clear m (firstFrom (λ j. not (test j)) 0 m) (balance (lowest a b n) p q s m) h in
+      let c = judged-clear m _ _ h in
       record {
         closed = closed;
         parted =
