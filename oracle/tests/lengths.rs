@@ -302,7 +302,7 @@ fn lists_of_whole_moves_are_met_in_every_way_together() {
         }
         let lengths = all(&long, call, |record| record.lengths()[..2].to_vec());
         for n in [0, 1, 3, 4, 5, 6, 7, 8, 511, 512, 513, 514, 515] {
-            let met = |of: [usize; 2]| lengths.contains(&of.to_vec());
+            let met = |of: [usize; 2]| lengths.contains(of.as_slice());
             assert!(met([8, n]) && met([n, 8]), "{call} {n}");
         }
     }

@@ -1,4 +1,4 @@
--- `replay_whole::words::integer` meets its contract: what is taken from -1 is below 2 ^ 31. Assumes nothing.
+-- `replay::integer` meets its contract: what is taken from -1 is below 2 ^ 31. Assumes nothing.
 use Prim.Native.Nat.{_-_, _%_, _<_}
 use mathlib.Core.Path.{_≡_, sym, ap, subst}
 use native.Mathlib.Omega.{arith}
@@ -7,9 +7,9 @@ use borrow.Author.Needs.{needs}
 use mir.Syntax.{w32}
 use mir.Val.{toZ, SFits}
 use mir.ValLaws.{toZ-ofZ}
-use Rattle.replay_whole.proofs.Signs.{size}
-use Rattle.replay_whole.proofs.words.integer.Statement.{statement}
-use Rattle.replay_whole.proofs.words.integer.Tie as tie
+use Rattle.replay.proofs.Signs.{size}
+use Rattle.replay.proofs.integer.Statement.{statement}
+use Rattle.replay.proofs.integer.Tie as tie
 
 cast-result : tie.Need-cast-result
 cast-result c = search needs

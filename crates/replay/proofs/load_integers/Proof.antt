@@ -1,12 +1,12 @@
--- `replay_whole::load` meets its contract. The invariant says only that i is at most n, and that the room keeps its length.
+-- `replay::load_integers` meets its contract. The invariant says only that i is at most n, and that the room keeps its length.
 -- Assumes nothing.
 use native.Mathlib.Omega.{arith}
 use borrow.Author.Needs.{needs}
 use Prim.Native.Nat.{_-_, _≤_}
 use mathlib.Core.Path.{_≡_, refl}
 use lib.ListN.{length, length-set}
-use Rattle.replay_whole.proofs.load.Statement.{statement}
-use Rattle.replay_whole.proofs.load.Tie as tie
+use Rattle.replay.proofs.load_integers.Statement.{statement}
+use Rattle.replay.proofs.load_integers.Tie as tie
 
 abbrev Inv-loop : tie.InvT-loop
 Inv-loop bytes n room₀ i₀ room i = (i ≤ n) × (length room ≡ length room₀)
@@ -47,8 +47,8 @@ same-length c = search needs
 returns : tie.Need-returns Inv-loop μ-loop
 returns c = tt
 
-pub load-spec : {M : Type 1} → statement M
-load-spec =
+pub load-integers-spec : {M : Type 1} → statement M
+load-integers-spec =
     tie.close
     (tie.spec
     Inv-loop
