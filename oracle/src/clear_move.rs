@@ -103,6 +103,9 @@ pub fn example() -> Vec<u8> {
     input_of((0, 31_000), &[disc_at(0.0, 0.0), disc_at(30_000.0, -15_500.0)])
 }
 
+/// A tab on the carrier's edge, as a book holds it.
+pub const TAB: [f64; 8] = [21e3, 0.0, 23e3, 5e3, 27e3, 5e3, 29e3, 0.0];
+
 /// Moves that are clear, by their names.
 fn clear() -> Cases {
     let far = 996_000.0;
@@ -121,6 +124,10 @@ fn clear() -> Cases {
         ("round_and_back", input_of((1, 1), &[wound, placed(&square(2.0), 1.0, 3.0, 3.0)])),
         ("between_the_wings", input_of((0, -2), &[bow, vec![3.0, 9.0, 5.0, 9.0, 4.0, 6.0]])),
         ("from_end_to_end", input_of((0, 1_996_000), &corner)),
+        (
+            "disc_to_its_neighbour",
+            input_of((31_000, 0), &[disc_at(62e3, 15e3), disc_at(0.0, 15e3)]),
+        ),
         ("flat", input_of((0, -3), &[square(4.0), vec![0.0, -1.0, 2.0, -1.0, 1.0, -1.0]])),
         (
             "longest",
@@ -141,6 +148,7 @@ fn not_clear() -> Cases {
         ("slot_one_narrower", input_of((0, -60), &[slot(9.0), part.clone()])),
         ("slot_one_too_deep", input_of((0, -61), &[slot(10.0), part])),
         ("disc_one_nearer", input_of((-1, 31_000), &between)),
+        ("tab_in_between", input_of((31_000, 0), &[TAB.to_vec(), disc_at(0.0, 15e3)])),
         ("comb", input_of((5, 0), &[comb, placed(&square(3.0), 1.0, -4.0, 6.0)])),
         ("star", input_of((0, 0), &[star, placed(&square(400.0), 1.0, 500.0, 0.0)])),
         ("on_its_equal", input_of((0, 0), &[square(4.0), square(4.0)])),

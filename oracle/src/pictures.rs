@@ -5,7 +5,7 @@
 
 use crate::clear::exact::hull;
 use crate::clear::{clear_move, Ground};
-use crate::clear_move::disc_at;
+use crate::clear_move::{disc_at, TAB};
 use crate::stored::Files;
 use crate::whole::Spot;
 use std::collections::BTreeSet;
@@ -122,7 +122,7 @@ fn picture(title: &str, parts: &[String]) -> String {
 pub fn files() -> Files {
     let carrier = [-40_000, -30_000, 120_000, -30_000, 120_000, 0, -40_000, 0];
     let [start, neighbour] = [disc(0, 15_000), disc(62_000, 15_000)];
-    let tab = [21_000, 0, 29_000, 0, 27_000, 5_000, 23_000, 5_000];
+    let tab = TAB.map(|x| x as i32);
     let still = [ring(&carrier, "still"), ring(&neighbour, "still")].concat();
     let names = [
         words((-20_000, -7_000), "carrier"),
@@ -153,7 +153,7 @@ pub fn files() -> Files {
         segment(corner(edge), corner(edge + 1), "told"),
         names,
         words((23_500, 1_500), "tab"),
-        words((30_000, 2_600), &format!("edge {edge}")),
+        words((12_600, 2_000), &format!("edge {edge}")),
         words((-20_000, 39_000), &format!("edge {edge}: no line parts it from the way")),
     ];
     let file = |name: &str, text: String| (name.to_string(), text.into_bytes());
