@@ -485,9 +485,9 @@ static void rings(void) {
 
 enum { M = 1000000 };
 
-/* A ring of 257 vertices at the origin, and the same with a number out of bounds. */
+/* A ring of 257 vertices at the origin, and a longer list whose first number is out of bounds. */
 static const int32_t WHOLE[515] = {0};
-static const int32_t WHOLE_WRONG[515] = {M + 1};
+static const int32_t WHOLE_WRONG[20004] = {M + 1};
 
 /* Numbers that are no coordinate. */
 static const int32_t PAST[4] = {M + 1, -M - 1, INT32_MAX, INT32_MIN};
@@ -577,6 +577,215 @@ static void whole_rings(void) {
     CHECK(byr_whole_signed_area2(bow, 8, &area2, &place) == 0 && area2 == 0);
     CHECK(byr_whole_signed_area2(NULL, 0, &area2, &place) == 0 && area2 == 0);
     CHECK(place == HELD_COUNT);
+}
+
+/* ---- Whole moves ---- */
+
+static const int32_t BLOCK[8] = {0, 0, 4, 0, 4, 4, 0, 4};
+static const int32_t BESIDE[8] = {4, 0, 8, 0, 8, 4, 4, 4};
+static const int32_t TOOL[8] = {0, 0, 2, 0, 2, 2, 0, 2};
+
+/* Which call is tried. */
+enum which { CLEAR_MOVE, CHECK_REASON, CLEAR_PATH };
+
+/* What a call on whole moves is lent beside its lists, and what it told. */
+struct moved {
+    int32_t room[20];
+    uint32_t ground;
+    uint64_t leg;
+    uint64_t edge;
+    uint64_t place;
+};
+
+static void hold_move(struct moved *m) {
+    size_t i;
+    for (i = 0; i < 20; i++) {
+        m->room[i] = HELD_WORD;
+    }
+    m->ground = HELD_WORD;
+    m->leg = m->edge = m->place = HELD_COUNT;
+}
+
+/* The search of a move, with the front of the room; the check of a reason; the legs of a path. */
+static uint32_t searched(struct moved *m, const int32_t *s, size_t sn, const int32_t *o, size_t on, int32_t dx,
+                         int32_t dy, size_t room_n) {
+    hold_move(m);
+    return byr_whole_clear_move(s, sn, o, on, dx, dy, m->room, room_n, &m->ground, &m->edge, &m->place);
+}
+
+static uint32_t reasoned(struct moved *m, const int32_t *s, size_t sn, const int32_t *o, size_t on, int32_t dx,
+                         int32_t dy, const int32_t *reason, size_t reason_n) {
+    hold_move(m);
+    return byr_whole_check_reason(s, sn, o, on, dx, dy, reason, reason_n, &m->ground, &m->edge, &m->place);
+}
+
+static uint32_t gone(struct moved *m, const int32_t *s, size_t sn, const int32_t *o, size_t on, const int32_t *path,
+                     size_t path_n) {
+    hold_move(m);
+    return byr_whole_clear_path(s, sn, o, on, path, path_n, &m->ground, &m->leg, &m->edge, &m->place);
+}
+
+/* Whether the cells hold this, and the room from a place on what it held. */
+static int moved_as(const struct moved *m, uint32_t ground, uint64_t leg, uint64_t edge, uint64_t place,
+                    size_t from) {
+    for (; from < 20; from++) {
+        if (m->room[from] != HELD_WORD) {
+            return 0;
+        }
+    }
+    return m->ground == ground && m->leg == leg && m->edge == edge && m->place == place;
+}
+
+/* Whether nothing was written but the place. */
+static int unmoved(const struct moved *m, uint64_t place) {
+    return moved_as(m, HELD_WORD, HELD_COUNT, HELD_COUNT, place, 0);
+}
+
+/* The call with these lists, the third being its room, its reason or its path. */
+static uint32_t lend_moved(enum which which, struct moved *m, const int32_t *s, size_t sn, const int32_t *o,
+                           size_t on, const int32_t *third, size_t n) {
+    switch (which) {
+    case CLEAR_MOVE:
+        return searched(m, s, sn, o, on, 0, 0, 0);
+    case CHECK_REASON:
+        return reasoned(m, s, sn, o, on, 0, 0, third, n);
+    default:
+        return gone(m, s, sn, o, on, third, n);
+    }
+}
+
+/* Lengths of two polygons and of the third list, the number with which a call refuses them, and the place
+ * afterwards. */
+struct lent_move {
+    size_t sn;
+    size_t on;
+    size_t n;
+    uint32_t number;
+    uint64_t place;
+};
+
+/* Of all three calls: the third list is wrong besides. */
+static const struct lent_move POLYGONS_MOVED[] = {
+    {7, 8, 5, BYR_REFUSED_LENGTH, 0}, {513, 8, 5, BYR_REFUSED_LENGTH, 0}, {0, 8, 5, BYR_REFUSED_FEW, 0},
+    {4, 7, 5, BYR_REFUSED_FEW, 0},    {514, 4, 5, BYR_REFUSED_MANY, 0},   {8, 7, 5, BYR_REFUSED_LENGTH, 1},
+    {8, 0, 5, BYR_REFUSED_FEW, 1},    {8, 4, 5, BYR_REFUSED_FEW, 1},      {512, 514, 5, BYR_REFUSED_MANY, 1},
+};
+
+static const struct lent_move REASONS[] = {
+    {8, 8, 15, BYR_REFUSED_LENGTH, 2}, {8, 8, 17, BYR_REFUSED_LENGTH, 2}, {8, 8, 1, BYR_REFUSED_LENGTH, 2},
+    {8, 8, 0, BYR_REFUSED_FEW, 2},     {8, 8, 12, BYR_REFUSED_FEW, 2},    {8, 8, 20, BYR_REFUSED_MANY, 2},
+    {6, 8, 16, BYR_REFUSED_MANY, 2},   {8, 6, 16, BYR_REFUSED_NUMBER, HELD_COUNT},
+};
+
+static const struct lent_move WHOLE_PATHS[] = {
+    {8, 8, 5, BYR_REFUSED_LENGTH, 2},   {8, 8, 20003, BYR_REFUSED_LENGTH, 2},
+    {8, 8, 0, BYR_REFUSED_FEW, 2},      {8, 8, 4, BYR_REFUSED_FEW, 2},
+    {8, 8, 20004, BYR_REFUSED_MANY, 2}, {8, 8, 6, BYR_REFUSED_NUMBER, HELD_COUNT},
+    {8, 8, 20002, BYR_REFUSED_NUMBER, HELD_COUNT},
+};
+
+/* Tries these lengths with lists whose first number is out of bounds, so that it speaks after them. */
+static void try_moved(enum which which, const struct lent_move *rows, size_t n) {
+    struct moved m;
+    size_t i;
+    for (i = 0; i < n; i++) {
+        const struct lent_move *r = &rows[i];
+        const int32_t *s = r->sn == 0 ? NULL : WHOLE_WRONG;
+        const int32_t *o = r->on == 0 ? NULL : WHOLE_WRONG;
+        row = i + 1;
+        CHECK(lend_moved(which, &m, s, r->sn, o, r->on, r->n == 0 ? NULL : WHOLE_WRONG, r->n) == r->number);
+        CHECK(unmoved(&m, r->place));
+    }
+    row = 0;
+}
+
+static void clear_moves(void) {
+    struct moved m;
+    size_t i;
+
+    begin("byr_whole_clear_move");
+    try_moved(CLEAR_MOVE, POLYGONS_MOVED, sizeof POLYGONS_MOVED / sizeof *POLYGONS_MOVED);
+    for (i = 0; i < 4; i++) {
+        const int32_t wrong[6] = {0, 0, 4, 0, 0, PAST[i]};
+        CHECK(searched(&m, wrong, 6, BESIDE, 8, 0, 9, 20) == BYR_REFUSED_NUMBER && unmoved(&m, HELD_COUNT));
+        CHECK(searched(&m, BLOCK, 8, wrong, 6, 0, 9, 20) == BYR_REFUSED_NUMBER && unmoved(&m, HELD_COUNT));
+        CHECK(searched(&m, BLOCK, 8, BLOCK, 8, PAST[i], 0, 20) == BYR_REFUSED_NUMBER && unmoved(&m, HELD_COUNT));
+        CHECK(searched(&m, BLOCK, 8, BLOCK, 8, 0, PAST[i], 20) == BYR_REFUSED_NUMBER && unmoved(&m, HELD_COUNT));
+    }
+    CHECK(searched(&m, BLOCK, 8, BESIDE, 8, M - 7, 0, 20) == BYR_REFUSED_NUMBER);
+    CHECK(searched(&m, BLOCK, 8, BESIDE, 8, M - 8, 0, 20) == 0 && m.ground == BYR_MOVE_CLEAR);
+    CHECK(searched(&m, BLOCK, 8, BESIDE, 8, 0, 9, 15) == BYR_REFUSED_FIT && unmoved(&m, HELD_COUNT));
+    CHECK(searched(&m, BLOCK, 8, BESIDE, 8, 0, 9, 16) == 0);
+    CHECK(moved_as(&m, BYR_MOVE_CLEAR, HELD_COUNT, HELD_COUNT, HELD_COUNT, 16));
+    CHECK(searched(&m, BLOCK, 8, BESIDE, 8, 0, 9, 20) == 0);
+    CHECK(moved_as(&m, BYR_MOVE_CLEAR, HELD_COUNT, HELD_COUNT, HELD_COUNT, 16));
+    /* The right edge's own line, down. */
+    CHECK(m.room[4] == 4 && m.room[5] == 4 && m.room[6] == 4 && m.room[7] == 0);
+    CHECK(searched(&m, BLOCK, 8, BESIDE, 8, -1, 9, 0) == 0);
+    CHECK(moved_as(&m, BYR_MOVE_EDGE, HELD_COUNT, 1, HELD_COUNT, 0));
+    CHECK(searched(&m, BLOCK, 8, BLOCK, 8, 0, 0, 20) == 0);
+    CHECK(moved_as(&m, BYR_MOVE_ENCLOSED, HELD_COUNT, HELD_COUNT, HELD_COUNT, 0));
+}
+
+static void reasons(void) {
+    static const int32_t own[16] = {0, 0, 4, 0, 4, 0, 4, 4, 4, 4, 0, 4, 0, 4, 0, 0};
+    static const int32_t upright[16] = {4, M, 4, -M, 4, M, 4, -M, 4, M, 4, -M, 4, M, 4, -M};
+    struct moved m;
+    int32_t reason[16];
+    size_t i;
+
+    begin("byr_whole_check_reason");
+    try_moved(CHECK_REASON, POLYGONS_MOVED, sizeof POLYGONS_MOVED / sizeof *POLYGONS_MOVED);
+    try_moved(CHECK_REASON, REASONS, sizeof REASONS / sizeof *REASONS);
+    for (i = 0; i < 4; i++) {
+        memcpy(reason, upright, sizeof reason);
+        reason[15] = PAST[i];
+        CHECK(reasoned(&m, BLOCK, 8, BESIDE, 8, 0, 9, reason, 16) == BYR_REFUSED_NUMBER && unmoved(&m, HELD_COUNT));
+        CHECK(reasoned(&m, BLOCK, 8, BLOCK, 8, 0, PAST[i], upright, 16) == BYR_REFUSED_NUMBER);
+    }
+    CHECK(searched(&m, BLOCK, 8, BESIDE, 8, 0, 9, 16) == 0);
+    memcpy(reason, m.room, sizeof reason);
+    CHECK(reasoned(&m, BLOCK, 8, BESIDE, 8, 0, 9, reason, 16) == 0);
+    CHECK(moved_as(&m, BYR_MOVE_CLEAR, HELD_COUNT, HELD_COUNT, HELD_COUNT, 0));
+    CHECK(reasoned(&m, BLOCK, 8, BESIDE, 8, 0, 9, upright, 16) == 0 && m.ground == BYR_MOVE_CLEAR);
+    /* Two points that are one. */
+    reason[14] = reason[12];
+    reason[15] = reason[13];
+    CHECK(reasoned(&m, BLOCK, 8, BESIDE, 8, 0, 9, reason, 16) == 0);
+    CHECK(moved_as(&m, BYR_MOVE_EDGE, HELD_COUNT, 3, HELD_COUNT, 0));
+    CHECK(reasoned(&m, BLOCK, 8, BESIDE, 8, -1, 9, upright, 16) == 0 && m.ground == BYR_MOVE_EDGE && m.edge == 0);
+    CHECK(reasoned(&m, BLOCK, 8, BLOCK, 8, 0, 0, own, 16) == 0);
+    CHECK(moved_as(&m, BYR_MOVE_ENCLOSED, HELD_COUNT, HELD_COUNT, HELD_COUNT, 0));
+}
+
+static void whole_paths(void) {
+    static const int32_t round[8] = {-2, -2, 4, -2, 4, 4, -2, 4};
+    static const int32_t within[6] = {1, 1, 2, 1, 1, 2};
+    /* As drawn in the far corner of the bounds, with points that bring it back past their number. */
+    static const int32_t far[8] = {M - 2, M - 2, M, M - 2, M, M, M - 2, M};
+    static const int32_t back[6] = {2 - 2 * M, 2 - 2 * M, -M - 100, 2 - 2 * M, -M - 100, -M};
+    struct moved m;
+    int32_t path[6];
+    size_t i;
+
+    begin("byr_whole_clear_path");
+    try_moved(CLEAR_PATH, POLYGONS_MOVED, sizeof POLYGONS_MOVED / sizeof *POLYGONS_MOVED);
+    try_moved(CLEAR_PATH, WHOLE_PATHS, sizeof WHOLE_PATHS / sizeof *WHOLE_PATHS);
+    for (i = 0; i < 4; i++) {
+        memcpy(path, within, sizeof path);
+        path[5] = PAST[i];
+        CHECK(gone(&m, BLOCK, 8, TOOL, 8, path, 6) == BYR_REFUSED_NUMBER && unmoved(&m, HELD_COUNT));
+    }
+    CHECK(gone(&m, BLOCK, 8, TOOL, 8, round, 8) == 0);
+    CHECK(moved_as(&m, BYR_MOVE_CLEAR, HELD_COUNT, HELD_COUNT, HELD_COUNT, 0));
+    CHECK(gone(&m, BLOCK, 8, TOOL, 8, round, 6) == 0);
+    CHECK(moved_as(&m, BYR_MOVE_EDGE, 2, 0, HELD_COUNT, 0));
+    CHECK(gone(&m, BLOCK, 8, TOOL, 8, within, 6) == 0);
+    CHECK(moved_as(&m, BYR_MOVE_ENCLOSED, 0, HELD_COUNT, HELD_COUNT, 0));
+    CHECK(gone(&m, BLOCK, 8, far, 8, back, 6) == 0 && m.ground == BYR_MOVE_CLEAR);
+    memcpy(path, back, sizeof path);
+    path[0] -= 1;
+    CHECK(gone(&m, BLOCK, 8, far, 8, path, 6) == BYR_REFUSED_NUMBER && unmoved(&m, HELD_COUNT));
 }
 
 /* ---- Contacts and vectors ---- */
@@ -1894,6 +2103,9 @@ int main(void) {
     places();
     whole_points();
     whole_rings();
+    clear_moves();
+    reasons();
+    whole_paths();
     contacts();
     vectors();
     perfect_fit();

@@ -1,6 +1,7 @@
 /*
  * Byrlygent: the sliding no-fit polygon, ring predicates in floats and in whole
- * numbers, the outline book, drawings in well-known binary, and places to inspect.
+ * numbers, whole moves with the reason that nothing lay in between, the outline book,
+ * drawings in well-known binary, and places to inspect.
  * Link libbyrlygent.a; of other libraries it needs only C's memcpy and memset.
  *
  * Every function is total: whatever is lent, it answers or refuses, and writes
@@ -46,7 +47,7 @@
  *
  *     0    the stationary polygon; a; the only list
  *     1    the orbiting polygon; b
- *     2    the visited positions; the path to check
+ *     2    the visited positions; the path to check; the reason to check
  *
  * For byr_write_book it is a ring or the number of rings; byr_read_book writes it
  * with 7 and byr_read_wkb with 10, and it is a byte of what is read. With any other
@@ -105,6 +106,13 @@ enum {
     BYR_FAULT_NONE = 0,  /* there is none: the path is accepted */
     BYR_FAULT_POINT = 1, /* at a point there is no contact */
     BYR_FAULT_LEG = 2    /* a leg runs into something */
+};
+
+/* What comes of a whole move, or of a reason that is lent for one. */
+enum {
+    BYR_MOVE_CLEAR = 0,   /* nothing lies in between, and there is a reason */
+    BYR_MOVE_EDGE = 1,    /* an edge is not parted from the way */
+    BYR_MOVE_ENCLOSED = 2 /* every edge is parted, and the way is enclosed */
 };
 
 /* Why byr_mend_ring drops a vertex. */
@@ -259,7 +267,7 @@ uint32_t byr_make_disc(double cx, double cy, double radius, uint64_t m, double *
  * and no margin is in it, and nothing is rounded. Lent the same numbers as doubles,
  * either zero for 0, the functions above answer and refuse alike. For points the
  * refusal is 2; for rings of 0 to 256 vertices 1 and 9 at place 0, then 2. No ring is
- * too short, so there is no 8. */
+ * too short, so there is no 8; whole moves, below, are of polygons. */
 
 /* turn: 1 if a, b, c turn counter-clockwise, -1 if clockwise, 0 if they are in
  * line. */
@@ -285,6 +293,65 @@ uint32_t byr_whole_is_simple_polygon(const int32_t *ring, size_t n, uint32_t *si
 
 /* area2: twice the signed area, above 0 for counter-clockwise order. */
 uint32_t byr_whole_signed_area2(const int32_t *ring, size_t n, int64_t *area2, uint64_t *place);
+
+/* ---- Whole moves: polygons of 3 to 256 vertices with whole coordinates. ----
+ * A true answer, without a tolerance: the orbiting polygon slides straight from where
+ * it stands by (dx,dy), and at no time does a point of a stationary edge lie inside it,
+ * or a point inside it inside the stationary ring. To touch is to be clear. The way is
+ * the orbiting polygon's corners at the start and at the end; all of them are within
+ * the bounds of a coordinate.
+ *
+ * A reason is two points p and q for each stationary edge, vertex j to the next, that
+ * are not one: the whole way lies left of the line p to q or on it, and both ends of
+ * the edge right of it or on it. And it is balanced: of the edges whose line rises,
+ * p.y < q.y, as many come up through the way's lowest height, from it or below to above
+ * it, as go down. Where a reason holds, whoever made it, the move is clear; anyone can
+ * check one with turns of whole numbers alone.
+ *
+ * The stationary ring may be any closed one. Of the orbiting polygon the hull is meant:
+ * for one that is not convex a reason is more than is needed, and none found proves
+ * nothing. Of a flat one, all of whose vertices are in line, a reason proves nothing. */
+
+/* Looks for a reason, the orbiting polygon being lent as it stands at the start.
+ * ground, a BYR_MOVE_: with BYR_MOVE_CLEAR the room's front holds the reason, p.x, p.y,
+ * q.x and q.y for each stationary edge; with BYR_MOVE_EDGE edge is the first that no
+ * line tried parts from the way; with BYR_MOVE_ENCLOSED every edge is parted, and the
+ * lines do not balance. The lines tried for an edge are, in this order, the edge's own,
+ * and for each orbiting vertex the edge to the next at the start, that edge at the end,
+ * and the vertex's own way, each there and back; the first that parts is taken.
+ *
+ * Refusals: 1, 8, 9; 2, also for a corner out of bounds at the end of the move; 5 where
+ * the move is clear and the room holds fewer than 4 numbers an edge. With a refusal the
+ * room is as it was. edge is written with BYR_MOVE_EDGE only. */
+uint32_t byr_whole_clear_move(const int32_t *stationary, size_t sn, const int32_t *orbiting, size_t on, int32_t dx,
+                              int32_t dy, int32_t *reason, size_t reason_n, uint32_t *ground, uint64_t *edge,
+                              uint64_t *place);
+
+/* Checks a reason for the same move, whoever made it. ground: BYR_MOVE_CLEAR if it
+ * holds; BYR_MOVE_EDGE if a line does not part its edge from the way, or its two points
+ * are one, and edge is the first such; BYR_MOVE_ENCLOSED if each line parts, and they do
+ * not balance.
+ *
+ * Refusals: 1, 8, 9, those of the reason at place 2, which has 4 numbers for each
+ * stationary edge: 1 for a length that is no multiple of four, 8 for fewer, 9 for more;
+ * 2 of all three lists, and for a corner out of bounds at the end of the move. edge is
+ * written with BYR_MOVE_EDGE only. */
+uint32_t byr_whole_check_reason(const int32_t *stationary, size_t sn, const int32_t *orbiting, size_t on,
+                                int32_t dx, int32_t dy, const int32_t *reason, size_t reason_n,
+                                uint32_t *ground, uint64_t *edge, uint64_t *place);
+
+/* Looks for a reason for each leg of a path of 3 to 10001 points, the orbiting polygon
+ * being lent as drawn and moved to each point; the last leg leads from the last point to
+ * the first. ground is BYR_MOVE_CLEAR if every leg is clear, by byr_whole_clear_move, and
+ * else that of the first that is not: leg is then the point at which it begins, and edge
+ * as there.
+ *
+ * Refusals: 1, 8, 9, those of the path at place 2; 2, also for a corner out of bounds at
+ * a point of the path, whose own numbers may be any. leg is written with BYR_MOVE_EDGE
+ * and BYR_MOVE_ENCLOSED only, edge with BYR_MOVE_EDGE only. */
+uint32_t byr_whole_clear_path(const int32_t *stationary, size_t sn, const int32_t *orbiting, size_t on,
+                              const int32_t *path, size_t path_n, uint32_t *ground, uint64_t *leg,
+                              uint64_t *edge, uint64_t *place);
 
 /* ---- Sliding: polygons of 3 to 256 vertices. ----
  * Refusals 1, 8 and 9 are told of the stationary polygon (or a) at place 0, and of

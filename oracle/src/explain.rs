@@ -11,7 +11,7 @@ use crate::shapes::{comb, disc, placed, square};
 use crate::stored::{Cases, Program};
 
 /// The program, with its stored cases.
-pub const PROGRAM: Program = Program { example, cases, printed };
+pub const PROGRAM: Program = Program { example, cases, printed, others: Vec::new };
 
 /// Bytes of the move and the tolerance before the book.
 const WORDS: usize = 24;

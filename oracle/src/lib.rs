@@ -7,14 +7,17 @@
 //! other order. `calls` gives docs/SCOPE.md's answers over `fixed`; `book` is no
 //! text of theirs, but the outline book written down from docs/SCOPE.md, `wkb` the
 //! well-known binary, `grounds` why a move is clear or not, `path` the check of a path,
-//! `whole` the predicates in whole numbers, `mend` the mending of a ring, `discs` the
-//! discs from a table, and `inspection` the places that a shift inspects.
+//! `whole` the predicates in whole numbers, `clear` whole moves and the reason that
+//! nothing lay in between, `mend` the mending of a ring, `discs` the discs from a table,
+//! and `inspection` the places that a shift inspects.
 
 #![allow(clippy::duplicate_mod)] // The text is compiled three times on purpose.
 
 pub mod answers;
 pub mod book;
 pub mod calls;
+pub mod clear;
+pub mod clear_move;
 pub mod discs;
 pub mod explain;
 pub mod fixed;
@@ -22,6 +25,7 @@ pub mod grounds;
 pub mod inspection;
 pub mod mend;
 pub mod path;
+pub mod pictures;
 pub mod printer;
 pub mod refusals;
 pub mod replay;

@@ -7,7 +7,7 @@ use crate::shapes::{carrier, mirrored};
 use crate::stored::{Cases, Program};
 
 /// The program, with its stored cases.
-pub const PROGRAM: Program = Program { example, cases, printed };
+pub const PROGRAM: Program = Program { example, cases, printed, others: Vec::new };
 
 /// Document 01's ring, as lent.
 fn triangle() -> Vec<f64> {

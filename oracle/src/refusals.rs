@@ -80,6 +80,13 @@ pub struct Kind {
     most: usize,
 }
 
+impl Kind {
+    /// A reason: a line for each of so many edges.
+    pub fn reason(edges: usize) -> Self {
+        Self { width: 4, least: edges, most: edges }
+    }
+}
+
 /// A ring.
 pub const RING: Kind = Kind { width: 2, least: 0, most: MOST_VERTICES };
 /// A ring to mend.

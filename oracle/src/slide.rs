@@ -9,7 +9,7 @@ use crate::shapes::{comb, disc, placed, square};
 use crate::stored::{Cases, Program};
 
 /// The program, with its stored cases.
-pub const PROGRAM: Program = Program { example, cases, printed };
+pub const PROGRAM: Program = Program { example, cases, printed, others: Vec::new };
 
 /// Bytes of the settings before the book.
 const SETTINGS: usize = 24;

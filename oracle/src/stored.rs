@@ -8,6 +8,9 @@ use std::process::ExitCode;
 /// Inputs by their names.
 pub type Cases = Vec<(&'static str, Vec<u8>)>;
 
+/// Files by their places in a crate.
+pub type Files = Vec<(String, Vec<u8>)>;
+
 /// A program that reads standard input and prints.
 pub struct Program {
     /// The input of the gate.
@@ -16,11 +19,13 @@ pub struct Program {
     pub cases: fn() -> Cases,
     /// What is printed for an input.
     pub printed: fn(&[u8]) -> String,
+    /// Files that are stored besides.
+    pub others: fn() -> Files,
 }
 
 impl Program {
     /// The stored files, by their places in the program's crate.
-    pub fn files(&self) -> Vec<(String, Vec<u8>)> {
+    pub fn files(&self) -> Files {
         let pair = |given: String, expected: String, input: Vec<u8>| {
             let text = (self.printed)(&input).into_bytes();
             [(given, input), (expected, text)]
@@ -28,14 +33,16 @@ impl Program {
         let beside = (self.cases)().into_iter().flat_map(|(name, input)| {
             pair(format!("cases/{name}.in"), format!("cases/{name}.out"), input)
         });
-        pair("stdin".into(), "stdout".into(), (self.example)()).into_iter().chain(beside).collect()
+        let gate = pair("stdin".into(), "stdout".into(), (self.example)());
+        gate.into_iter().chain(beside).chain((self.others)()).collect()
     }
 
     /// Writes them to the program's crate.
     fn write(&self, directory: &Path) -> Result<()> {
-        std::fs::create_dir_all(directory.join("cases"))?;
         for (name, held) in self.files() {
-            std::fs::write(directory.join(name), held)?;
+            let file = directory.join(name);
+            std::fs::create_dir_all(file.parent().expect("a file stands in a folder"))?;
+            std::fs::write(file, held)?;
         }
         Ok(())
     }

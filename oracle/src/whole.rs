@@ -10,7 +10,7 @@ pub type Spot = (i32, i32);
 pub const MOST: i32 = 1_000_000;
 
 /// 2 unless every number is at most a million in size.
-fn within(numbers: &[i32]) -> Answer<()> {
+pub fn within(numbers: &[i32]) -> Answer<()> {
     unless(numbers.iter().all(|x| (-MOST..=MOST).contains(x)), Refusal::of(2))
 }
 

@@ -1,7 +1,7 @@
 //! The replay lists hold lists about the bounds of their length in every way, alone
 //! and together, and each record tells what is wrong with the first wrong one.
 
-use oracle::replay::{book, list, paths, rings, sliding, traces};
+use oracle::replay::{book, clear, list, paths, rings, sliding, traces};
 use oracle::seeded::Seeded;
 use std::collections::BTreeSet;
 
@@ -102,12 +102,27 @@ impl Met {
         Self { call: 0, ..Self::new(record, paths::HEADER, &lent, [6, 9]) }
     }
 
+    /// A record of the list `clear`: of its third list only a reason, which has a line for
+    /// each stationary edge, and a path have bounds.
+    fn clear(record: &[u64]) -> Self {
+        let lines = 4 * (record[1] as usize / 2);
+        let third = match record[0] {
+            clear::CHECK_REASON => Some(Bounds(4, lines, lines)),
+            clear::CLEAR_PATH => Some(CHECKED),
+            _ => None,
+        };
+        let bounds = [Some(POLYGON), Some(POLYGON), third];
+        let lent = [0, 1, 2].map(|i| (record[i + 1], bounds[i]));
+        Self::new(record, clear::HEADER, &lent, [6, 10])
+    }
+
     /// A record of the list with this name.
     fn of(name: &str, record: &[u64]) -> Self {
         match name {
             "sliding" => Self::sliding(record),
             "rings" => Self::rings(record),
             "paths" => Self::paths(record),
+            "clear" => Self::clear(record),
             _ => Self::traces(record),
         }
     }
@@ -169,7 +184,7 @@ fn calls_with_two_lists() -> Vec<(&'static str, u64, &'static [Way])> {
 
 #[test]
 fn every_record_tells_its_first_wrong_list() {
-    for name in ["rings", "sliding", "traces", "paths"] {
+    for name in ["rings", "sliding", "traces", "paths", "clear"] {
         for record in stored(name).iter().chain(&long(name)) {
             let (call, told) = (record.call, record.told);
             match record.asked() {
@@ -262,6 +277,39 @@ fn paths_to_check_are_met_in_every_way_beside_the_polygons() {
     assert!(lengths.iter().all(|n| paths.contains(n)), "{paths:?}");
     let paths = all(&stored, 0, |met| met.lengths()[2]);
     assert!([0, 1, 2, 3, 4, 5, 6, 20_002, 20_004].iter().all(|n| paths.contains(n)), "{paths:?}");
+}
+
+#[test]
+fn lists_of_whole_moves_are_met_in_every_way_together() {
+    let [stored, long] = [stored("clear"), long("clear")];
+    for (call, thirds) in [
+        (clear::CLEAR_MOVE, &[][..]),
+        (clear::CHECK_REASON, &[Fine, Short, Long, OddAndShort, OddAndLong]),
+        (clear::CLEAR_PATH, &[Fine, Odd, Short, OddAndShort]),
+    ] {
+        let [met, more] =
+            [&stored, &long].map(|records| all(records, call, |record| record.ways.clone()));
+        for pair in pairs(&[Fine, Odd, Short, Long]) {
+            let few = pair.contains(&Long);
+            let alone = |met: &BTreeSet<Vec<Way>>| met.iter().any(|ways| ways[..2] == pair);
+            assert!(alone(&more) && (few || alone(&met)), "{call} {pair:?}");
+            // Beside another stationary polygon a reason of one length is of another way.
+            let fine = pair[0] == Fine || call != clear::CHECK_REASON;
+            for &third in thirds.iter().filter(|_| fine) {
+                let ways = [&pair[..], &[third]].concat();
+                assert!(more.contains(&ways) && (few || met.contains(&ways)), "{call} {ways:?}");
+            }
+        }
+        let lengths = all(&long, call, |record| record.lengths()[..2].to_vec());
+        for n in [0, 1, 3, 4, 5, 6, 7, 8, 511, 512, 513, 514, 515] {
+            let met = |of: [usize; 2]| lengths.contains(of.as_slice());
+            assert!(met([8, n]) && met([n, 8]), "{call} {n}");
+        }
+    }
+    let paths = all(&stored, clear::CLEAR_PATH, |record| record.lengths()[2]);
+    assert!([20_002, 20_004].iter().all(|n| paths.contains(n)), "{paths:?}");
+    let paths = all(&long, clear::CLEAR_PATH, |record| record.lengths()[2]);
+    assert!([20_003, 20_004].iter().all(|n| paths.contains(n)), "{paths:?}");
 }
 
 #[test]

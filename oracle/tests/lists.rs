@@ -2,7 +2,7 @@
 //! their bounds, and hold every outcome there is.
 
 use oracle::replay::{
-    book, bytes, discs, list, paths, places, rings, scalars, sliding, traces, whole, wkb,
+    book, bytes, clear, discs, list, paths, places, rings, scalars, sliding, traces, whole, wkb,
 };
 use oracle::seeded::Seeded;
 use std::collections::BTreeSet;
@@ -89,6 +89,54 @@ fn whole_records_keep_their_bounds() {
         let numbers = record[whole::HEADER..].iter().map(|&word| word as i64);
         assert!(numbers.into_iter().all(|number| i32::try_from(number).is_ok()));
     }
+}
+
+#[test]
+fn clear_is_as_written() {
+    as_written("replay_clear", clear::records());
+}
+
+#[test]
+fn clear_records_keep_their_bounds_and_meet_every_outcome() {
+    for records in [clear::records(), long("clear", 4_000)] {
+        let mut met = BTreeSet::new();
+        for record in records {
+            let [a, b, third] = lengths(&record, [1, 2, 3]);
+            assert!(a <= clear::MOST_POLYGON && b <= clear::MOST_POLYGON);
+            let most =
+                if record[0] == clear::CLEAR_PATH { clear::MOST_PATH } else { clear::MOST_REASON };
+            assert!(third <= most);
+            let exit = if record[0] == clear::CLEAR_MOVE { third } else { 0 };
+            assert_eq!(record.len(), clear::HEADER + a + b + third + exit);
+            let numbers = record[clear::HEADER..].iter().map(|&word| word as i64);
+            assert!(numbers.into_iter().all(|number| i32::try_from(number).is_ok()));
+            met.extend((clear::LIST.counted)(&record));
+        }
+        for call in ["0 clear_move", "1 check_reason", "2 clear_path"] {
+            let refusals = [1, 2, 8, 9].map(|number| format!("refusal {number}"));
+            let grounds = ["clear", "edge", "enclosed"].map(str::to_string);
+            for outcome in grounds.into_iter().chain(refusals) {
+                assert!(met.contains(&format!("{call}: {outcome}")), "{call} {outcome}");
+            }
+        }
+        assert!(met.contains("0 clear_move: refusal 5"));
+    }
+}
+
+#[test]
+fn whole_moves_are_met_that_end_at_every_edge_and_whole_paths_at_every_leg() {
+    let records = clear::records();
+    let met = |call: u64, n: u64, place: usize| -> BTreeSet<u64> {
+        let of = |r: &&Vec<u64>| r[0] == call && r[6] == 0 && r[7] == 1;
+        let of = records.iter().filter(of);
+        of.filter(|r| n == if call == clear::CLEAR_PATH { r[3] } else { r[1] } / 2)
+            .map(|r| r[place])
+            .collect()
+    };
+    assert!(met(clear::CLEAR_MOVE, 4, 9).into_iter().eq(0..4));
+    assert!(met(clear::CHECK_REASON, 4, 9).into_iter().eq(0..4));
+    assert!(met(clear::CLEAR_PATH, 4, 8).into_iter().eq(0..4));
+    assert!(met(clear::CLEAR_PATH, 10_001, 8).contains(&10_000));
 }
 
 #[test]

@@ -15,9 +15,13 @@ fn as_written(name: &str, program: &Program) {
         assert!(stored == held, "{place}");
         written.insert(file);
     }
-    for file in std::fs::read_dir(directory.join("cases")).expect("the cases are there") {
-        let file = file.expect("a file").path();
-        assert!(written.contains(&file), "{}", file.display());
+    let folders: BTreeSet<_> = written.iter().filter_map(|file| file.parent()).collect();
+    assert!(folders.contains(&directory.join("cases").as_path()));
+    for folder in folders.into_iter().filter(|folder| *folder != directory) {
+        for file in std::fs::read_dir(folder).expect("the files are there") {
+            let file = file.expect("a file").path();
+            assert!(written.contains(&file), "{}", file.display());
+        }
     }
 }
 
@@ -34,4 +38,17 @@ fn explain_move_is_as_written() {
 #[test]
 fn ring_printer_is_as_written() {
     as_written("ring_printer", &oracle::printer::PROGRAM);
+}
+
+#[test]
+fn clear_move_is_as_written() {
+    as_written("clear_move", &oracle::clear_move::PROGRAM);
+}
+
+#[test]
+fn the_pictures_are_as_written() {
+    let directory = PathBuf::from(env!("CARGO_MANIFEST_DIR")).join("../docs");
+    for (name, held) in oracle::pictures::files() {
+        assert!(std::fs::read(directory.join(&name)).is_ok_and(|stored| stored == held), "{name}");
+    }
 }

@@ -209,6 +209,44 @@ functions! {
         place: *mut u64,
     ) -> u32;
     fn byr_whole_signed_area2(ring: *const i32, n: usize, area2: *mut i64, place: *mut u64) -> u32;
+    fn byr_whole_clear_move(
+        stationary: *const i32,
+        sn: usize,
+        orbiting: *const i32,
+        on: usize,
+        dx: i32,
+        dy: i32,
+        reason: *mut i32,
+        reason_n: usize,
+        ground: *mut u32,
+        edge: *mut u64,
+        place: *mut u64,
+    ) -> u32;
+    fn byr_whole_check_reason(
+        stationary: *const i32,
+        sn: usize,
+        orbiting: *const i32,
+        on: usize,
+        dx: i32,
+        dy: i32,
+        reason: *const i32,
+        reason_n: usize,
+        ground: *mut u32,
+        edge: *mut u64,
+        place: *mut u64,
+    ) -> u32;
+    fn byr_whole_clear_path(
+        stationary: *const i32,
+        sn: usize,
+        orbiting: *const i32,
+        on: usize,
+        path: *const i32,
+        path_n: usize,
+        ground: *mut u32,
+        leg: *mut u64,
+        edge: *mut u64,
+        place: *mut u64,
+    ) -> u32;
     fn byr_find_contacts(
         stationary: *const f64,
         sn: usize,

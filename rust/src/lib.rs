@@ -28,7 +28,8 @@
 //! Discs are made here, so that they have the same bits in every drawing: [`discs`].
 //!
 //! Parts whose coordinates are whole numbers have predicates of their own, without a
-//! float: [`whole`].
+//! float: [`whole`]. There a move of one part along another is told to be clear with a
+//! reason that anyone can check.
 //!
 //! A path that another program traced is judged by [`nfp_sliding::check_path`]; which
 //! places of a path a shift inspects, so that none is forgotten, tells [`inspection`].

@@ -15,6 +15,8 @@ pub enum List {
     Visited,
     /// The path that is checked.
     Path,
+    /// The reason that is checked.
+    Reason,
     /// The first of two rings, or of two polygons.
     First,
     /// The second of them.
@@ -35,6 +37,7 @@ impl List {
         match self {
             Self::Visited => ("position", "positions"),
             Self::Path | Self::Points => ("point", "points"),
+            Self::Reason => ("line", "lines"),
             Self::Book => ("ring", "rings"),
             _ => ("vertex", "vertices"),
         }
@@ -48,6 +51,7 @@ impl fmt::Display for List {
             Self::Orbiting => "the orbiting polygon",
             Self::Visited => "the visited list",
             Self::Path => "the path",
+            Self::Reason => "the reason",
             Self::First => "the first outline",
             Self::Second => "the second outline",
             Self::Ring => "the ring",
@@ -102,6 +106,11 @@ impl Entries {
         Self { list: List::Path, has, least: 3, most: 10_001 }
     }
 
+    /// A reason of so many lines, which has one for each of so many edges.
+    pub(crate) fn reason(has: usize, edges: usize) -> Self {
+        Self { list: List::Reason, has, least: edges, most: edges }
+    }
+
     /// A book of so many rings.
     pub(crate) fn book(has: usize) -> Self {
         Self { list: List::Book, has, least: 1, most: 8 }
@@ -116,6 +125,9 @@ impl fmt::Display for Entries {
             0 => write!(f, "{list} has no {several}")?,
             1 => write!(f, "{list} has 1 {one}")?,
             _ => write!(f, "{list} has {has} {several}")?,
+        }
+        if least == most {
+            return write!(f, ": it must have {least}");
         }
         write!(f, ": it may have {least} to {most}")
     }

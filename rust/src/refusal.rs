@@ -75,7 +75,8 @@ impl fmt::Display for Refusal {
         match self {
             Self::Number => f.write_str(
                 "a number is out of bounds: coordinates must be finite and from -1000000 to \
-                 1000000, moves and positions finite, the radius of a disc finite and above 0",
+                 1000000, of a whole move at its end too, moves and positions finite, the radius \
+                 of a disc finite and above 0",
             ),
             Self::Setting => f.write_str(
                 "a setting is out of bounds: the tolerance must be above 0 and at most 1, the \

@@ -17,6 +17,13 @@
 //! assert_eq!(polygon_ops::signed_area2(&floats)?, 120_400.0);
 //! # Ok::<(), byrlygent::Refusal>(())
 //! ```
+//!
+//! [`clear_move`] tells whether nothing lies in between when one such part slides along
+//! another, and hands out a reason that anyone can check.
+
+mod clear;
+
+pub use clear::{check_reason, clear_move, clear_path, Ground, Legs, Line, Move, Reason};
 
 use crate::refusal::{among, plain};
 use crate::{ffi, Entries, List, Result};
@@ -95,6 +102,15 @@ pub fn signed_area2(vertices: &[impl Into<Point> + Copy]) -> Result<i64> {
     measured(ffi::byr_whole_signed_area2, vertices)
 }
 
+/// The points as a list of numbers.
+fn flat(points: &[impl Into<Point> + Copy]) -> Vec<i32> {
+    let numbers = |&point| {
+        let (x, y): Point = Into::into(point);
+        [x, y]
+    };
+    points.iter().flat_map(numbers).collect()
+}
+
 /// A function of the library that measures a ring.
 type Measuring<T> = unsafe fn(*const i32, usize, *mut T, *mut u64) -> u32;
 
@@ -103,12 +119,7 @@ fn measured<T: Default>(
     measuring: Measuring<T>,
     vertices: &[impl Into<Point> + Copy],
 ) -> Result<T> {
-    let numbers = |&vertex| {
-        let (x, y): Point = Into::into(vertex);
-        [x, y]
-    };
-    let ring: Vec<i32> = vertices.iter().flat_map(numbers).collect();
-    let (mut answer, mut place) = (T::default(), 0);
+    let (ring, mut answer, mut place) = (flat(vertices), T::default(), 0);
     // SAFETY: the list is as long as is said, and both cells are there.
     let number = unsafe { measuring(ring.as_ptr(), ring.len(), &mut answer, &mut place) };
     among(&[Entries::ring(List::Ring, vertices.len())], number, place)?;

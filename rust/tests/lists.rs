@@ -75,6 +75,7 @@ fn the_words_say_which_list_what_it_has_and_what_it_may_have() {
         (List::Orbiting, "the orbiting polygon has 5 vertices"),
         (List::Visited, "the visited list has 5 positions"),
         (List::Path, "the path has 5 points"),
+        (List::Reason, "the reason has 5 lines"),
         (List::First, "the first outline has 5 vertices"),
         (List::Second, "the second outline has 5 vertices"),
         (List::Ring, "the ring has 5 vertices"),

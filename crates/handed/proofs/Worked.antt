@@ -12,7 +12,9 @@ use Rattle.handed.specs.Handed.{refusalIn, returned, told, toldFound, pl
 use Rattle.handed.specs.Explanations.{hitIn, withHit, othersTold, groundIn, nearIn, betweenIn, farIn}
 use Rattle.handed.specs.Places.{placesIn, followingIn}
 use Rattle.handed.specs.Verdicts.{faultNumber, faultIndex, indexIn}
+use Rattle.handed.specs.Clear.{legGround, legOf, legEdgeOf, legIn, legEdgeIn}
 use Rattle.path_check.specs.declared.Fault.the-variants.{Nothing as Accepted, Leg}
+use Rattle.clear_path.specs.declared.PathGround.the-variants.{Enclosed}
 
 -- a book of two rings: 0, the count, and no place
 abbrev read : Outcome ℕ
@@ -205,3 +207,16 @@ blocked-index = refl
 accepted-index : toldFound itself (indexIn (answers Accepted)) 9 ≡ 9
 unfolding toldFound faultIndex
 accepted-index = refl
+
+-- a whole path that is enclosed on its leg 5: ground 2, the leg, and the edge as it was
+enclosed-ground : told legGround (answers (Enclosed 5)) 9 ≡ 2
+unfolding told legGround
+enclosed-ground = refl
+
+enclosed-leg : toldFound itself (legIn (answers (Enclosed 5))) 9 ≡ 5
+unfolding toldFound legOf
+enclosed-leg = refl
+
+enclosed-edge : toldFound itself (legEdgeIn (answers (Enclosed 5))) 9 ≡ 9
+unfolding toldFound legEdgeOf
+enclosed-edge = refl

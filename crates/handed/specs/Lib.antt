@@ -5,3 +5,4 @@ pub mod Traces
 pub mod Mends
 pub mod Places
 pub mod Verdicts
+pub mod Clear

@@ -1,4 +1,5 @@
 // Answers handed over to a C caller: through pointers where the call answers, and as the refusal's number and place where it does not.
+pub mod clear;
 pub mod explained;
 pub mod found;
 pub mod mended;

@@ -67,6 +67,26 @@ pub fn load_counts(bytes: &[u8], n: usize, room: &mut [u32])
     }
 }
 
+// The integer that the low half of a word is, in two's complement.
+pub fn integer(word: u64) -> i32 {
+    let half = word % 4294967296;
+    if half < 2147483648 {
+        return half as i32;
+    }
+    -1 - ((4294967295 - half) as i32)
+}
+
+// The integers of n words, at the front of the room.
+pub fn load_integers(bytes: &[u8], n: usize, room: &mut [i32])
+    requires { ⌜ n ≤ length (now room) ⌝ }
+{
+    let mut i = 0;
+    while i < n {
+        room[i] = integer(word(bytes, 8 * i));
+        i += 1;
+    }
+}
+
 // Whether the first n floats of two lists are the same, bit for bit.
 pub fn same_floats(a: &[f64], b: &[f64], n: usize) -> bool
     requires { ⌜ (n ≤ length (now a)) × (n ≤ length (now b)) ⌝ }
@@ -83,6 +103,20 @@ pub fn same_floats(a: &[f64], b: &[f64], n: usize) -> bool
 
 // Whether the first n counts of two lists are the same.
 pub fn same_counts(a: &[u32], b: &[u32], n: usize) -> bool
+    requires { ⌜ (n ≤ length (now a)) × (n ≤ length (now b)) ⌝ }
+{
+    let mut i = 0;
+    while i < n {
+        if a[i] != b[i] {
+            return false;
+        }
+        i += 1;
+    }
+    true
+}
+
+// Whether the first n integers of two lists are the same.
+pub fn same_integers(a: &[i32], b: &[i32], n: usize) -> bool
     requires { ⌜ (n ≤ length (now a)) × (n ≤ length (now b)) ⌝ }
 {
     let mut i = 0;

@@ -1,15 +1,11 @@
--- What is left of -1 by an integer, as the words of integers need it. Assumes nothing.
-use Prim.Native.Nat.{ℕ, zero, suc, _+_, _-_, _<_}
+-- What is left of -1 by an integer, as the word of an integer needs it. Assumes nothing.
+use Prim.Native.Nat.{suc, _-_, _<_}
 use mathlib.Core.Path.{_≡_, refl, ap}
 use mathlib.Core.Bool.{true, false, true≢false}
 use native.Mathlib.Omega.{arith}
 use lib.IntN.{ℤ, pos, negsuc, _-ℤ_}
 use lib.Signed.{ltZ, mag}
 use borrow.Author.Tests.{ltb-true, le-ltb}
-
-pub size : (k : ℕ) → mag (negsuc 0 -ℤ pos k) ≡ k
-size zero = refl
-size (suc k) = let e : suc (0 + k) ≡ suc k = omega arith in e
 
 pub turned : (z : ℤ) → ltZ z (pos 0) ≡ true → negsuc 0 -ℤ z ≡ pos (mag z)
 turned (pos n) h = let l : n < 0 = ltb-true _ _ h in absurd (omega arith)

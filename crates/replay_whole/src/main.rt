@@ -8,11 +8,11 @@ use replay::Verdict;
 use replay::after;
 use replay::begin;
 use replay::list_length;
+use replay::load_integers;
 use replay::read;
 use replay::report;
 use replay::word;
 use told::Told;
-use words::integer;
 ghost use mathlib.Core.Path.{_≡_};
 ghost use Prim.Native.Nat.{_≤_};
 ghost use lib.ListN.{length};
@@ -51,17 +51,6 @@ fn on_part(call: u64, list: &[i32], n: usize) -> Told
     on_ring(call, &list[..n])
 }
 
-// The integers of n words, at the front of the room.
-fn load(bytes: &[u8], n: usize, room: &mut [i32])
-    requires { ⌜ n ≤ length (now room) ⌝ }
-{
-    let mut i = 0;
-    while i < n {
-        room[i] = integer(word(bytes, 8 * i));
-        i += 1;
-    }
-}
-
 // n words of the list, as integers.
 fn integers(n: usize) -> [i32; 600]
     requires { ⌜ n ≤ 600 ⌝ }
@@ -70,7 +59,7 @@ fn integers(n: usize) -> [i32; 600]
     let mut bytes = [0u8; 4800];
     let mut list = [0i32; 600];
     read(&mut bytes, 8 * n);
-    load(&bytes, n, &mut list);
+    load_integers(&bytes, n, &mut list);
     list
 }
 

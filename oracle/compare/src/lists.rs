@@ -1,6 +1,7 @@
 //! The replay lists, each with the check of one of its records.
 
 mod book;
+mod clear;
 mod discs;
 mod mirrors;
 mod paths;
@@ -38,13 +39,17 @@ const RINGS: [Law; 5] = [
     mirrors::area_negated,
 ];
 
+/// The laws of whole moves.
+const MOVES: [Law; 3] = [clear::handed_out, clear::leg_by_leg, clear::exactly];
+
 /// All lists; the shares add up to a hundred.
-pub const LISTS: [Checked; 10] = [
+pub const LISTS: [Checked; 11] = [
     Checked { name: "scalars", share: 12, check: scalars::check, laws: &[] },
-    Checked { name: "rings", share: 18, check: rings::check, laws: &RINGS },
+    Checked { name: "rings", share: 14, check: rings::check, laws: &RINGS },
     Checked { name: "whole", share: 8, check: whole::check, laws: &[] },
+    Checked { name: "clear", share: 8, check: clear::check, laws: &MOVES },
     Checked { name: "discs", share: 4, check: discs::check, laws: &[] },
-    Checked { name: "sliding", share: 26, check: sliding::check, laws: &[] },
+    Checked { name: "sliding", share: 22, check: sliding::check, laws: &[] },
     Checked { name: "book", share: 10, check: book::check, laws: &[mirrors::book_mirrored] },
     Checked { name: "wkb", share: 10, check: wkb::check, laws: &[] },
     Checked { name: "places", share: 1, check: places::check, laws: &[] },

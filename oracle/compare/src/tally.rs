@@ -17,6 +17,8 @@ pub struct Compared {
     pub explained: Option<Explained>,
     /// The number of a path's first fault, where that is answered.
     pub fault: Option<u64>,
+    /// The ground of a whole move, of a reason or of a whole path, where that is answered.
+    pub ground: Option<u64>,
     /// What differs, if anything does.
     pub difference: Option<String>,
 }
@@ -31,7 +33,8 @@ pub struct Explained {
 }
 
 impl Compared {
-    /// The comparison of a call that is no trace, no explanation and no path's check.
+    /// The comparison of a call that is no trace, no explanation, no path's check and no
+    /// whole move.
     pub fn of<T: PartialEq + fmt::Debug>(
         call: &'static str,
         number: u64,
@@ -43,7 +46,7 @@ impl Compared {
             let [oracle, library] = [format!("{oracle:x?}"), format!("{library:x?}")];
             format!("{call}: expected {oracle:.MOST$}, the library has {library:.MOST$}")
         });
-        Self { call, number, stop: None, explained: None, fault: None, difference }
+        Self { call, number, stop: None, explained: None, fault: None, ground: None, difference }
     }
 }
 
@@ -55,6 +58,8 @@ const STOPS: usize = 5;
 const GROUNDS: usize = 6;
 /// How many numbers of a path's fault there are, from 0, which is none, on.
 const FAULTS: usize = 3;
+/// How many grounds of a whole move there are, from 0, which is clear, on.
+const MOVES: usize = 3;
 /// How many kinds of hit there are.
 const KINDS: usize = 2;
 /// How many other pairs at a hit's distance a comparison must reach.
@@ -121,6 +126,7 @@ pub struct Tally {
     stops: [u64; STOPS],
     explanations: Explanations,
     faults: [u64; FAULTS],
+    moves: Vec<(&'static str, [u64; MOVES])>,
     differences: Vec<String>,
 }
 
@@ -142,6 +148,9 @@ impl Tally {
         if let Some(fault) = compared.fault {
             self.faults[fault as usize] += 1;
         }
+        if let Some(ground) = compared.ground {
+            self.count_move(compared.call, ground);
+        }
         match compared.difference {
             None => self.rows[place].agree += 1,
             Some(told) if self.differences.len() < TOLD => {
@@ -149,6 +158,16 @@ impl Tally {
             }
             Some(_) => {}
         }
+    }
+
+    /// Counts the ground of this call on a whole move.
+    fn count_move(&mut self, call: &'static str, ground: u64) {
+        let place = self.moves.iter().position(|row| row.0 == call);
+        let place = place.unwrap_or_else(|| {
+            self.moves.push((call, [0; MOVES]));
+            self.moves.len() - 1
+        });
+        self.moves[place].1[ground as usize] += 1;
     }
 
     /// The counts of all calls together.
@@ -165,11 +184,16 @@ impl Tally {
         (all.numbers.iter().sum(), all.agree)
     }
 
-    /// What no explanation and no path had, of what some must have.
+    /// What no explanation, no path and no whole move had, of what some must have.
     pub fn unreached(&self) -> Vec<String> {
         let missing = (0..FAULTS).filter(|&fault| self.faults[fault] == 0);
         let paths = missing.map(|fault| format!("no path has fault {fault}"));
-        self.explanations.unreached().into_iter().chain(paths).collect()
+        let none = |(call, counts): &(&str, [u64; MOVES])| {
+            let missing = (0..MOVES).filter(|&ground| counts[ground] == 0);
+            missing.map(|ground| format!("no {call} has ground {ground}")).collect::<Vec<_>>()
+        };
+        let moves = self.moves.iter().flat_map(none);
+        self.explanations.unreached().into_iter().chain(paths).chain(moves).collect()
     }
 
     /// Whether this call was compared.
@@ -195,6 +219,9 @@ impl fmt::Display for Tally {
         write!(f, "{}", self.explanations)?;
         let [accepted, points, legs] = self.faults;
         writeln!(f, "paths: accepted: {accepted}, fault at a point: {points}, at a leg: {legs}")?;
+        for (call, [clear, edge, enclosed]) in &self.moves {
+            writeln!(f, "{call}: clear: {clear}, edge: {edge}, enclosed: {enclosed}")?;
+        }
         self.differences.iter().try_for_each(|told| writeln!(f, "DIFFERENCE {told}"))?;
         let (cases, agree) = self.totals();
         write!(f, "{} calls and laws, {cases} cases, {agree} agree", self.rows.len())

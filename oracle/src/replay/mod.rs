@@ -2,6 +2,7 @@
 //! little-endian 64-bit words without a header.
 
 pub mod book;
+pub mod clear;
 pub mod discs;
 mod lengths;
 pub mod paths;
@@ -69,6 +70,7 @@ pub fn list(name: &str) -> Option<List> {
         "book" => Some(book::LIST),
         "book_equal" => Some(book::EQUAL),
         "book_one" => Some(book::ONE),
+        "clear" => Some(clear::LIST),
         "discs" => Some(discs::LIST),
         "paths" => Some(paths::LIST),
         "places" => Some(places::LIST),

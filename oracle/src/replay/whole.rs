@@ -11,7 +11,9 @@ mod corners;
 mod every;
 mod sample;
 
+pub(super) use corners::EDGES;
 pub use every::every;
+pub(super) use sample::rounded;
 
 use super::{once, refused, List};
 use crate::refusals::Answer;

@@ -1,11 +1,13 @@
 //! Runs the text over the fixed helpers beside the text over the others, prints
 //! for each function how often the answers differ and a smallest input where
-//! they do, and then what the text itself is seen to do.
+//! they do, and then what the text itself is seen to do. `differences moves` prints the
+//! last part alone: what the exact answer to whole moves tells of the rule.
 
 mod answers;
 mod findings;
 mod inputs;
 mod mirrors;
+mod moves;
 mod paths;
 
 use answers::{Answer, Function, FUNCTIONS, PASSES};
@@ -89,6 +91,11 @@ fn report(groups: &[Vec<Input>; 3], other: fn(&Function) -> Answer) {
 }
 
 fn main() {
+    // What the exact answer tells of the rule, alone, if asked for.
+    if std::env::args().nth(1).as_deref() == Some("moves") {
+        moves::print();
+        return;
+    }
     let groups = [inputs::numbers(), inputs::rings(), inputs::pairs()];
     println!("Traces take at most {PASSES} passes; far is by more than 1e-9.");
     println!("\n== fixed and repository");
@@ -99,4 +106,5 @@ fn main() {
     findings::print();
     mirrors::print();
     paths::print();
+    moves::print();
 }

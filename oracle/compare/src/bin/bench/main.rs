@@ -1,14 +1,17 @@
 //! Times the Rust and the library beside each other: the oracle's text over the
 //! fixed helpers, called straight, against the exported function with its
 //! refusals; the check of a path against the text's pieces put together; the
-//! library's explanation of a collision against its check; and its calls in whole
-//! numbers against those in floats, and against plain Rust in i64.
+//! library's explanation of a collision against its check; its calls in whole numbers
+//! against those in floats, and against plain Rust in i64; and whole moves against plain
+//! Rust.
 //! `bench [PART]` measures the rows whose name has this part, all of them without
 //! it, and prints tables of them.
 
 mod memory;
+mod moves;
 mod paths;
 mod plain_book;
+mod plain_clear;
 mod plain_whole;
 mod plain_wkb;
 mod rows;
@@ -37,6 +40,9 @@ const FLOATS: Heads = ["floats", "whole numbers", "floats / whole numbers, at le
 
 /// Plain Rust in i64 beside the library in whole numbers.
 const INTEGERS: Heads = ["the Rust in i64", "the library", "Rust / library, at least 0.8"];
+
+/// Plain Rust in i64 beside the library's whole moves, whose bars are times.
+const MOVES: Heads = ["the Rust in i64", "the library", "Rust / library"];
 
 /// Prints a table of these rows, as they are measured.
 fn table(title: &str, [first, second, ratio]: Heads, rows: Vec<Row>, part: &str) {
@@ -68,6 +74,7 @@ fn main() {
     table("Explain against the collision call", EXPLAINED, rows::explanations(), part);
     table("Whole numbers against floats", FLOATS, rows::whole_and_floats(), part);
     table("Whole numbers against plain Rust", INTEGERS, rows::whole_and_plain(), part);
+    table("Whole moves", MOVES, moves::moves(), part);
     table("Traces", RUST, traces::traces(), part);
     table("Growth of a trace with vertices, 50 passes", RUST, traces::by_vertices(), part);
     table("Growth of a trace with passes, a point stored in each", RUST, traces::by_passes(), part);

@@ -174,7 +174,7 @@ fn simple_in_integers(ring: &[i32]) -> (u32, u32) {
 }
 
 /// A ring with its coordinates rounded to whole numbers.
-fn rounded(ring: Vec<f64>) -> Vec<i32> {
+pub fn rounded(ring: Vec<f64>) -> Vec<i32> {
     ring.into_iter().map(|x| x.round() as i32).collect()
 }
 

@@ -1,0 +1,3 @@
+-- The definitions that the contracts of clear_move cite.
+pub mod Lines
+pub mod Said

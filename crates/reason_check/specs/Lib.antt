@@ -1,0 +1,3 @@
+-- The definitions that the contracts of reason_check cite.
+pub mod Lent
+pub mod Told

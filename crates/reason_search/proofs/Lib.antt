@@ -1,0 +1,8 @@
+-- The modules of laws.
+pub mod WayLines
+pub mod Flags
+pub mod Firsts
+pub mod Laying
+pub mod Found
+pub mod Within
+pub mod Worked

@@ -1,0 +1,5 @@
+-- The modules that belong to no one function.
+mod Signs
+mod Parts
+mod Lists
+mod Worked
