@@ -7,3 +7,4 @@ pub mod Places
 pub mod Size
 pub mod KeptBits
 pub mod Changed
+pub mod Pushing

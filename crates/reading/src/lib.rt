@@ -72,6 +72,13 @@ fn before(ring: &[f64], a: usize, b: usize) -> bool
     false
 }
 
+// Two starts in one direction, the first before the second, and how many coordinates of their readings are known to be the same.
+pub struct Starts {
+    pub first: usize,
+    pub second: usize,
+    pub alike: usize,
+}
+
 // The number of the first of the least readings.
 pub fn least(ring: &[f64]) -> usize
     requires { ⌜ Lent (now ring) ⌝ }
