@@ -46,7 +46,7 @@ module _ {A : Type 0} (r : List A) where
 -- ---- the first of the least
 
 module _ (r : List Vertex) where
-  best-le : (c : ℕ) → best r c ≤ c
+  pub best-le : (c : ℕ) → best r c ≤ c
   unfolding best
   best-le zero = omega arith
   best-le (suc c) = go (earlier (choice r (suc c)) (choice r (best r c))) (best-le c)
@@ -55,7 +55,7 @@ module _ (r : List Vertex) where
       go true h = omega arith
       go false h = omega arith
 
-  best-least : (c j : ℕ) → j ≤ c → earlier (choice r j) (choice r (best r c)) ≡ false
+  pub best-least : (c j : ℕ) → j ≤ c → earlier (choice r j) (choice r (best r c)) ≡ false
   unfolding best
   best-least zero j h =
       let e : j ≡ 0 = omega arith in

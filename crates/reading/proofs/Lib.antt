@@ -8,3 +8,5 @@ pub mod Size
 pub mod KeptBits
 pub mod Changed
 pub mod Pushing
+pub mod Repeats
+pub mod First
