@@ -10,3 +10,4 @@ pub mod Changed
 pub mod Pushing
 pub mod Repeats
 pub mod First
+pub mod Ways

@@ -1,0 +1,255 @@
+-- The readings in one direction are the ring read round and round from each start, so that a start is beaten exactly if its reading is not
+-- the least of its direction. Assumes nothing.
+use Prim.Native.Nat.{ℕ, zero, suc, _+_, _-_, _*_, _/_, _%_, _≤_, _<_}
+use native.Mathlib.Omega.{arith}
+use native.Mathlib.Decide.{decLt}
+use native.Mathlib.Nat.{add-mod-right, mod-lt, mod-le, mod-eq-of-lt, mod-eq-sub-mod, not-suc-le-zero}
+use mathlib.Core.Path.{_≡_, refl, sym, ap, _∙_}
+use mathlib.Core.Bool.{Bool, true, false, not, cond}
+use mathlib.Core.Logic.{_⊎_, inl, inr, ⊎-elim}
+use mathlib.Core.List.{List, [], _∷_}
+use lib.ListN.{length, getD}
+use lib.Dec.{ltb}
+use Rattle.reading.specs.Reading.{Vertex, flat, ord, less, earlier, choice}
+use Rattle.reading.specs.Lent.{wrap, vertexPlace}
+use Rattle.reading.specs.Starts.{numberOf, along, Ahead, Beaten, Settled}
+use Rattle.reading.proofs.Turning.{length-reading}
+use Rattle.reading.proofs.Leasts.{length-flat}
+use Rattle.reading.proofs.Order.{Apart, lower, equal, higher, apart, ord-inj, less-lower, less-higher, less-equal, less-irrefl, less-trans, no-bool}
+use Rattle.reading.proofs.Places.{wrap-low, wrap-high, vertex-onward, vertex-back, choice-at, nowhere, coord-of-vertex}
+use Rattle.reading.proofs.First.{Foremost, less-under}
+use Rattle.reading.proofs.Repeats.{first-low, first-unbeaten, last-unbeaten, last-others}
+
+-- ---- the first difference of two lists
+
+-- the coordinates before the place k are the same, and that at k is lower
+pub record Lower (p q : List ℕ) (k : ℕ) : Type 0 where
+  pub inside : k < length p
+  pub same : (m : ℕ) → m < k → ord (getD p m 0) ≡ ord (getD q m 0)
+  pub less-there : ord (getD p k 0) < ord (getD q k 0)
+
+lower-less : (p q : List ℕ) (k : ℕ) → length p ≡ length q → Lower p q k → less p q ≡ true
+lower-less [] q k e h = absurd (not-suc-le-zero (h .inside))
+lower-less (a ∷ p) [] k e h = absurd (omega arith)
+lower-less (a ∷ p) (b ∷ q) zero e h = less-lower a b p q (h .less-there)
+lower-less (a ∷ p) (b ∷ q) (suc k) e h =
+    let t : Lower p q k = record { inside = omega (arith, h .inside); same = λ m l. h .same (suc m) (omega arith); less-there = h .less-there } in
+    less-equal a b p q (ord-inj a b (h .same 0 (omega arith))) ∙ lower-less p q k (omega arith) t
+
+less-at : (p q : List ℕ) → length p ≡ length q → less p q ≡ true → (k : ℕ) × Lower p q k
+less-at [] [] e h = no-bool (unfold less in h)
+less-at [] (b ∷ q) e h = absurd (omega arith)
+less-at (a ∷ p) [] e h = absurd (omega arith)
+less-at (a ∷ p) (b ∷ q) e h = go (apart a b) (less-at p q (omega arith))
+  where
+    after : a ≡ b → (k : ℕ) × Lower p q k → (k : ℕ) × Lower (a ∷ p) (b ∷ q) k
+    after z t = (suc (t .0), record { inside = omega (arith, t .1 .inside); same = all; less-there = t .1 .less-there })
+      where
+        all : (m : ℕ) → m < suc (t .0) → ord (getD (a ∷ p) m 0) ≡ ord (getD (b ∷ q) m 0)
+        all zero l = ap ord z
+        all (suc m) l = t .1 .same m (omega arith)
+
+    go : Apart a b → (less p q ≡ true → (k : ℕ) × Lower p q k) → (k : ℕ) × Lower (a ∷ p) (b ∷ q) k
+    go (lower l) ih = (0, record { inside = omega arith; same = λ m d. absurd (omega arith); less-there = l })
+    go (higher l) ih = no-bool (sym (less-higher a b p q l) ∙ h)
+    go (equal z) ih = after z (ih (sym (less-equal a b p q z) ∙ h))
+
+-- of lists by number one is the least
+lowest : (at : ℕ → List ℕ) (n : ℕ) → (e : ℕ) × (e < suc n) × ((w : ℕ) → w < suc n → less (at w) (at e) ≡ false)
+lowest at zero = (0, (omega arith), λ w l. let z : w ≡ 0 = omega arith in ap (λ (x : ℕ). less (at x) (at 0)) z ∙ less-irrefl (at 0))
+lowest at (suc n) = go (lowest at n)
+  where
+    go : (e : ℕ) × (e < suc n) × ((w : ℕ) → w < suc n → less (at w) (at e) ≡ false)
+        → (e : ℕ) × (e < suc (suc n)) × ((w : ℕ) → w < suc (suc n) → less (at w) (at e) ≡ false)
+    go t = by (less (at (suc n)) (at (t .0))) refl
+      where
+        last : (w x : ℕ) → w < suc (suc n) → (less (at (suc n)) (at x) ≡ false) → ((w < suc n) → less (at w) (at x) ≡ false) → less (at w) (at x) ≡ false
+        last w x l h k = at-end (decLt w (suc n))
+          where
+            at-end : Dec (w < suc n) → less (at w) (at x) ≡ false
+            at-end (yes d) = k d
+            at-end (no d) =
+                let z : w ≡ suc n = omega arith in
+                ap (λ (y : ℕ). less (at y) (at x)) z ∙ h
+
+        still : (w : ℕ) → less (at (suc n)) (at (t .0)) ≡ true → w < suc n → less (at w) (at (suc n)) ≡ false
+        still w h l = under (less (at w) (at (suc n))) refl
+          where
+            under : (b : Bool) → less (at w) (at (suc n)) ≡ b → b ≡ false
+            under false e = refl
+            under true e = no-bool (sym (t .2 w l) ∙ less-trans (at w) (at (suc n)) (at (t .0)) e h)
+
+        by : (b : Bool) → less (at (suc n)) (at (t .0)) ≡ b
+            → (e : ℕ) × (e < suc (suc n)) × ((w : ℕ) → w < suc (suc n) → less (at w) (at e) ≡ false)
+        by true h = (suc n, (omega arith), λ w l. last w (suc n) l (less-irrefl (at (suc n))) (still w h))
+        by false h = (t .0, (omega (arith, t .1)), λ w l. last w (t .0) l h (t .2 w))
+
+-- ---- the readings of one direction
+
+-- vertex t / 2 from the start u on is vertex m / 2 of the first reading
+same-vertex : (back : Bool) (n u t m : ℕ) → u < n → t < 2 * n → m < 2 * n → (m ≡ 2 * u + t) ⊎ (m + 2 * n ≡ 2 * u + t)
+    → vertexPlace n (numberOf n back u) (t / 2) ≡ vertexPlace n (numberOf n back 0) (m / 2)
+same-vertex false n u t m h k l (inl e) =
+    let z : u + t / 2 ≡ 0 + m / 2 = omega arith in
+    vertex-onward n u (t / 2) h ∙ ap (wrap n) z ∙ sym (vertex-onward n 0 (m / 2) (omega arith))
+same-vertex false n u t m h k l (inr e) =
+    let z : u + t / 2 - n ≡ 0 + m / 2 = omega arith in
+    vertex-onward n u (t / 2) h ∙ wrap-high n (u + t / 2) (omega arith) ∙ z
+    ∙ sym (vertex-onward n 0 (m / 2) (omega arith) ∙ wrap-low n (0 + m / 2) (omega arith))
+same-vertex true n u t m h k l (inl e) =
+    let z : 2 * n - suc u - t / 2 ≡ 2 * n - suc 0 - m / 2 = omega arith in
+    vertex-back n (2 * n - suc u) (t / 2) (omega arith) ∙ ap (wrap n) z ∙ sym (vertex-back n (2 * n - suc 0) (m / 2) (omega arith))
+same-vertex true n u t m h k l (inr e) =
+    let z : 2 * n - suc u - t / 2 ≡ 2 * n - suc 0 - m / 2 - n = omega arith in
+    vertex-back n (2 * n - suc u) (t / 2) (omega arith) ∙ wrap-low n (2 * n - suc u - t / 2) (omega arith) ∙ z
+    ∙ sym (vertex-back n (2 * n - suc 0) (m / 2) (omega arith) ∙ wrap-high n (2 * n - suc 0 - m / 2) (omega arith))
+
+turned : (n u t : ℕ) → u < n → t < 2 * n → ((2 * u + t) % (2 * n) ≡ 2 * u + t) ⊎ ((2 * u + t) % (2 * n) + 2 * n ≡ 2 * u + t)
+turned n u t h k = go (decLt (2 * u + t) (2 * n))
+  where
+    go : Dec (2 * u + t < 2 * n) → ((2 * u + t) % (2 * n) ≡ 2 * u + t) ⊎ ((2 * u + t) % (2 * n) + 2 * n ≡ 2 * u + t)
+    go (yes l) = inl (mod-eq-of-lt l)
+    go (no l) =
+        let a : 2 * n ≤ 2 * u + t = omega arith in
+        let b : 2 * u + t - 2 * n < 2 * n = omega arith in
+        inr (omega (arith, mod-eq-sub-mod a, mod-eq-of-lt b))
+
+number-low : (back : Bool) (n u : ℕ) → u < n → numberOf n back u < 2 * n
+number-low false n u h = omega arith
+number-low true n u h = omega arith
+
+module _ (r : List Vertex) (back : Bool) where
+  abbrev n : ℕ
+  n = length r
+
+  abbrev at : ℕ → List ℕ
+  at u = flat (choice r (numberOf n back u))
+
+  length-at : (u : ℕ) → length (at u) ≡ 2 * n
+  length-at u =
+      let c = numberOf n back u in
+      length-flat (choice r c) ∙ ap (λ (m : ℕ). 2 * m) (length-reading r (cond (ltb c n) c (c - n)) (not (ltb c n)))
+
+  pub round : (m : ℕ) → along r back (m + 2 * n) ≡ along r back m
+  unfolding along
+  round m = ap (λ (x : ℕ). ord (getD (at 0) x 0)) (add-mod-right m (2 * n))
+
+  pub place-at : (u t : ℕ) → u < n → t < 2 * n → ord (getD (at u) t 0) ≡ along r back (2 * u + t)
+  unfolding along
+  place-at u t h k =
+      let m = (2 * u + t) % (2 * n) in
+      let l : m < 2 * n = mod-lt (2 * u + t) (omega arith) in
+      let v = vertexPlace n (numberOf n back u) (t / 2) in
+      let w = vertexPlace n (numberOf n back 0) (m / 2) in
+      let e : v ≡ w = same-vertex back n u t m h k l (turned n u t h k) in
+      let z : t % 2 ≡ m % 2 = ⊎-elim (λ x. omega arith) (λ x. omega arith) (turned n u t h k) in
+      ap ord
+      (coord-of-vertex (choice r (numberOf n back u)) r v t (choice-at nowhere r (numberOf n back u) (t / 2) (number-low back n u h) (omega arith))
+      ∙ ap (λ (x : ℕ). getD (flat r) (2 * x + t % 2) 0) e
+      ∙ ap (λ (x : ℕ). getD (flat r) (2 * w + x) 0) z
+      ∙ sym (coord-of-vertex (choice r (numberOf n back 0)) r w m (choice-at nowhere r (numberOf n back 0) (m / 2) (number-low back n 0 (omega arith)) (omega arith))))
+
+  -- ---- a start is beaten exactly if another's reading is before its own
+
+  ahead-less : (w u : ℕ) → w < n → u < n → Ahead (along r back) (2 * n) (2 * w) (2 * u) → less (at w) (at u) ≡ true
+  ahead-less w u h k a =
+      lower-less (at w) (at u) (a .place) (length-at w ∙ sym (length-at u))
+      (record {
+        inside = omega (arith, length-at w, a .within);
+        same = λ m l. place-at w m h (omega (arith, a .within)) ∙ a .same m l ∙ sym (place-at u m k (omega (arith, a .within)));
+        less-there = omega (arith, place-at w (a .place) h (a .within), place-at u (a .place) k (a .within), a .lower);
+      })
+
+  less-beaten : (w u : ℕ) → w < n → u < n → less (at w) (at u) ≡ true → Beaten (along r back) n u
+  less-beaten w u h k l = go (less-at (at w) (at u) (length-at w ∙ sym (length-at u)) l)
+    where
+      go : (k : ℕ) × Lower (at w) (at u) k → Beaten (along r back) n u
+      go t =
+          let i : t .0 < 2 * n = omega (arith, t .1 .inside, length-at w) in
+          record {
+            by = w;
+            low = h;
+            ahead = record {
+              place = t .0;
+              within = i;
+              same = λ m d. sym (place-at w m h (omega arith)) ∙ t .1 .same m d ∙ place-at u m k (omega arith);
+              lower = omega (arith, t .1 .less-there, place-at w (t .0) h i, place-at u (t .0) k i);
+            };
+          }
+
+  some-unbeaten : 0 < n → (e : ℕ) × (e < n) × (Beaten (along r back) n e → ⊥)
+  some-unbeaten p = go (lowest at (n - 1))
+    where
+      go : (e : ℕ) × (e < suc (n - 1)) × ((w : ℕ) → w < suc (n - 1) → less (at w) (at e) ≡ false) → (e : ℕ) × (e < n) × (Beaten (along r back) n e → ⊥)
+      go t =
+          let l : t .0 < n = omega (arith, t .1) in
+          (t .0, l, λ b. no-bool (sym (t .2 (b .by) (omega (arith, b .low))) ∙ ahead-less (b .by) (t .0) (b .low) l (b .ahead)))
+
+  module _ (u : ℕ) (k : u < n) (unbeaten : Beaten (along r back) n u → ⊥) where
+    none-before : (w : ℕ) → w < n → less (at w) (at u) ≡ false
+    none-before w h = go (less (at w) (at u)) refl
+      where
+        go : (b : Bool) → less (at w) (at u) ≡ b → b ≡ false
+        go false e = refl
+        go true e = absurd (unbeaten (less-beaten w u h k e))
+
+    before-beaten : (w : ℕ) → w < n → Beaten (along r back) n w → less (at u) (at w) ≡ true
+    before-beaten w h b = less-under (at (b .by)) (at w) (at u) (ahead-less (b .by) w (b .low) h (b .ahead)) (none-before (b .by) (b .low))
+
+-- ---- the first of the least, onward and back
+
+module _ (r : List Vertex) (some : 0 < length r) (i j : ℕ) where
+  by-period : (back : Bool) → Settled (along r back) (length r) i j → Settled (along r back) (length r) i (i + (j - i))
+  by-period back s =
+      let e : i + (j - i) ≡ j = omega (arith, s .order) in
+      rw e s
+
+  pub start-low : (back : Bool) → Settled (along r back) (length r) i j → i < length r
+  start-low back s =
+      let e = some-unbeaten r back some in
+      first-low (along r back) (length r) i (j - i) (by-period back s) (e .0) (e .1) (e .2)
+
+  pub foremost-on : Settled (along r false) (length r) i j → Foremost r 0 (length r) i
+  foremost-on s =
+      let e = some-unbeaten r false some in
+      let l = start-low false s in
+      let f = first-unbeaten (along r false) (length r) i (j - i) (by-period false s) (e .0) (e .1) (e .2) in
+      record {
+        from = omega arith;
+        to = l;
+        least = λ c z h. none-before r false i l f c h;
+        first = λ c z h. before-beaten r false i l f c (omega arith) (s .others c (omega (arith, s .order)) (λ q. omega arith));
+      }
+
+  pub foremost-back : Settled (along r true) (length r) i j → Foremost r (length r) (2 * length r) (length r + (length r - 1 - i) % (j - i))
+  foremost-back s = record { from = omega arith; to = omega (arith, here); least = none; first = one }
+    where
+      d : ℕ
+      d = (length r - 1 - i) % (j - i)
+
+      e : (e : ℕ) × (e < length r) × (Beaten (along r true) (length r) e → ⊥)
+      e = some-unbeaten r true some
+
+      here : d < length r
+      here = omega (arith, mod-le (length r - 1 - i) (j - i))
+
+      un : Beaten (along r true) (length r) (length r - 1 - d) → ⊥
+      un = last-unbeaten (along r true) (length r) i (j - i) (by-period true s) (e .0) (e .1) (e .2)
+
+      -- the start of the reading c, and back to c
+      number : (c : ℕ) → length r ≤ c → c < 2 * length r → 2 * length r - suc (2 * length r - 1 - c) ≡ c
+      number c h k = omega arith
+
+      least-number : 2 * length r - suc (length r - 1 - d) ≡ length r + d
+      least-number = omega (arith, here)
+
+      none : (c : ℕ) → length r ≤ c → c < 2 * length r → earlier (choice r c) (choice r (length r + d)) ≡ false
+      none c h k =
+          rw (number c h k, least-number) at (none-before r true (length r - 1 - d) (omega (arith, here)) un (2 * length r - 1 - c) (omega arith))
+
+      one : (c : ℕ) → length r ≤ c → c < length r + d → earlier (choice r (length r + d)) (choice r c) ≡ true
+      one c h k =
+          let z : length r - 1 - (c - length r) ≡ 2 * length r - 1 - c = omega arith in
+          let b : Beaten (along r true) (length r) (2 * length r - 1 - c) =
+            rw z at (last-others (along r true) (length r) i (j - i) (by-period true s) (e .0) (e .1) (e .2) (c - length r) (omega arith)) in
+          rw (number c h (omega (arith, here)), least-number) at (before-beaten r true (length r - 1 - d) (omega (arith, here)) un (2 * length r - 1 - c) (omega arith) b)
