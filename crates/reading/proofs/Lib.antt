@@ -8,6 +8,7 @@ pub mod Size
 pub mod KeptBits
 pub mod Changed
 pub mod Pushing
+pub mod Step
 pub mod Repeats
 pub mod First
 pub mod Ways

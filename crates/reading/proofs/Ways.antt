@@ -4,20 +4,20 @@ use Prim.Native.Nat.{ℕ, zero, suc, _+_, _-_, _*_, _/_, _%_, _≤_, _<_}
 use native.Mathlib.Omega.{arith}
 use native.Mathlib.Decide.{decLt}
 use native.Mathlib.Nat.{add-mod-right, mod-lt, mod-le, mod-eq-of-lt, mod-eq-sub-mod, not-suc-le-zero}
-use mathlib.Core.Path.{_≡_, refl, sym, ap, _∙_}
+use mathlib.Core.Path.{_≡_, refl, sym, ap, subst, _∙_}
 use mathlib.Core.Bool.{Bool, true, false, not, cond}
 use mathlib.Core.Logic.{_⊎_, inl, inr, ⊎-elim}
 use mathlib.Core.List.{List, [], _∷_}
 use lib.ListN.{length, getD}
 use lib.Dec.{ltb}
-use Rattle.reading.specs.Reading.{Vertex, flat, ord, less, earlier, choice}
+use Rattle.reading.specs.Reading.{Vertex, flat, ord, less, earlier, choice, bestOf}
 use Rattle.reading.specs.Lent.{wrap, vertexPlace}
 use Rattle.reading.specs.Starts.{numberOf, along, Ahead, Beaten, Settled}
 use Rattle.reading.proofs.Turning.{length-reading}
 use Rattle.reading.proofs.Leasts.{length-flat}
 use Rattle.reading.proofs.Order.{Apart, lower, equal, higher, apart, ord-inj, less-lower, less-higher, less-equal, less-irrefl, less-trans, no-bool}
 use Rattle.reading.proofs.Places.{wrap-low, wrap-high, vertex-onward, vertex-back, choice-at, nowhere, coord-of-vertex}
-use Rattle.reading.proofs.First.{Foremost, less-under}
+use Rattle.reading.proofs.First.{Foremost, less-under, join-back, join-on, first-of-all}
 use Rattle.reading.proofs.Repeats.{first-low, first-unbeaten, last-unbeaten, last-others}
 
 -- ---- the first difference of two lists
@@ -134,7 +134,7 @@ module _ (r : List Vertex) (back : Bool) where
   unfolding along
   round m = ap (λ (x : ℕ). ord (getD (at 0) x 0)) (add-mod-right m (2 * n))
 
-  pub place-at : (u t : ℕ) → u < n → t < 2 * n → ord (getD (at u) t 0) ≡ along r back (2 * u + t)
+  place-at : (u t : ℕ) → u < n → t < 2 * n → ord (getD (at u) t 0) ≡ along r back (2 * u + t)
   unfolding along
   place-at u t h k =
       let m = (2 * u + t) % (2 * n) in
@@ -148,6 +148,10 @@ module _ (r : List Vertex) (back : Bool) where
       ∙ ap (λ (x : ℕ). getD (flat r) (2 * x + t % 2) 0) e
       ∙ ap (λ (x : ℕ). getD (flat r) (2 * w + x) 0) z
       ∙ sym (coord-of-vertex (choice r (numberOf n back 0)) r w m (choice-at nowhere r (numberOf n back 0) (m / 2) (number-low back n 0 (omega arith)) (omega arith))))
+
+  -- the place that a turn reads, by the steps in which it is worked out
+  pub read-at : (c u t x k : ℕ) → u < n → t < 2 * n → c ≡ numberOf n back u → x ≡ getD (flat (choice r c)) t 0 → k ≡ ord x → k ≡ along r back (2 * u + t)
+  read-at c u t x k h l e f g = g ∙ ap ord (f ∙ ap (λ (y : ℕ). getD (flat (choice r y)) t 0) e) ∙ place-at u t h l
 
   -- ---- a start is beaten exactly if another's reading is before its own
 
@@ -253,3 +257,33 @@ module _ (r : List Vertex) (some : 0 < length r) (i j : ℕ) where
           let b : Beaten (along r true) (length r) (2 * length r - 1 - c) =
             rw z at (last-others (along r true) (length r) i (j - i) (by-period true s) (e .0) (e .1) (e .2) (c - length r) (omega arith)) in
           rw (number c h (omega (arith, here)), least-number) at (before-beaten r true (length r - 1 - d) (omega (arith, here)) un (2 * length r - 1 - c) (omega arith) b)
+
+-- ---- the first of the least of all, where both directions are settled
+
+module _
+    (r : List Vertex)
+    (some : 0 < length r)
+    (n i j p q : ℕ)
+    (half : n ≡ length r)
+    (on : Settled (along r false) (length r) i j)
+    (back : Settled (along r true) (length r) p q) where
+  first-on : Foremost r 0 (length r) i
+  first-on = foremost-on r some i j on
+
+  first-back : Foremost r (length r) (2 * length r) (n + (n - 1 - p) % (q - p))
+  first-back = subst (λ (m : ℕ). Foremost r (length r) (2 * length r) (m + (m - 1 - p) % (q - p))) (sym half) (foremost-back r some p q back)
+
+  pub on-low : i < n
+  on-low = omega (arith, first-on .to)
+
+  pub back-low : p < n
+  back-low = omega (arith, start-low r some p q true back)
+
+  pub number-within : n + (n - 1 - p) % (q - p) < 2 * n
+  number-within = omega (arith, first-back .to)
+
+  pub all-back : earlier (choice r (n + (n - 1 - p) % (q - p))) (choice r i) ≡ true → n + (n - 1 - p) % (q - p) ≡ bestOf r
+  all-back h = first-of-all r _ (join-back r (length r) (2 * length r) i _ first-on first-back h)
+
+  pub all-on : earlier (choice r (n + (n - 1 - p) % (q - p))) (choice r i) ≡ false → i ≡ bestOf r
+  all-on h = first-of-all r i (join-on r (length r) (2 * length r) i _ first-on first-back h)

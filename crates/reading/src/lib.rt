@@ -7,6 +7,7 @@ ghost use lib.Dec.{T};
 ghost use lib.Ieee.{isNan};
 ghost use Rattle.reading.specs.Reading.{ord, flat, choice, earlier, bestOf, isLeast};
 ghost use Rattle.reading.specs.Lent.{kept, ringOf, Lent, vertexPlace};
+ghost use Rattle.reading.specs.Starts.{numberOf, along, Settled, pushedBy};
 
 // A coordinate's bits as a book keeps them: those of +0.0 for either zero.
 pub fn kept_bits(x: f64) -> u64
@@ -72,6 +73,14 @@ fn before(ring: &[f64], a: usize, b: usize) -> bool
     false
 }
 
+// The number of the reading that starts u vertices on in a direction: onward from the first vertex, or back from the last.
+fn number(n: usize, back: bool, u: usize) -> usize
+    requires { ⌜ (n ≤ 256) × (u < n) ⌝ }
+    ensures { λ r. ⌜ (r ≡ numberOf n back u) × (r < 2 * n) ⌝ }
+{
+    if back { 2 * n - 1 - u } else { u }
+}
+
 // Two starts in one direction, the first before the second, and how many coordinates of their readings are known to be the same.
 pub struct Starts {
     pub first: usize,
@@ -79,21 +88,80 @@ pub struct Starts {
     pub alike: usize,
 }
 
-// The number of the first of the least readings.
+// The starts that are left where the next coordinates of the two readings have the keys u and v.
+fn pushed(s: Starts, u: u64, v: u64) -> Starts
+    requires { ⌜ (s .first < 256) × (s .second < 256) × (s .alike < 512) ⌝ }
+    ensures { λ r. ⌜ r ≡ pushedBy s u v ⌝ }
+{
+    if u == v {
+        return Starts {
+            first: s.first,
+            second: s.second,
+            alike: s.alike + 1,
+        };
+    }
+    let on = s.alike / 2 + 1;
+    if u < v {
+        return Starts {
+            first: s.first,
+            second: s.second + on,
+            alike: 0,
+        };
+    }
+    let t = s.first + on;
+    if t < s.second {
+        return Starts {
+            first: s.second,
+            second: s.second + 1,
+            alike: 0,
+        };
+    }
+    Starts {
+        first: t,
+        second: t + 1,
+        alike: 0,
+    }
+}
+
+// In one direction, the first start of the least readings, and the next one.
+fn settle(ring: &[f64], back: bool) -> Starts
+    requires { ⌜ Lent (now ring) ⌝ }
+    requires { ⌜ 0 < length (now ring) ⌝ }
+    ensures { λ r. ⌜ Settled (along (ringOf (now (ring .entry))) back) (length (ringOf (now (ring .entry)))) (r .first) (r .second) ⌝ }
+{
+    let n = ring.len() / 2;
+    let mut s = Starts {
+        first: 0,
+        second: 1,
+        alike: 0,
+    };
+    while s.second < n {
+        if s.alike == ring.len() {
+            return s;
+        }
+        let u = key(coordinate(ring, number(n, back, s.first), s.alike));
+        let v = key(coordinate(ring, number(n, back, s.second), s.alike));
+        s = pushed(s, u, v);
+    }
+    Starts {
+        first: s.first,
+        second: s.first + n,
+        alike: s.alike,
+    }
+}
+
+// The number of the first of the least readings: of both directions the lesser, onward where they are the same.
 pub fn least(ring: &[f64]) -> usize
     requires { ⌜ Lent (now ring) ⌝ }
     requires { ⌜ 0 < length (now ring) ⌝ }
     ensures { λ r. ⌜ (r ≡ bestOf (ringOf (now (ring .entry)))) × (r < length (now (ring .entry))) ⌝ }
 {
-    let mut best = 0;
-    let mut c = 1;
-    while c < ring.len() {
-        if before(ring, c, best) {
-            best = c;
-        }
-        c += 1;
-    }
-    best
+    let n = ring.len() / 2;
+    let onward = settle(ring, false);
+    let back = settle(ring, true);
+    let a = onward.first;
+    let b = n + (n - 1 - back.first) % (back.second - back.first);
+    if before(ring, b, a) { b } else { a }
 }
 
 // Whether a ring is its own least reading.

@@ -1,56 +1,111 @@
--- `reading::least` meets its contract. The loop's invariant: best is the first of the least of the readings before c. Assumes nothing.
-use Prim.Native.Nat.{_-_, _≤_, _<_}
+-- `reading::least` meets its contract: of what is settled onward and back the lesser is the first of all. Assumes nothing.
+use Prim.Native.Nat.{ℕ, _+_, _-_, _*_, _/_, _%_, _≤_, _<_}
 use mathlib.Core.Path.{_≡_, sym, _∙_}
+use mathlib.Core.List.{List}
 use native.Mathlib.Omega.{arith}
 use borrow.Author.Needs.{needs}
+use mir.Syntax.{w64}
+use mir.Val.{Fits}
+use lib.Ieee.{Float}
 use lib.ListN.{length}
-use mathlib.Core.Logic.{⊎-elim}
-use Rattle.reading.specs.Reading.{best as bestTo}
+use Rattle.reading.specs.Reading.{Vertex}
 use Rattle.reading.specs.Lent.{ringOf}
-use Rattle.reading.proofs.Leasts.{best-start, best-in, best-out, best-end}
 use Rattle.reading.proofs.Places.{length-ringOf}
+use Rattle.reading.proofs.Ways.{on-low, back-low, number-within, all-back, all-on}
 use Rattle.reading.proofs.least.Statement.{statement}
 use Rattle.reading.proofs.least.Tie as tie
 
-abbrev Inv-loop : tie.InvT-loop
-Inv-loop ring best₀ c₀ best c = (1 ≤ c) × (c ≤ length ring) × (best ≡ bestTo (ringOf ring) (c - 1)) × (best < length ring)
+settle-requires : tie.Need-settle-requires
+settle-requires c κs = search needs
 
-abbrev μ-loop : tie.MeasureT-loop
-μ-loop ring best₀ c₀ best c = length ring - c
+settle-requires-2 : tie.Need-settle-requires-2
+settle-requires-2 c κs = search needs
 
-loop-holds : tie.Need-loop-holds Inv-loop μ-loop
-loop-holds c = ((omega arith), (omega arith), best-start (ringOf (c .before .args .ring .now)), (omega arith))
+sub-b : tie.Need-sub-b
+sub-b c = search needs
 
-before-requires : tie.Need-before-requires Inv-loop μ-loop
-before-requires c κs = search needs
+-- both directions are settled
+module _ (c : tie.After-settle2) where
+  abbrev xs : List Float
+  xs = c .before .before .before .args .ring .now
 
-add-c : tie.Need-add-c Inv-loop μ-loop
-add-c c = omega arith
+  abbrev r : List Vertex
+  r = ringOf xs
 
-loop-less : tie.Need-loop-less Inv-loop μ-loop
-loop-less c = omega arith
+  abbrev n : ℕ
+  n = length xs / 2
 
-loop-again : tie.Need-loop-again Inv-loop μ-loop
-loop-again c =
-    let l = c .before .before .before in
-    let xs = l .before .before .args .ring .now in
-    let i = l .loop .c in
-    let b = l .loop .best in
-    let e = c .before .before2 .ensures in
-    let taken : i < length xs = omega arith in
-    ⊎-elim
-    (λ t. ((omega arith), (omega arith), t .1 ∙ best-in (ringOf xs) i b (l .loop .inv .0) (l .loop .inv .2) (sym e ∙ t .0 .taken), (omega (arith, t .1))))
-    (λ t. ((omega arith), (omega arith), t .1 ∙ best-out (ringOf xs) i b (l .loop .inv .0) (l .loop .inv .2) (sym e ∙ t .0 .left), (omega (arith, t .1, l .loop .inv .3))))
-    (c .if1 .came)
+  abbrev i : ℕ
+  i = c .before .settle .result .first
 
-returns : tie.Need-returns Inv-loop μ-loop
+  abbrev j : ℕ
+  j = c .before .settle .result .second
+
+  abbrev p : ℕ
+  p = c .settle2 .result .first
+
+  abbrev q : ℕ
+  q = c .settle2 .result .second
+
+  vertices-of : length xs ≡ 2 * length r
+  vertices-of = length-ringOf xs (c .before .before .before .pre .0 .even)
+
+  some : 0 < length r
+  some = omega (arith, vertices-of, c .before .before .before .pre .1)
+
+  half : n ≡ length r
+  half = omega (arith, vertices-of)
+
+  p-low : p ≤ n - 1
+  p-low = omega (arith, back-low r some n i j p q half (c .before .settle .ensures) (c .settle2 .ensures))
+
+  i-low : i < length xs
+  i-low = omega (arith, half, vertices-of, on-low r some n i j p q half (c .before .settle .ensures) (c .settle2 .ensures))
+
+  b-low : n + (n - 1 - p) % (q - p) < length xs
+  b-low = omega (arith, half, vertices-of, number-within r some n i j p q half (c .before .settle .ensures) (c .settle2 .ensures))
+
+  b-fits : Fits w64 (n + (n - 1 - p) % (q - p))
+  b-fits = omega (arith, b-low, c .before .before .before .pre .0 .most)
+
+sub-b-2 : tie.Need-sub-b-2
+sub-b-2 c = p-low (c .before)
+
+sub-b-3 : tie.Need-sub-b-3
+sub-b-3 c = search needs
+
+rem-b : tie.Need-rem-b
+rem-b c = search needs
+
+add-b : tie.Need-add-b
+add-b c = b-fits (c .before .before)
+
+before-requires : tie.Need-before-requires
+before-requires c κs =
+    let s = c .before .before in
+    (s .before .before .before .pre .0, (b-low s, i-low s))
+
+returns : tie.Need-returns
 returns c =
-    let l = c .before in
-    let s = l .before .before in
-    let xs = s .args .ring .now in
-    (best-end (ringOf xs) (l .loop .c) (l .loop .best) (omega (arith, c .loop-test .left, l .loop .inv .1, length-ringOf xs (s .pre .0 .even))) (l .loop .inv .2), l .loop .inv .3)
+    let s = c .before .before .before .before in
+    (all-back (r s) (some s) (n s) (i s) (j s) (p s) (q s) (half s) (s .before .settle .ensures) (s .settle2 .ensures) (sym (c .before .before2 .ensures) ∙ c .if1 .taken), b-low s)
+
+returns-2 : tie.Need-returns-2
+returns-2 c =
+    let s = c .before .before .before .before in
+    (all-on (r s) (some s) (n s) (i s) (j s) (p s) (q s) (half s) (s .before .settle .ensures) (s .settle2 .ensures) (sym (c .before .before2 .ensures) ∙ c .if1 .left), i-low s)
 
 pub least-spec : {M : Type 1} → statement M
 least-spec =
     tie.close
-    (tie.spec Inv-loop μ-loop loop-holds before-requires add-c loop-less loop-again returns)
+    (tie.spec
+    settle-requires
+    settle-requires-2
+    sub-b
+    sub-b-2
+    sub-b-3
+    rem-b
+    add-b
+    before-requires
+    returns
+    returns-2)
