@@ -149,9 +149,9 @@ module _ (r : List Vertex) (back : Bool) where
       ∙ ap (λ (x : ℕ). getD (flat r) (2 * w + x) 0) z
       ∙ sym (coord-of-vertex (choice r (numberOf n back 0)) r w m (choice-at nowhere r (numberOf n back 0) (m / 2) (number-low back n 0 (omega arith)) (omega arith))))
 
-  -- the place that a turn reads, by the steps in which it is worked out
-  pub read-at : (c u t x k : ℕ) → u < n → t < 2 * n → c ≡ numberOf n back u → x ≡ getD (flat (choice r c)) t 0 → k ≡ ord x → k ≡ along r back (2 * u + t)
-  read-at c u t x k h l e f g = g ∙ ap ord (f ∙ ap (λ (y : ℕ). getD (flat (choice r y)) t 0) e) ∙ place-at u t h l
+  -- the same, of the reading c
+  pub read-at : (c u t k : ℕ) → u < n → t < 2 * n → c ≡ numberOf n back u → k ≡ ord (getD (flat (choice r c)) t 0) → k ≡ along r back (2 * u + t)
+  read-at c u t k h l e f = f ∙ ap (λ (y : ℕ). ord (getD (flat (choice r y)) t 0)) e ∙ place-at u t h l
 
   -- ---- a start is beaten exactly if another's reading is before its own
 

@@ -6,7 +6,7 @@ ghost use lib.ListN.{length, getD};
 ghost use lib.Dec.{T};
 ghost use lib.Ieee.{isNan};
 ghost use Rattle.reading.specs.Reading.{ord, flat, choice, earlier, bestOf, isLeast};
-ghost use Rattle.reading.specs.Lent.{kept, ringOf, Lent, vertexPlace};
+ghost use Rattle.reading.specs.Lent.{kept, ringOf, Lent, vertexPlace, Keyed};
 ghost use Rattle.reading.specs.Starts.{numberOf, along, Settled, pushedBy};
 
 // A coordinate's bits as a book keeps them: those of +0.0 for either zero.
@@ -52,16 +52,39 @@ pub fn coordinate(ring: &[f64], c: usize, j: usize) -> u64
     kept_bits(ring[2 * v + j % 2])
 }
 
-// Whether the reading a is before the reading b: the first difference decides.
-fn before(ring: &[f64], a: usize, b: usize) -> bool
+// The keys of a ring's coordinates, at the front of the room.
+fn fill(ring: &[f64], room: &mut [u64])
     requires { ⌜ Lent (now ring) ⌝ }
+    requires { ⌜ length (now ring) ≤ length (now room) ⌝ }
+    ensures { λ _. ⌜ Keyed (now (room .exit)) (now (ring .entry)) ⌝ }
+{
+    let mut i = 0;
+    while i < ring.len() {
+        room[i] = key(kept_bits(ring[i]));
+        i += 1;
+    }
+}
+
+// The key of coordinate j of the reading c, of a ring whose keys are at hand.
+fn key_at(ring: &[f64], keys: &[u64], c: usize, j: usize) -> u64
+    requires { ⌜ Lent (now ring) × Keyed (now keys) (now ring) ⌝ }
+    requires { ⌜ (c < length (now ring)) × (j < length (now ring)) ⌝ }
+    ensures { λ r. ⌜ r ≡ ord (getD (flat (choice (ringOf (now (ring .entry))) c)) j 0) ⌝ }
+{
+    let v = vertex(ring.len() / 2, c, j / 2);
+    keys[2 * v + j % 2]
+}
+
+// Whether the reading a is before the reading b: the first difference decides.
+fn before(ring: &[f64], keys: &[u64], a: usize, b: usize) -> bool
+    requires { ⌜ Lent (now ring) × Keyed (now keys) (now ring) ⌝ }
     requires { ⌜ (a < length (now ring)) × (b < length (now ring)) ⌝ }
     ensures { λ r. ⌜ r ≡ earlier (choice (ringOf (now (ring .entry))) a) (choice (ringOf (now (ring .entry))) b) ⌝ }
 {
     let mut j = 0;
     while j < ring.len() {
-        let u = key(coordinate(ring, a, j));
-        let v = key(coordinate(ring, b, j));
+        let u = key_at(ring, keys, a, j);
+        let v = key_at(ring, keys, b, j);
         if u < v {
             return true;
         }
@@ -124,8 +147,8 @@ fn pushed(s: Starts, u: u64, v: u64) -> Starts
 }
 
 // In one direction, the first start of the least readings, and the next one.
-fn settle(ring: &[f64], back: bool) -> Starts
-    requires { ⌜ Lent (now ring) ⌝ }
+fn settle(ring: &[f64], keys: &[u64], back: bool) -> Starts
+    requires { ⌜ Lent (now ring) × Keyed (now keys) (now ring) ⌝ }
     requires { ⌜ 0 < length (now ring) ⌝ }
     ensures { λ r. ⌜ Settled (along (ringOf (now (ring .entry))) back) (length (ringOf (now (ring .entry)))) (r .first) (r .second) ⌝ }
 {
@@ -139,8 +162,8 @@ fn settle(ring: &[f64], back: bool) -> Starts
         if s.alike == ring.len() {
             return s;
         }
-        let u = key(coordinate(ring, number(n, back, s.first), s.alike));
-        let v = key(coordinate(ring, number(n, back, s.second), s.alike));
+        let u = key_at(ring, keys, number(n, back, s.first), s.alike);
+        let v = key_at(ring, keys, number(n, back, s.second), s.alike);
         s = pushed(s, u, v);
     }
     Starts {
@@ -156,12 +179,14 @@ pub fn least(ring: &[f64]) -> usize
     requires { ⌜ 0 < length (now ring) ⌝ }
     ensures { λ r. ⌜ (r ≡ bestOf (ringOf (now (ring .entry)))) × (r < length (now (ring .entry))) ⌝ }
 {
+    let mut keys = [0u64; 512];
+    fill(ring, &mut keys);
     let n = ring.len() / 2;
-    let onward = settle(ring, false);
-    let back = settle(ring, true);
+    let onward = settle(ring, &keys, false);
+    let back = settle(ring, &keys, true);
     let a = onward.first;
     let b = n + (n - 1 - back.first) % (back.second - back.first);
-    if before(ring, b, a) { b } else { a }
+    if before(ring, &keys, b, a) { b } else { a }
 }
 
 // Whether a ring is its own least reading.

@@ -15,8 +15,20 @@ use Rattle.reading.proofs.Ways.{on-low, back-low, number-within, all-ba
 use Rattle.reading.proofs.least.Statement.{statement}
 use Rattle.reading.proofs.least.Tie as tie
 
+slice-aggregate-fill : tie.Need-slice-aggregate-fill
+slice-aggregate-fill c = search needs
+
+fill-requires : tie.Need-fill-requires
+fill-requires c κs = search needs
+
+slice-aggregate-settle : tie.Need-slice-aggregate-settle
+slice-aggregate-settle c = search needs
+
 settle-requires : tie.Need-settle-requires
 settle-requires c κs = search needs
+
+slice-aggregate-settle-2 : tie.Need-slice-aggregate-settle-2
+slice-aggregate-settle-2 c = search needs
 
 settle-requires-2 : tie.Need-settle-requires-2
 settle-requires-2 c κs = search needs
@@ -26,8 +38,11 @@ sub-b c = search needs
 
 -- both directions are settled
 module _ (c : tie.After-settle2) where
+  abbrev s : tie.Start
+  s = c .before .before .before .before .before .before .before .before
+
   abbrev xs : List Float
-  xs = c .before .before .before .args .ring .now
+  xs = s .args .ring .now
 
   abbrev r : List Vertex
   r = ringOf xs
@@ -36,10 +51,10 @@ module _ (c : tie.After-settle2) where
   n = length xs / 2
 
   abbrev i : ℕ
-  i = c .before .settle .result .first
+  i = c .before .before .settle .result .first
 
   abbrev j : ℕ
-  j = c .before .settle .result .second
+  j = c .before .before .settle .result .second
 
   abbrev p : ℕ
   p = c .settle2 .result .first
@@ -48,25 +63,25 @@ module _ (c : tie.After-settle2) where
   q = c .settle2 .result .second
 
   vertices-of : length xs ≡ 2 * length r
-  vertices-of = length-ringOf xs (c .before .before .before .pre .0 .even)
+  vertices-of = length-ringOf xs (s .pre .0 .even)
 
   some : 0 < length r
-  some = omega (arith, vertices-of, c .before .before .before .pre .1)
+  some = omega (arith, vertices-of, s .pre .1)
 
   half : n ≡ length r
   half = omega (arith, vertices-of)
 
   p-low : p ≤ n - 1
-  p-low = omega (arith, back-low r some n i j p q half (c .before .settle .ensures) (c .settle2 .ensures))
+  p-low = omega (arith, back-low r some n i j p q half (c .before .before .settle .ensures) (c .settle2 .ensures))
 
   i-low : i < length xs
-  i-low = omega (arith, half, vertices-of, on-low r some n i j p q half (c .before .settle .ensures) (c .settle2 .ensures))
+  i-low = omega (arith, half, vertices-of, on-low r some n i j p q half (c .before .before .settle .ensures) (c .settle2 .ensures))
 
   b-low : n + (n - 1 - p) % (q - p) < length xs
-  b-low = omega (arith, half, vertices-of, number-within r some n i j p q half (c .before .settle .ensures) (c .settle2 .ensures))
+  b-low = omega (arith, half, vertices-of, number-within r some n i j p q half (c .before .before .settle .ensures) (c .settle2 .ensures))
 
   b-fits : Fits w64 (n + (n - 1 - p) % (q - p))
-  b-fits = omega (arith, b-low, c .before .before .before .pre .0 .most)
+  b-fits = omega (arith, b-low, s .pre .0 .most)
 
 sub-b-2 : tie.Need-sub-b-2
 sub-b-2 c = p-low (c .before)
@@ -80,32 +95,40 @@ rem-b c = search needs
 add-b : tie.Need-add-b
 add-b c = b-fits (c .before .before)
 
+slice-aggregate-before : tie.Need-slice-aggregate-before
+slice-aggregate-before c = search needs
+
 before-requires : tie.Need-before-requires
 before-requires c κs =
-    let s = c .before .before in
-    (s .before .before .before .pre .0, (b-low s, i-low s))
+    let k = c .before .before .before in
+    ((s k .pre .0, k .before .before .before .before .before .fill .ensures), (b-low k, i-low k))
 
 returns : tie.Need-returns
 returns c =
-    let s = c .before .before .before .before in
-    (all-back (r s) (some s) (n s) (i s) (j s) (p s) (q s) (half s) (s .before .settle .ensures) (s .settle2 .ensures) (sym (c .before .before2 .ensures) ∙ c .if1 .taken), b-low s)
+    let k = c .before .before .before .before .before in
+    (all-back (r k) (some k) (n k) (i k) (j k) (p k) (q k) (half k) (k .before .before .settle .ensures) (k .settle2 .ensures) (sym (c .before .before2 .ensures) ∙ c .if1 .taken), b-low k)
 
 returns-2 : tie.Need-returns-2
 returns-2 c =
-    let s = c .before .before .before .before in
-    (all-on (r s) (some s) (n s) (i s) (j s) (p s) (q s) (half s) (s .before .settle .ensures) (s .settle2 .ensures) (sym (c .before .before2 .ensures) ∙ c .if1 .left), i-low s)
+    let k = c .before .before .before .before .before in
+    (all-on (r k) (some k) (n k) (i k) (j k) (p k) (q k) (half k) (k .before .before .settle .ensures) (k .settle2 .ensures) (sym (c .before .before2 .ensures) ∙ c .if1 .left), i-low k)
 
 pub least-spec : {M : Type 1} → statement M
 least-spec =
     tie.close
     (tie.spec
+    slice-aggregate-fill
+    fill-requires
+    slice-aggregate-settle
     settle-requires
+    slice-aggregate-settle-2
     settle-requires-2
     sub-b
     sub-b-2
     sub-b-3
     rem-b
     add-b
+    slice-aggregate-before
     before-requires
     returns
     returns-2)
