@@ -1,5 +1,5 @@
--- The first of the least of some readings of a ring, by number. Of two directions the first of the one or of the other is the first of both,
--- and the first of all is `bestOf`. Assumes nothing.
+-- The first of the least of some of a ring's readings, by number. Of two directions the first of the one or of the other is the
+-- first of both, and the first of all is `bestOf`. Assumes nothing.
 use Prim.Native.Nat.{ℕ, zero, suc, _-_, _*_, _≤_, _<_}
 use native.Mathlib.Omega.{arith}
 use native.Mathlib.Decide.{decLt}
@@ -83,7 +83,8 @@ unfolding best
 best-first r zero j h = absurd (omega arith)
 best-first r (suc c) j h = go (earlier (choice r (suc c)) (choice r (best r c))) refl h (best-first r c j)
   where
-    go : (b : Bool) → less (at r (suc c)) (at r (best r c)) ≡ b → j < cond b (suc c) (best r c) → (j < best r c → less (at r (best r c)) (at r j) ≡ true)
+    go : (b : Bool) → less (at r (suc c)) (at r (best r c)) ≡ b → j < cond b (suc c) (best r c)
+        → (j < best r c → less (at r (best r c)) (at r j) ≡ true)
         → less (at r (cond b (suc c) (best r c))) (at r j) ≡ true
     go true e l ih = less-over (at r (suc c)) (at r (best r c)) (at r j) e (best-least r c j (omega arith))
     go false e l ih = ih l

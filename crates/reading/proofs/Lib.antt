@@ -11,4 +11,5 @@ pub mod Pushing
 pub mod Step
 pub mod Repeats
 pub mod First
+pub mod Lowest
 pub mod Ways

@@ -1,10 +1,10 @@
--- Two starts i < j in one direction push each other on. What holds all the while (`Open`): the first k coordinates of their readings are the
--- same, and every start before j but i is beaten. Where the next coordinates differ, the later start is beaten, and so is each start that
--- lies as far after it as they agree: the one as far after the other start beats it. Assumes nothing.
+-- Two starts i < j in one direction push each other on. What holds all the while (`Open`): the first k coordinates of their
+-- readings are the same, and every start before j but i is beaten. Where the next coordinates differ, the start of the higher
+-- one is beaten, and so is each start as far after it as the readings agree: by the start as far after the other. Assumes nothing.
 use Prim.Native.Nat.{ℕ, zero, suc, _+_, _-_, _*_, _/_, _≤_, _<_}
 use native.Mathlib.Omega.{arith}
 use native.Mathlib.Decide.{decLt}
-use mathlib.Core.Path.{_≡_, refl, sym, ap, _∙_}
+use mathlib.Core.Path.{_≡_, sym, ap, _∙_}
 use Rattle.reading.specs.Starts.{Ahead, Beaten, Settled}
 
 module _ (g : ℕ → ℕ) (n : ℕ) where
@@ -18,7 +18,12 @@ module _ (g : ℕ → ℕ) (n : ℕ) where
 
   ahead-like : (a b c : ℕ) → ((m : ℕ) → g (a + m) ≡ g (b + m)) → Ahead g (2 * n) a c → Ahead g (2 * n) b c
   ahead-like a b c e h =
-      record { place = h .place; within = h .within; same = λ m l. sym (e m) ∙ h .same m l; lower = omega (arith, e (h .place), h .lower) }
+      record {
+        place = h .place;
+        within = h .within;
+        same = λ m l. sym (e m) ∙ h .same m l;
+        lower = omega (arith, e (h .place), h .lower);
+      }
 
   pub beaten-like : (u v : ℕ) → ((m : ℕ) → g (2 * u + m) ≡ g (2 * v + m)) → Beaten g n u → Beaten g n v
   beaten-like u v e h =
@@ -26,11 +31,22 @@ module _ (g : ℕ → ℕ) (n : ℕ) where
       record {
         by = h .by;
         low = h .low;
-        ahead = record { place = a .place; within = a .within; same = λ m l. a .same m l ∙ e m; lower = omega (arith, e (a .place), a .lower) };
+        ahead = record {
+          place = a .place;
+          within = a .within;
+          same = λ m l. a .same m l ∙ e m;
+          lower = omega (arith, e (a .place), a .lower);
+        };
       }
 
   pub open-start : Open 0 1 0
-  open-start = record { order = omega arith; short = omega arith; same = λ m l. absurd (omega arith); others = λ u l d. absurd (d (omega arith)) }
+  open-start =
+      record {
+        order = omega arith;
+        short = omega arith;
+        same = λ m l. absurd (omega arith);
+        others = λ u l d. absurd (d (omega arith));
+      }
 
   module _ (round : (m : ℕ) → g (m + 2 * n) ≡ g m) where
     -- n vertices on, the reading is the same
@@ -41,43 +57,51 @@ module _ (g : ℕ → ℕ) (n : ℕ) where
 
     -- ---- a start that is beaten, and those after it
 
-    struck : (a b k d : ℕ) → a < n → k < 2 * n → ((m : ℕ) → m < k → g (2 * a + m) ≡ g (2 * b + m)) → g (2 * a + k) < g (2 * b + k) → 2 * d ≤ k
-        → Beaten g n (b + d)
-    struck a b k d la lk same lower ld = go (decLt (a + d) n)
-      where
-        on : (c m : ℕ) → g (2 * (c + d) + m) ≡ g (2 * c + (2 * d + m))
-        on c m =
-            let e : 2 * (c + d) + m ≡ 2 * c + (2 * d + m) = omega arith in
-            ap g e
+    module _
+        (a b k : ℕ)
+        (low : a < n)
+        (short : k < 2 * n)
+        (same : (m : ℕ) → m < k → g (2 * a + m) ≡ g (2 * b + m))
+        (lower : g (2 * a + k) < g (2 * b + k)) where
+      ahead-on : (d : ℕ) → 2 * d ≤ k → Ahead g (2 * n) (2 * (a + d)) (2 * (b + d))
+      ahead-on d h =
+          record {
+            place = k - 2 * d;
+            within = omega arith;
+            same = λ m l. on a m ∙ same (2 * d + m) (omega arith) ∙ sym (on b m);
+            lower = omega (arith, last a, last b);
+          }
+        where
+          on : (c m : ℕ) → g (2 * (c + d) + m) ≡ g (2 * c + (2 * d + m))
+          on c m =
+              let e : 2 * (c + d) + m ≡ 2 * c + (2 * d + m) = omega arith in
+              ap g e
 
-        last : (c : ℕ) → g (2 * (c + d) + (k - 2 * d)) ≡ g (2 * c + k)
-        last c =
-            let e : 2 * (c + d) + (k - 2 * d) ≡ 2 * c + k = omega arith in
-            ap g e
+          last : (c : ℕ) → g (2 * (c + d) + (k - 2 * d)) ≡ g (2 * c + k)
+          last c =
+              let e : 2 * (c + d) + (k - 2 * d) ≡ 2 * c + k = omega arith in
+              ap g e
 
-        h : Ahead g (2 * n) (2 * (a + d)) (2 * (b + d))
-        h = record {
-          place = k - 2 * d;
-          within = omega arith;
-          same = λ m l. on a m ∙ same (2 * d + m) (omega arith) ∙ sym (on b m);
-          lower = omega (arith, last a, last b);
-        }
+      struck : (d : ℕ) → 2 * d ≤ k → Beaten g n (b + d)
+      struck d h = go (decLt (a + d) n)
+        where
+          w : ℕ
+          w = a + d - n
 
-        go : Dec (a + d < n) → Beaten g n (b + d)
-        go (yes l) = record { by = a + d; low = l; ahead = h }
-        go (no l) =
-            let e : a + d - n + n ≡ a + d = omega arith in
-            record {
-              by = a + d - n;
-              low = omega arith;
-              ahead = ahead-like (2 * (a + d)) (2 * (a + d - n)) (2 * (b + d)) (λ m. ap (λ (x : ℕ). g (2 * x + m)) (sym e) ∙ once-round (a + d - n) m) h;
-            }
+          rounded : ¬ (a + d < n) → (m : ℕ) → g (2 * (a + d) + m) ≡ g (2 * w + m)
+          rounded l m =
+              let e : a + d ≡ w + n = omega arith in
+              ap (λ (x : ℕ). g (2 * x + m)) e ∙ once-round w m
 
-    struck-at : (a b k u : ℕ) → a < n → k < 2 * n → ((m : ℕ) → m < k → g (2 * a + m) ≡ g (2 * b + m)) → g (2 * a + k) < g (2 * b + k)
-        → b ≤ u → u < b + (k / 2 + 1) → Beaten g n u
-    struck-at a b k u la lk same lower l h =
-        let e : b + (u - b) ≡ u = omega arith in
-        rw e at (struck a b k (u - b) la lk same lower (omega arith))
+          go : Dec (a + d < n) → Beaten g n (b + d)
+          go (yes l) = record { by = a + d; low = l; ahead = ahead-on d h }
+          go (no l) =
+              record { by = w; low = omega arith; ahead = ahead-like (2 * (a + d)) (2 * w) (2 * (b + d)) (rounded l) (ahead-on d h) }
+
+      struck-at : (u : ℕ) → b ≤ u → u < b + (k / 2 + 1) → Beaten g n u
+      struck-at u l h =
+          let e : b + (u - b) ≡ u = omega arith in
+          rw e at (struck (u - b) (omega arith))
 
     -- ---- one step
 
@@ -95,20 +119,22 @@ module _ (g : ℕ → ℕ) (n : ℕ) where
                   rw z e
 
       pub open-lower : g (2 * i + k) < g (2 * j + k) → Open i (j + (k / 2 + 1)) 0
-      open-lower l = record { order = omega (arith, o .order); short = omega arith; same = λ m h. absurd (omega arith); others = here }
+      open-lower l =
+          record { order = omega (arith, o .order); short = omega arith; same = λ m h. absurd (omega arith); others = here }
         where
           here : (u : ℕ) → u < j + (k / 2 + 1) → (u ≡ i → ⊥) → Beaten g n u
           here u h d = go (decLt u j)
             where
               go : Dec (u < j) → Beaten g n u
               go (yes b) = o .others u b d
-              go (no b) = struck-at i j k u (omega (arith, o .order)) short (o .same) l (omega arith) h
+              go (no b) = struck-at i j k (omega (arith, o .order)) short (o .same) l u (omega arith) h
 
-      pub open-higher : g (2 * j + k) < g (2 * i + k) → (t : ℕ) → ((u : ℕ) → u < t → j ≤ u → u < i + (k / 2 + 1)) → Open t (t + 1) 0
+      pub open-higher : g (2 * j + k) < g (2 * i + k) → (t : ℕ) → ((u : ℕ) → u < t → j ≤ u → u < i + (k / 2 + 1))
+          → Open t (t + 1) 0
       open-higher l t top = record { order = omega arith; short = omega arith; same = λ m h. absurd (omega arith); others = here }
         where
           after : (u : ℕ) → i ≤ u → u < i + (k / 2 + 1) → Beaten g n u
-          after u a h = struck-at j i k u second short (λ m b. sym (o .same m b)) l a h
+          after = struck-at j i k second short (λ m b. sym (o .same m b)) l
 
           here : (u : ℕ) → u < t + 1 → (u ≡ t → ⊥) → Beaten g n u
           here u h d = go (decLt u i) (decLt u (i + (k / 2 + 1))) (decLt u j)

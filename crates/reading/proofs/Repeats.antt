@@ -1,6 +1,6 @@
--- Where the starts i and i + p have one reading and every other start before i + p is beaten, the unbeaten starts are those that lie a
--- multiple of p after i: the first of them is i, and counted from the end the last lies (n - 1 - i) % p before it. Assumes nothing.
-use Prim.Native.Nat.{ℕ, zero, suc, _+_, _-_, _*_, _/_, _%_, _≤_, _<_}
+-- Where the starts i and i + p have one reading and every other start before i + p is beaten, the unbeaten starts lie a multiple
+-- of p after i: the first of them is i, and the last lies (n - 1 - i) % p before the last of all. Assumes nothing.
+use Prim.Native.Nat.{ℕ, zero, suc, _+_, _-_, _*_, _/_, _%_, _<_}
 use native.Mathlib.Omega.{arith}
 use native.Mathlib.Decide.{decLt}
 use native.Mathlib.Nat.{mod-lt, mod-add-div'}
@@ -74,4 +74,5 @@ module _ (g : ℕ → ℕ) (n i p : ℕ) (s : Settled g n i (i + p)) where
     last-others t h =
         let d = (n - 1 - i) % p in
         let some : 0 < p = omega (arith, s .order) in
-        between ((n - 1 - i) / p) (d - t) (n - 1 - t) (omega arith) (omega (arith, mod-lt (n - 1 - i) some)) (omega (arith, left, first-low))
+        let m : d < p = mod-lt (n - 1 - i) some in
+        between ((n - 1 - i) / p) (d - t) (n - 1 - t) (omega arith) (omega arith) (omega (arith, left, first-low))

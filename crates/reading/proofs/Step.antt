@@ -1,5 +1,5 @@
 -- One step of two starts that push each other on, as `pushed` takes it. Assumes nothing.
-use Prim.Native.Nat.{ℕ, _+_, _-_, _*_, _/_, _≤_, _<_}
+use Prim.Native.Nat.{ℕ, _+_, _*_, _/_, _≤_, _<_}
 use native.Mathlib.Omega.{arith}
 use native.Mathlib.Decide.{decLt}
 use mathlib.Core.Path.{_≡_, sym, subst, _∙_}
@@ -18,15 +18,18 @@ module _ (s : Starts) (u v : ℕ) where
   unfolding pushedBy
   push-none e = rw (eq-eqb u v e)
 
-  pub push-second : (u ≡ v → ⊥) → u < v → record { first = s .first; second = s .second + (s .alike / 2 + 1); alike = 0 } ≡ pushedBy s u v
+  pub push-second : (u ≡ v → ⊥) → u < v
+      → record { first = s .first; second = s .second + (s .alike / 2 + 1); alike = 0 } ≡ pushedBy s u v
   unfolding pushedBy
   push-second d l = rw (ne-eqb u v d, lt-ltb u v l)
 
-  pub push-past : (u ≡ v → ⊥) → v ≤ u → further s < s .second → record { first = s .second; second = s .second + 1; alike = 0 } ≡ pushedBy s u v
+  pub push-past : (u ≡ v → ⊥) → v ≤ u → further s < s .second
+      → record { first = s .second; second = s .second + 1; alike = 0 } ≡ pushedBy s u v
   unfolding pushedBy
   push-past d l h = rw (ne-eqb u v d, le-ltb u v l, lt-ltb (further s) (s .second) h)
 
-  pub push-first : (u ≡ v → ⊥) → v ≤ u → s .second ≤ further s → record { first = further s; second = further s + 1; alike = 0 } ≡ pushedBy s u v
+  pub push-first : (u ≡ v → ⊥) → v ≤ u → s .second ≤ further s
+      → record { first = further s; second = further s + 1; alike = 0 } ≡ pushedBy s u v
   unfolding pushedBy
   push-first d l h = rw (ne-eqb u v d, le-ltb u v l, le-ltb (further s) (s .second) h)
 
@@ -43,26 +46,24 @@ module _
     (o : Open g n (s .first) (s .second) (s .alike))
     (second : s .second < n)
     (short : s .alike < 2 * n) where
+  abbrev higher : g (2 * s .second + s .alike) < g (2 * s .first + s .alike) → (t : ℕ)
+      → ((u : ℕ) → u < t → s .second ≤ u → u < further s) → Open g n t (t + 1) 0
+  higher = open-higher g n round (s .first) (s .second) (s .alike) o second short
+
   pub step : (u v : ℕ) → u ≡ g (2 * s .first + s .alike) → v ≡ g (2 * s .second + s .alike) → Stepped g n s (pushedBy s u v)
   step u v p q = go (decLt u v) (decLt v u) (decLt (further s) (s .second))
     where
       go : Dec (u < v) → Dec (v < u) → Dec (further s < s .second) → Stepped g n s (pushedBy s u v)
       go (yes l) h f =
-          subst (Stepped g n s) (push-second s u v (λ e. omega arith) l)
-          (record { still = open-lower g n round (s .first) (s .second) (s .alike) o second short (omega arith); on = omega arith })
+          let x = open-lower g n round (s .first) (s .second) (s .alike) o second short (omega arith) in
+          subst (Stepped g n s) (push-second s u v (λ e. omega arith) l) (record { still = x; on = omega arith })
       go (no l) (yes h) (yes f) =
-          subst (Stepped g n s) (push-past s u v (λ e. omega arith) (omega arith) f)
-          (record {
-            still = open-higher g n round (s .first) (s .second) (s .alike) o second short (omega arith) (s .second) (λ x a c. absurd (omega arith));
-            on = omega arith;
-          })
+          let x = higher (omega arith) (s .second) (λ y a c. absurd (omega arith)) in
+          subst (Stepped g n s) (push-past s u v (λ e. omega arith) (omega arith) f) (record { still = x; on = omega arith })
       go (no l) (yes h) (no f) =
-          subst (Stepped g n s) (push-first s u v (λ e. omega arith) (omega arith) (omega arith))
-          (record {
-            still = open-higher g n round (s .first) (s .second) (s .alike) o second short (omega arith) (further s) (λ x a c. a);
-            on = omega arith;
-          })
+          let x = higher (omega arith) (further s) (λ y a c. a) in
+          subst (Stepped g n s) (push-first s u v (λ e. omega arith) (omega arith) (omega arith)) (record { still = x; on = omega arith })
       go (no l) (no h) f =
           let e : u ≡ v = omega arith in
-          subst (Stepped g n s) (push-none s u v e)
-          (record { still = open-equal g n round (s .first) (s .second) (s .alike) o second short (sym p ∙ e ∙ q); on = omega arith })
+          let x = open-equal g n round (s .first) (s .second) (s .alike) o second short (sym p ∙ e ∙ q) in
+          subst (Stepped g n s) (push-none s u v e) (record { still = x; on = omega arith })

@@ -1,13 +1,13 @@
--- The readings in one direction are the ring read round and round from each start, so that a start is beaten exactly if its reading is not
--- the least of its direction. Assumes nothing.
-use Prim.Native.Nat.{ℕ, zero, suc, _+_, _-_, _*_, _/_, _%_, _≤_, _<_}
+-- The readings in one direction are the ring read round and round from each start, so that a start is beaten exactly if its
+-- reading is not among the least of its direction. What is settled in both directions tells the first of all. Assumes nothing.
+use Prim.Native.Nat.{ℕ, suc, _+_, _-_, _*_, _/_, _%_, _≤_, _<_}
 use native.Mathlib.Omega.{arith}
 use native.Mathlib.Decide.{decLt}
-use native.Mathlib.Nat.{add-mod-right, mod-lt, mod-le, mod-eq-of-lt, mod-eq-sub-mod, not-suc-le-zero}
+use native.Mathlib.Nat.{add-mod-right, mod-lt, mod-le, mod-eq-of-lt, mod-eq-sub-mod}
 use mathlib.Core.Path.{_≡_, refl, sym, ap, subst, _∙_}
 use mathlib.Core.Bool.{Bool, true, false, not, cond}
 use mathlib.Core.Logic.{_⊎_, inl, inr, ⊎-elim}
-use mathlib.Core.List.{List, [], _∷_}
+use mathlib.Core.List.{List}
 use lib.ListN.{length, getD}
 use lib.Dec.{ltb}
 use Rattle.reading.specs.Reading.{Vertex, flat, ord, less, earlier, choice, bestOf}
@@ -15,74 +15,11 @@ use Rattle.reading.specs.Lent.{wrap, vertexPlace}
 use Rattle.reading.specs.Starts.{numberOf, along, Ahead, Beaten, Settled}
 use Rattle.reading.proofs.Turning.{length-reading}
 use Rattle.reading.proofs.Leasts.{length-flat}
-use Rattle.reading.proofs.Order.{Apart, lower, equal, higher, apart, ord-inj, less-lower, less-higher, less-equal, less-irrefl, less-trans, no-bool}
+use Rattle.reading.proofs.Order.{no-bool}
+use Rattle.reading.proofs.Lowest.{Lower, lower-less, less-at, lowest}
 use Rattle.reading.proofs.Places.{wrap-low, wrap-high, vertex-onward, vertex-back, choice-at, nowhere, coord-of-vertex}
 use Rattle.reading.proofs.First.{Foremost, less-under, join-back, join-on, first-of-all}
 use Rattle.reading.proofs.Repeats.{first-low, first-unbeaten, last-unbeaten, last-others}
-
--- ---- the first difference of two lists
-
--- the coordinates before the place k are the same, and that at k is lower
-pub record Lower (p q : List ℕ) (k : ℕ) : Type 0 where
-  pub inside : k < length p
-  pub same : (m : ℕ) → m < k → ord (getD p m 0) ≡ ord (getD q m 0)
-  pub less-there : ord (getD p k 0) < ord (getD q k 0)
-
-lower-less : (p q : List ℕ) (k : ℕ) → length p ≡ length q → Lower p q k → less p q ≡ true
-lower-less [] q k e h = absurd (not-suc-le-zero (h .inside))
-lower-less (a ∷ p) [] k e h = absurd (omega arith)
-lower-less (a ∷ p) (b ∷ q) zero e h = less-lower a b p q (h .less-there)
-lower-less (a ∷ p) (b ∷ q) (suc k) e h =
-    let t : Lower p q k = record { inside = omega (arith, h .inside); same = λ m l. h .same (suc m) (omega arith); less-there = h .less-there } in
-    less-equal a b p q (ord-inj a b (h .same 0 (omega arith))) ∙ lower-less p q k (omega arith) t
-
-less-at : (p q : List ℕ) → length p ≡ length q → less p q ≡ true → (k : ℕ) × Lower p q k
-less-at [] [] e h = no-bool (unfold less in h)
-less-at [] (b ∷ q) e h = absurd (omega arith)
-less-at (a ∷ p) [] e h = absurd (omega arith)
-less-at (a ∷ p) (b ∷ q) e h = go (apart a b) (less-at p q (omega arith))
-  where
-    after : a ≡ b → (k : ℕ) × Lower p q k → (k : ℕ) × Lower (a ∷ p) (b ∷ q) k
-    after z t = (suc (t .0), record { inside = omega (arith, t .1 .inside); same = all; less-there = t .1 .less-there })
-      where
-        all : (m : ℕ) → m < suc (t .0) → ord (getD (a ∷ p) m 0) ≡ ord (getD (b ∷ q) m 0)
-        all zero l = ap ord z
-        all (suc m) l = t .1 .same m (omega arith)
-
-    go : Apart a b → (less p q ≡ true → (k : ℕ) × Lower p q k) → (k : ℕ) × Lower (a ∷ p) (b ∷ q) k
-    go (lower l) ih = (0, record { inside = omega arith; same = λ m d. absurd (omega arith); less-there = l })
-    go (higher l) ih = no-bool (sym (less-higher a b p q l) ∙ h)
-    go (equal z) ih = after z (ih (sym (less-equal a b p q z) ∙ h))
-
--- of lists by number one is the least
-lowest : (at : ℕ → List ℕ) (n : ℕ) → (e : ℕ) × (e < suc n) × ((w : ℕ) → w < suc n → less (at w) (at e) ≡ false)
-lowest at zero = (0, (omega arith), λ w l. let z : w ≡ 0 = omega arith in ap (λ (x : ℕ). less (at x) (at 0)) z ∙ less-irrefl (at 0))
-lowest at (suc n) = go (lowest at n)
-  where
-    go : (e : ℕ) × (e < suc n) × ((w : ℕ) → w < suc n → less (at w) (at e) ≡ false)
-        → (e : ℕ) × (e < suc (suc n)) × ((w : ℕ) → w < suc (suc n) → less (at w) (at e) ≡ false)
-    go t = by (less (at (suc n)) (at (t .0))) refl
-      where
-        last : (w x : ℕ) → w < suc (suc n) → (less (at (suc n)) (at x) ≡ false) → ((w < suc n) → less (at w) (at x) ≡ false) → less (at w) (at x) ≡ false
-        last w x l h k = at-end (decLt w (suc n))
-          where
-            at-end : Dec (w < suc n) → less (at w) (at x) ≡ false
-            at-end (yes d) = k d
-            at-end (no d) =
-                let z : w ≡ suc n = omega arith in
-                ap (λ (y : ℕ). less (at y) (at x)) z ∙ h
-
-        still : (w : ℕ) → less (at (suc n)) (at (t .0)) ≡ true → w < suc n → less (at w) (at (suc n)) ≡ false
-        still w h l = under (less (at w) (at (suc n))) refl
-          where
-            under : (b : Bool) → less (at w) (at (suc n)) ≡ b → b ≡ false
-            under false e = refl
-            under true e = no-bool (sym (t .2 w l) ∙ less-trans (at w) (at (suc n)) (at (t .0)) e h)
-
-        by : (b : Bool) → less (at (suc n)) (at (t .0)) ≡ b
-            → (e : ℕ) × (e < suc (suc n)) × ((w : ℕ) → w < suc (suc n) → less (at w) (at e) ≡ false)
-        by true h = (suc n, (omega arith), λ w l. last w (suc n) l (less-irrefl (at (suc n))) (still w h))
-        by false h = (t .0, (omega (arith, t .1)), λ w l. last w (t .0) l h (t .2 w))
 
 -- ---- the readings of one direction
 
@@ -134,23 +71,28 @@ module _ (r : List Vertex) (back : Bool) where
   unfolding along
   round m = ap (λ (x : ℕ). ord (getD (at 0) x 0)) (add-mod-right m (2 * n))
 
+  -- coordinate t from the start u on, in the ring's own order
+  coordinate-at : (u t v : ℕ) → u < n → t < 2 * n → v ≡ vertexPlace n (numberOf n back u) (t / 2) → getD (at u) t 0 ≡ getD (flat r) (2 * v + t % 2) 0
+  coordinate-at u t v h k e =
+      let c = numberOf n back u in
+      coord-of-vertex (choice r c) r v t (choice-at nowhere r c (t / 2) (number-low back n u h) (omega arith) ∙ ap (λ (x : ℕ). getD r x nowhere) (sym e))
+
   place-at : (u t : ℕ) → u < n → t < 2 * n → ord (getD (at u) t 0) ≡ along r back (2 * u + t)
   unfolding along
   place-at u t h k =
       let m = (2 * u + t) % (2 * n) in
       let l : m < 2 * n = mod-lt (2 * u + t) (omega arith) in
       let v = vertexPlace n (numberOf n back u) (t / 2) in
-      let w = vertexPlace n (numberOf n back 0) (m / 2) in
-      let e : v ≡ w = same-vertex back n u t m h k l (turned n u t h k) in
+      let e = same-vertex back n u t m h k l (turned n u t h k) in
       let z : t % 2 ≡ m % 2 = ⊎-elim (λ x. omega arith) (λ x. omega arith) (turned n u t h k) in
       ap ord
-      (coord-of-vertex (choice r (numberOf n back u)) r v t (choice-at nowhere r (numberOf n back u) (t / 2) (number-low back n u h) (omega arith))
-      ∙ ap (λ (x : ℕ). getD (flat r) (2 * x + t % 2) 0) e
-      ∙ ap (λ (x : ℕ). getD (flat r) (2 * w + x) 0) z
-      ∙ sym (coord-of-vertex (choice r (numberOf n back 0)) r w m (choice-at nowhere r (numberOf n back 0) (m / 2) (number-low back n 0 (omega arith)) (omega arith))))
+      (coordinate-at u t v h k refl
+      ∙ ap (λ (x : ℕ). getD (flat r) (2 * v + x) 0) z
+      ∙ sym (coordinate-at 0 m v (omega arith) l e))
 
   -- the same, of the reading c
-  pub read-at : (c u t k : ℕ) → u < n → t < 2 * n → c ≡ numberOf n back u → k ≡ ord (getD (flat (choice r c)) t 0) → k ≡ along r back (2 * u + t)
+  pub read-at : (c u t k : ℕ) → u < n → t < 2 * n → c ≡ numberOf n back u → k ≡ ord (getD (flat (choice r c)) t 0)
+      → k ≡ along r back (2 * u + t)
   read-at c u t k h l e f = f ∙ ap (λ (y : ℕ). ord (getD (flat (choice r y)) t 0)) e ∙ place-at u t h l
 
   -- ---- a start is beaten exactly if another's reading is before its own
@@ -184,7 +126,8 @@ module _ (r : List Vertex) (back : Bool) where
   some-unbeaten : 0 < n → (e : ℕ) × (e < n) × (Beaten (along r back) n e → ⊥)
   some-unbeaten p = go (lowest at (n - 1))
     where
-      go : (e : ℕ) × (e < suc (n - 1)) × ((w : ℕ) → w < suc (n - 1) → less (at w) (at e) ≡ false) → (e : ℕ) × (e < n) × (Beaten (along r back) n e → ⊥)
+      go : (e : ℕ) × (e < suc (n - 1)) × ((w : ℕ) → w < suc (n - 1) → less (at w) (at e) ≡ false)
+          → (e : ℕ) × (e < n) × (Beaten (along r back) n e → ⊥)
       go t =
           let l : t .0 < n = omega (arith, t .1) in
           (t .0, l, λ b. no-bool (sym (t .2 (b .by) (omega (arith, b .low))) ∙ ahead-less (b .by) (t .0) (b .low) l (b .ahead)))
@@ -198,7 +141,9 @@ module _ (r : List Vertex) (back : Bool) where
         go true e = absurd (unbeaten (less-beaten w u h k e))
 
     before-beaten : (w : ℕ) → w < n → Beaten (along r back) n w → less (at u) (at w) ≡ true
-    before-beaten w h b = less-under (at (b .by)) (at w) (at u) (ahead-less (b .by) w (b .low) h (b .ahead)) (none-before (b .by) (b .low))
+    before-beaten w h b =
+        let v = b .by in
+        less-under (at v) (at w) (at u) (ahead-less v w (b .low) h (b .ahead)) (none-before v (b .low))
 
 -- ---- the first of the least, onward and back
 
@@ -213,7 +158,7 @@ module _ (r : List Vertex) (some : 0 < length r) (i j : ℕ) where
       let e = some-unbeaten r back some in
       first-low (along r back) (length r) i (j - i) (by-period back s) (e .0) (e .1) (e .2)
 
-  pub foremost-on : Settled (along r false) (length r) i j → Foremost r 0 (length r) i
+  foremost-on : Settled (along r false) (length r) i j → Foremost r 0 (length r) i
   foremost-on s =
       let e = some-unbeaten r false some in
       let l = start-low false s in
@@ -225,7 +170,8 @@ module _ (r : List Vertex) (some : 0 < length r) (i j : ℕ) where
         first = λ c z h. before-beaten r false i l f c (omega arith) (s .others c (omega (arith, s .order)) (λ q. omega arith));
       }
 
-  pub foremost-back : Settled (along r true) (length r) i j → Foremost r (length r) (2 * length r) (length r + (length r - 1 - i) % (j - i))
+  foremost-back : Settled (along r true) (length r) i j
+      → Foremost r (length r) (2 * length r) (length r + (length r - 1 - i) % (j - i))
   foremost-back s = record { from = omega arith; to = omega (arith, here); least = none; first = one }
     where
       d : ℕ
@@ -240,23 +186,27 @@ module _ (r : List Vertex) (some : 0 < length r) (i j : ℕ) where
       un : Beaten (along r true) (length r) (length r - 1 - d) → ⊥
       un = last-unbeaten (along r true) (length r) i (j - i) (by-period true s) (e .0) (e .1) (e .2)
 
-      -- the start of the reading c, and back to c
-      number : (c : ℕ) → length r ≤ c → c < 2 * length r → 2 * length r - suc (2 * length r - 1 - c) ≡ c
+      after : (t : ℕ) → t < d → Beaten (along r true) (length r) (length r - 1 - t)
+      after = last-others (along r true) (length r) i (j - i) (by-period true s) (e .0) (e .1) (e .2)
+
+      -- a start, and the number of its reading
+      start : ℕ → ℕ
+      start c = length r - 1 - (c - length r)
+
+      number : (c : ℕ) → length r ≤ c → c < 2 * length r → 2 * length r - suc (start c) ≡ c
       number c h k = omega arith
 
       least-number : 2 * length r - suc (length r - 1 - d) ≡ length r + d
       least-number = omega (arith, here)
 
       none : (c : ℕ) → length r ≤ c → c < 2 * length r → earlier (choice r c) (choice r (length r + d)) ≡ false
-      none c h k =
-          rw (number c h k, least-number) at (none-before r true (length r - 1 - d) (omega (arith, here)) un (2 * length r - 1 - c) (omega arith))
+      none c h k = rw (number c h k, least-number) at (none-before r true (length r - 1 - d) (omega (arith, here)) un (start c) (omega arith))
 
       one : (c : ℕ) → length r ≤ c → c < length r + d → earlier (choice r (length r + d)) (choice r c) ≡ true
       one c h k =
-          let z : length r - 1 - (c - length r) ≡ 2 * length r - 1 - c = omega arith in
-          let b : Beaten (along r true) (length r) (2 * length r - 1 - c) =
-            rw z at (last-others (along r true) (length r) i (j - i) (by-period true s) (e .0) (e .1) (e .2) (c - length r) (omega arith)) in
-          rw (number c h (omega (arith, here)), least-number) at (before-beaten r true (length r - 1 - d) (omega (arith, here)) un (2 * length r - 1 - c) (omega arith) b)
+          let b = after (c - length r) (omega arith) in
+          rw (number c h (omega (arith, here)), least-number)
+          at (before-beaten r true (length r - 1 - d) (omega (arith, here)) un (start c) (omega arith) b)
 
 -- ---- the first of the least of all, where both directions are settled
 
@@ -271,7 +221,8 @@ module _
   first-on = foremost-on r some i j on
 
   first-back : Foremost r (length r) (2 * length r) (n + (n - 1 - p) % (q - p))
-  first-back = subst (λ (m : ℕ). Foremost r (length r) (2 * length r) (m + (m - 1 - p) % (q - p))) (sym half) (foremost-back r some p q back)
+  first-back =
+      subst (λ (m : ℕ). Foremost r (length r) (2 * length r) (m + (m - 1 - p) % (q - p))) (sym half) (foremost-back r some p q back)
 
   pub on-low : i < n
   on-low = omega (arith, first-on .to)

@@ -150,7 +150,8 @@ fn pushed(s: Starts, u: u64, v: u64) -> Starts
 fn settle(ring: &[f64], keys: &[u64], back: bool) -> Starts
     requires { ⌜ Lent (now ring) × Keyed (now keys) (now ring) ⌝ }
     requires { ⌜ 0 < length (now ring) ⌝ }
-    ensures { λ r. ⌜ Settled (along (ringOf (now (ring .entry))) back) (length (ringOf (now (ring .entry)))) (r .first) (r .second) ⌝ }
+    ensures { λ r.
+        ⌜ Settled (along (ringOf (now (ring .entry))) back) (length (ringOf (now (ring .entry)))) (r .first) (r .second) ⌝ }
 {
     let n = ring.len() / 2;
     let mut s = Starts {

@@ -1,12 +1,13 @@
--- `reading::before` meets its contract. The loop's invariant: what is left of the two readings, from coordinate j on, decides. Assumes nothing.
+-- `reading::before` meets its contract. The loop's invariant: what is left of the two readings, from coordinate j on, decides.
+-- Assumes nothing.
 use Prim.Native.Nat.{ℕ, _-_, _≤_, _<_}
-use mathlib.Core.Path.{_≡_, refl, sym, ap, _∙_}
+use mathlib.Core.Path.{_≡_, refl, sym, _∙_}
 use mathlib.Core.List.{List}
 use native.Mathlib.Omega.{arith}
 use borrow.Author.Needs.{needs}
 use lib.Ieee.{Float}
 use lib.ListN.{length, getD, drop}
-use Rattle.reading.specs.Reading.{flat, less, earlier, choice}
+use Rattle.reading.specs.Reading.{ord, flat, less, earlier, choice}
 use Rattle.reading.specs.Lent.{ringOf}
 use Rattle.reading.proofs.Places.{length-choice, left-lower, left-higher, left-equal, left-none}
 use Rattle.reading.proofs.before.Statement.{statement}
@@ -14,7 +15,9 @@ use Rattle.reading.proofs.before.Tie as tie
 
 abbrev Inv-loop : tie.InvT-loop
 Inv-loop ring keys a b j₀ j =
-    (j ≤ length ring) × (earlier (choice (ringOf ring) a) (choice (ringOf ring) b) ≡ less (drop j (flat (choice (ringOf ring) a))) (drop j (flat (choice (ringOf ring) b))))
+    let p = choice (ringOf ring) a in
+    let q = choice (ringOf ring) b in
+    (j ≤ length ring) × (earlier p q ≡ less (drop j (flat p)) (drop j (flat q)))
 
 abbrev μ-loop : tie.MeasureT-loop
 μ-loop ring keys a b j₀ j = length ring - j
@@ -54,12 +57,16 @@ module _ (c : tie.After-key-at2 Inv-loop μ-loop) where
 returns : tie.Need-returns Inv-loop μ-loop
 returns c =
     let k = c .before in
-    sym (l k .loop .inv .1 ∙ left-lower (p k) (q k) (l k .loop .j) (in-first k) (in-second k) (omega (arith, c .if1 .taken, k .before .key-at .ensures, k .key-at2 .ensures)))
+    let u = k .before .key-at .ensures in
+    let v = k .key-at2 .ensures in
+    sym (l k .loop .inv .1 ∙ left-lower (p k) (q k) (l k .loop .j) (in-first k) (in-second k) (omega (arith, c .if1 .taken)))
 
 returns-2 : tie.Need-returns-2 Inv-loop μ-loop
 returns-2 c =
     let k = c .before .before in
-    sym (l k .loop .inv .1 ∙ left-higher (p k) (q k) (l k .loop .j) (in-first k) (in-second k) (omega (arith, c .if2 .taken, k .before .key-at .ensures, k .key-at2 .ensures)))
+    let u = k .before .key-at .ensures in
+    let v = k .key-at2 .ensures in
+    sym (l k .loop .inv .1 ∙ left-higher (p k) (q k) (l k .loop .j) (in-first k) (in-second k) (omega (arith, c .if2 .taken)))
 
 add-j : tie.Need-add-j Inv-loop μ-loop
 add-j c = omega arith
@@ -69,19 +76,21 @@ loop-less c = omega arith
 
 loop-again : tie.Need-loop-again Inv-loop μ-loop
 loop-again c =
-    let k = c .before .before in (
-      (omega arith),
-      l k .loop .inv .1
-          ∙ left-equal (p k) (q k) (l k .loop .j) (in-first k) (in-second k) (omega (arith, c .if2 .left, c .before .if1 .left, k .before .key-at .ensures, k .key-at2 .ensures)),
-    )
+    let k = c .before .before in
+    let u = k .before .key-at .ensures in
+    let v = k .key-at2 .ensures in
+    let e : ord (getD (p k) (l k .loop .j) 0) ≡ ord (getD (q k) (l k .loop .j) 0) = omega (arith, c .if2 .left, c .before .if1 .left) in
+    ((omega arith), l k .loop .inv .1 ∙ left-equal (p k) (q k) (l k .loop .j) (in-first k) (in-second k) e)
 
 returns-3 : tie.Need-returns-3 Inv-loop μ-loop
 returns-3 c =
     let s = c .before .before .before .before in
     let xs = s .args .ring .now in
-    let np = length-choice xs (s .pre .0 .0 .even) (s .args .a) in
-    let nq = length-choice xs (s .pre .0 .0 .even) (s .args .b) in
-    sym (c .before .loop .inv .1 ∙ left-none (flat (choice (ringOf xs) (s .args .a))) (flat (choice (ringOf xs) (s .args .b))) (c .before .loop .j) (omega arith) (omega arith))
+    let p = flat (choice (ringOf xs) (s .args .a)) in
+    let q = flat (choice (ringOf xs) (s .args .b)) in
+    let np : length p ≡ length xs = length-choice xs (s .pre .0 .0 .even) (s .args .a) in
+    let nq : length q ≡ length xs = length-choice xs (s .pre .0 .0 .even) (s .args .b) in
+    sym (c .before .loop .inv .1 ∙ left-none p q (c .before .loop .j) (omega arith) (omega arith))
 
 pub before-spec : {M : Type 1} → statement M
 before-spec =

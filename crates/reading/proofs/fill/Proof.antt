@@ -1,6 +1,7 @@
--- `reading::fill` meets its contract. The invariant: the first i keys are written, and the room is as long as it came. Assumes nothing.
+-- `reading::fill` meets its contract. The invariant: the first i keys are written, and the room is as long as it came. Assumes
+-- nothing.
 use Prim.Native.Nat.{ℕ, _+_, _-_, _≤_, _<_}
-use mathlib.Core.Path.{_≡_, refl, sym, ap, _∙_}
+use mathlib.Core.Path.{_≡_, refl, ap, _∙_}
 use mathlib.Core.List.{List}
 use native.Mathlib.Omega.{arith}
 use native.Mathlib.Decide.{decLt}
@@ -14,7 +15,9 @@ use Rattle.reading.proofs.fill.Statement.{statement}
 use Rattle.reading.proofs.fill.Tie as tie
 
 -- one more key
-stored : (keys : List ℕ) (xs : List Float) (i v : ℕ) → i < length keys → ((m : ℕ) → m < i → getD keys m 0 ≡ ord (kept (getD xs m nan))) → v ≡ ord (kept (getD xs i nan))
+stored : (keys : List ℕ) (xs : List Float) (i v : ℕ) → i < length keys
+    → ((m : ℕ) → m < i → getD keys m 0 ≡ ord (kept (getD xs m nan)))
+    → v ≡ ord (kept (getD xs i nan))
     → (m : ℕ) → m < i + 1 → getD (set keys i v) m 0 ≡ ord (kept (getD xs m nan))
 stored keys xs i v h before e m l = go (decLt m i)
   where
@@ -25,7 +28,8 @@ stored keys xs i v h before e m l = go (decLt m i)
         rw z (getD-set-same keys i v 0 h ∙ e)
 
 abbrev Inv-loop : tie.InvT-loop
-Inv-loop ring room₀ i₀ room i = (i ≤ length ring) × (length room ≡ length room₀) × ((m : ℕ) → m < i → getD room m 0 ≡ ord (kept (getD ring m nan)))
+Inv-loop ring room₀ i₀ room i =
+    (i ≤ length ring) × (length room ≡ length room₀) × ((m : ℕ) → m < i → getD room m 0 ≡ ord (kept (getD ring m nan)))
 
 abbrev μ-loop : tie.MeasureT-loop
 μ-loop ring room₀ i₀ room i = length ring - i
@@ -63,8 +67,11 @@ loop-again : tie.Need-loop-again Inv-loop μ-loop
 loop-again c =
     let l = c .before .before .before .before in
     let k = c .before in
-    ((omega arith), (simp length-set (omega arith)),
-    stored (l .loop .room) (l .before .before .before .args .ring .now) (l .loop .i) (c .key .result) (omega arith) (l .loop .inv .2) (c .key .ensures ∙ ap ord (k .kept-bits .ensures)))
+    let e = c .key .ensures ∙ ap ord (k .kept-bits .ensures) in (
+      (omega arith),
+      (simp length-set (omega arith)),
+      stored (l .loop .room) (l .before .before .before .args .ring .now) (l .loop .i) (c .key .result) (omega arith) (l .loop .inv .2) e,
+    )
 
 same-length : tie.Need-same-length Inv-loop μ-loop
 same-length c = search needs

@@ -27,8 +27,10 @@ returns : tie.Need-returns
 returns c =
     let v = c .before .vertex in
     let s = c .before .before .before .before in
-    s .pre .0 .1 .each (2 * v .result + s .args .j % 2) (omega (arith, v .ensures .1))
-    ∙ ap ord (coord-at (s .args .ring .now) (s .pre .0 .0 .even) (s .args .c) (s .args .j) (v .result) (s .pre .1 .0) (s .pre .1 .1) (v .ensures .0) (v .ensures .1))
+    let a = s .args in
+    let h = s .pre .1 in
+    s .pre .0 .1 .each (2 * v .result + a .j % 2) (omega (arith, v .ensures .1))
+    ∙ ap ord (coord-at (a .ring .now) (s .pre .0 .0 .even) (a .c) (a .j) (v .result) (h .0) (h .1) (v .ensures .0) (v .ensures .1))
 
 pub key-at-spec : {M : Type 1} → statement M
 key-at-spec =

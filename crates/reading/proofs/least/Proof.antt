@@ -1,6 +1,7 @@
 -- `reading::least` meets its contract: of what is settled onward and back the lesser is the first of all. Assumes nothing.
 use Prim.Native.Nat.{ℕ, _+_, _-_, _*_, _/_, _%_, _≤_, _<_}
 use mathlib.Core.Path.{_≡_, sym, _∙_}
+use mathlib.Core.Bool.{true, false}
 use mathlib.Core.List.{List}
 use native.Mathlib.Omega.{arith}
 use borrow.Author.Needs.{needs}
@@ -10,6 +11,7 @@ use lib.Ieee.{Float}
 use lib.ListN.{length}
 use Rattle.reading.specs.Reading.{Vertex}
 use Rattle.reading.specs.Lent.{ringOf}
+use Rattle.reading.specs.Starts.{along, Settled}
 use Rattle.reading.proofs.Places.{length-ringOf}
 use Rattle.reading.proofs.Ways.{on-low, back-low, number-within, all-back, all-on}
 use Rattle.reading.proofs.least.Statement.{statement}
@@ -71,14 +73,20 @@ module _ (c : tie.After-settle2) where
   half : n ≡ length r
   half = omega (arith, vertices-of)
 
+  onward : Settled (along r false) (length r) i j
+  onward = c .before .before .settle .ensures
+
+  back : Settled (along r true) (length r) p q
+  back = c .settle2 .ensures
+
   p-low : p ≤ n - 1
-  p-low = omega (arith, back-low r some n i j p q half (c .before .before .settle .ensures) (c .settle2 .ensures))
+  p-low = omega (arith, back-low r some n i j p q half onward back)
 
   i-low : i < length xs
-  i-low = omega (arith, half, vertices-of, on-low r some n i j p q half (c .before .before .settle .ensures) (c .settle2 .ensures))
+  i-low = omega (arith, half, vertices-of, on-low r some n i j p q half onward back)
 
   b-low : n + (n - 1 - p) % (q - p) < length xs
-  b-low = omega (arith, half, vertices-of, number-within r some n i j p q half (c .before .before .settle .ensures) (c .settle2 .ensures))
+  b-low = omega (arith, half, vertices-of, number-within r some n i j p q half onward back)
 
   b-fits : Fits w64 (n + (n - 1 - p) % (q - p))
   b-fits = omega (arith, b-low, s .pre .0 .most)
@@ -106,12 +114,14 @@ before-requires c κs =
 returns : tie.Need-returns
 returns c =
     let k = c .before .before .before .before .before in
-    (all-back (r k) (some k) (n k) (i k) (j k) (p k) (q k) (half k) (k .before .before .settle .ensures) (k .settle2 .ensures) (sym (c .before .before2 .ensures) ∙ c .if1 .taken), b-low k)
+    let e = sym (c .before .before2 .ensures) ∙ c .if1 .taken in
+    (all-back (r k) (some k) (n k) (i k) (j k) (p k) (q k) (half k) (onward k) (back k) e, b-low k)
 
 returns-2 : tie.Need-returns-2
 returns-2 c =
     let k = c .before .before .before .before .before in
-    (all-on (r k) (some k) (n k) (i k) (j k) (p k) (q k) (half k) (k .before .before .settle .ensures) (k .settle2 .ensures) (sym (c .before .before2 .ensures) ∙ c .if1 .left), i-low k)
+    let e = sym (c .before .before2 .ensures) ∙ c .if1 .left in
+    (all-on (r k) (some k) (n k) (i k) (j k) (p k) (q k) (half k) (onward k) (back k) e, i-low k)
 
 pub least-spec : {M : Type 1} → statement M
 least-spec =

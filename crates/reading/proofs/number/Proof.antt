@@ -1,12 +1,7 @@
-use Prim.Native.Nat.{ℕ, _+_, _*_, _-_, _/_, _%_, _≤_, _<_}
-use mathlib.Core.Path.{_≡_, refl, sym, ap, _∙_}
-use native.Mathlib.Omega.{arith}
-use lib.ListN.{length, getD}
+-- `reading::number` meets its contract: from the last vertex back, or from the first onward. Assumes nothing.
 use borrow.Author.Needs.{needs}
 use Rattle.reading.proofs.number.Statement.{statement}
 use Rattle.reading.proofs.number.Tie as tie
-use Rattle.reading.proofs.number.Reads as reads
-use Rattle.reading.proofs.number.Lts as lts
 
 mul-result : tie.Need-mul-result
 mul-result c = search needs

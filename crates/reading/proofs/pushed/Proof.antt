@@ -1,13 +1,8 @@
-use Prim.Native.Nat.{ℕ, _+_, _*_, _-_, _/_, _%_, _≤_, _<_}
-use mathlib.Core.Path.{_≡_, refl, sym, ap, _∙_}
-use native.Mathlib.Omega.{arith}
-use lib.ListN.{length, getD}
-use Rattle.reading.proofs.Step.{push-none, push-second, push-past, push-first}
+-- `reading::pushed` meets its contract: the four ends of a step. Assumes nothing.
 use borrow.Author.Needs.{needs}
+use Rattle.reading.proofs.Step.{push-none, push-second, push-past, push-first}
 use Rattle.reading.proofs.pushed.Statement.{statement}
 use Rattle.reading.proofs.pushed.Tie as tie
-use Rattle.reading.proofs.pushed.Reads as reads
-use Rattle.reading.proofs.pushed.Lts as lts
 
 add-t7 : tie.Need-add-t7
 add-t7 c = search needs
