@@ -1,16 +1,12 @@
 -- One step of two starts that push each other on, as `pushed` takes it. Assumes nothing.
-use Prim.Native.Nat.{ℕ, _+_, _*_, _/_, _≤_, _<_}
+use Prim.Native.Nat.{ℕ, _+_, _*_, _≤_, _<_}
 use native.Mathlib.Omega.{arith}
 use native.Mathlib.Decide.{decLt}
 use mathlib.Core.Path.{_≡_, sym, subst, _∙_}
 use borrow.Author.Tests.{lt-ltb, le-ltb, eq-eqb, ne-eqb}
 use Rattle.reading.specs.declared.Starts.{Starts}
-use Rattle.reading.specs.Starts.{pushedBy}
+use Rattle.reading.specs.Starts.{stride, further, pushedBy}
 use Rattle.reading.proofs.Pushing.{Open, open-equal, open-lower, open-higher}
-
--- past what the first start and those after it are beaten by
-abbrev further : Starts → ℕ
-further s = s .first + (s .alike / 2 + 1)
 
 -- the four ends of `pushed`
 module _ (s : Starts) (u v : ℕ) where
@@ -19,7 +15,7 @@ module _ (s : Starts) (u v : ℕ) where
   push-none e = rw (eq-eqb u v e)
 
   pub push-second : (u ≡ v → ⊥) → u < v
-      → record { first = s .first; second = s .second + (s .alike / 2 + 1); alike = 0 } ≡ pushedBy s u v
+      → record { first = s .first; second = s .second + stride s; alike = 0 } ≡ pushedBy s u v
   unfolding pushedBy
   push-second d l = rw (ne-eqb u v d, lt-ltb u v l)
 

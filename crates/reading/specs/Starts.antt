@@ -35,11 +35,19 @@ pub record Settled (g : ℕ → ℕ) (n i j : ℕ) : Type 0 where
   pub others : (u : ℕ) → u < j → (u ≡ i → ⊥) → Beaten g n u
   pub again : (m : ℕ) → g (2 * i + m) ≡ g (2 * j + m)
 
--- the two starts that are left where the next coordinates of their readings have the places u and v
+-- how far the start of the later reading is pushed on: as far as the two agree, and one vertex more
+abbrev pub stride : Starts → ℕ
+stride s = s .alike / 2 + 1
+
+-- the first start, pushed on
+abbrev pub further : Starts → ℕ
+further s = s .first + stride s
+
+-- The two starts that are left where the next coordinates of their readings have the places u and v. Where it is the first that is
+-- pushed, it begins anew there or at the second, whichever is later, and the second one vertex after it.
 unfoldable pub pushedBy : Starts → ℕ → ℕ → Starts
 pushedBy s u v =
-    let t = s .first + (s .alike / 2 + 1) in
     cond (eqb u v) (record { first = s .first; second = s .second; alike = s .alike + 1 })
-    (cond (ltb u v) (record { first = s .first; second = s .second + (s .alike / 2 + 1); alike = 0 })
-    (cond (ltb t (s .second)) (record { first = s .second; second = s .second + 1; alike = 0 })
-    (record { first = t; second = t + 1; alike = 0 })))
+    (cond (ltb u v) (record { first = s .first; second = s .second + stride s; alike = 0 })
+    (cond (ltb (further s) (s .second)) (record { first = s .second; second = s .second + 1; alike = 0 })
+    (record { first = further s; second = further s + 1; alike = 0 })))

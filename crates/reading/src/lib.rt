@@ -105,10 +105,10 @@ fn number(n: usize, back: bool, u: usize) -> usize
 }
 
 // Two starts in one direction, the first before the second, and how many coordinates of their readings are known to be the same.
-pub struct Starts {
-    pub first: usize,
-    pub second: usize,
-    pub alike: usize,
+struct Starts {
+    first: usize,
+    second: usize,
+    alike: usize,
 }
 
 // The starts that are left where the next coordinates of the two readings have the keys u and v.
