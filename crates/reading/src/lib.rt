@@ -174,20 +174,33 @@ fn settle(ring: &[f64], keys: &[u64], back: bool) -> Starts
     }
 }
 
-// The number of the first of the least readings: of both directions the lesser, onward where they are the same.
+// The number of the first of the least readings: of both directions the lesser, onward where they are the same. The room takes the keys.
+fn least_in(ring: &[f64], room: &mut [u64]) -> usize
+    requires { ⌜ Lent (now ring) ⌝ }
+    requires { ⌜ (0 < length (now ring)) × (length (now ring) ≤ length (now room)) ⌝ }
+    ensures { λ r. ⌜ (r ≡ bestOf (ringOf (now (ring .entry)))) × (r < length (now (ring .entry))) ⌝ }
+{
+    fill(ring, room);
+    let n = ring.len() / 2;
+    let onward = settle(ring, room, false);
+    let back = settle(ring, room, true);
+    let a = onward.first;
+    let b = n + (n - 1 - back.first) % (back.second - back.first);
+    if before(ring, room, b, a) { b } else { a }
+}
+
+// The number of the first of the least readings. A small ring has a small room, which takes less to set up.
 pub fn least(ring: &[f64]) -> usize
     requires { ⌜ Lent (now ring) ⌝ }
     requires { ⌜ 0 < length (now ring) ⌝ }
     ensures { λ r. ⌜ (r ≡ bestOf (ringOf (now (ring .entry)))) × (r < length (now (ring .entry))) ⌝ }
 {
-    let mut keys = [0u64; 512];
-    fill(ring, &mut keys);
-    let n = ring.len() / 2;
-    let onward = settle(ring, &keys, false);
-    let back = settle(ring, &keys, true);
-    let a = onward.first;
-    let b = n + (n - 1 - back.first) % (back.second - back.first);
-    if before(ring, &keys, b, a) { b } else { a }
+    if ring.len() > 64 {
+        let mut large = [0u64; 512];
+        return least_in(ring, &mut large);
+    }
+    let mut small = [0u64; 64];
+    least_in(ring, &mut small)
 }
 
 // Whether a ring is its own least reading.

@@ -1,4 +1,4 @@
--- `reading::least` meets its contract: of what is settled onward and back the lesser is the first of all. Assumes nothing.
+-- `reading::least_in` meets its contract: of what is settled onward and back the lesser is the first of all. Assumes nothing.
 use Prim.Native.Nat.{ℕ, _+_, _-_, _*_, _/_, _%_, _≤_, _<_}
 use mathlib.Core.Path.{_≡_, sym, _∙_}
 use mathlib.Core.Bool.{true, false}
@@ -14,23 +14,14 @@ use Rattle.reading.specs.Lent.{ringOf}
 use Rattle.reading.specs.Starts.{along, Settled}
 use Rattle.reading.proofs.Places.{length-ringOf}
 use Rattle.reading.proofs.Ways.{on-low, back-low, number-within, all-back, all-on}
-use Rattle.reading.proofs.least.Statement.{statement}
-use Rattle.reading.proofs.least.Tie as tie
-
-slice-aggregate-fill : tie.Need-slice-aggregate-fill
-slice-aggregate-fill c = search needs
+use Rattle.reading.proofs.least_in.Statement.{statement}
+use Rattle.reading.proofs.least_in.Tie as tie
 
 fill-requires : tie.Need-fill-requires
 fill-requires c κs = search needs
 
-slice-aggregate-settle : tie.Need-slice-aggregate-settle
-slice-aggregate-settle c = search needs
-
 settle-requires : tie.Need-settle-requires
 settle-requires c κs = search needs
-
-slice-aggregate-settle-2 : tie.Need-slice-aggregate-settle-2
-slice-aggregate-settle-2 c = search needs
 
 settle-requires-2 : tie.Need-settle-requires-2
 settle-requires-2 c κs = search needs
@@ -41,7 +32,7 @@ sub-b c = search needs
 -- both directions are settled
 module _ (c : tie.After-settle2) where
   abbrev s : tie.Start
-  s = c .before .before .before .before .before .before .before .before
+  s = c .before .before .before .before .before .before .before .before .before .before
 
   abbrev xs : List Float
   xs = s .args .ring .now
@@ -68,7 +59,7 @@ module _ (c : tie.After-settle2) where
   vertices-of = length-ringOf xs (s .pre .0 .even)
 
   some : 0 < length r
-  some = omega (arith, vertices-of, s .pre .1)
+  some = omega (arith, vertices-of, s .pre .1 .0)
 
   half : n ≡ length r
   half = omega (arith, vertices-of)
@@ -103,13 +94,13 @@ rem-b c = search needs
 add-b : tie.Need-add-b
 add-b c = b-fits (c .before .before)
 
-slice-aggregate-before : tie.Need-slice-aggregate-before
-slice-aggregate-before c = search needs
-
 before-requires : tie.Need-before-requires
 before-requires c κs =
     let k = c .before .before .before in
-    ((s k .pre .0, k .before .before .before .before .before .fill .ensures), (b-low k, i-low k))
+    ((s k .pre .0, k .before .before .before .before .before .before .fill .ensures), (b-low k, i-low k))
+
+same-length : tie.Need-same-length
+same-length c = search needs
 
 returns : tie.Need-returns
 returns c =
@@ -117,28 +108,29 @@ returns c =
     let e = sym (c .before .before2 .ensures) ∙ c .if1 .taken in
     (all-back (r k) (some k) (n k) (i k) (j k) (p k) (q k) (half k) (onward k) (back k) e, b-low k)
 
+same-length-2 : tie.Need-same-length-2
+same-length-2 c = search needs
+
 returns-2 : tie.Need-returns-2
 returns-2 c =
     let k = c .before .before .before .before .before in
     let e = sym (c .before .before2 .ensures) ∙ c .if1 .left in
     (all-on (r k) (some k) (n k) (i k) (j k) (p k) (q k) (half k) (onward k) (back k) e, i-low k)
 
-pub least-spec : {M : Type 1} → statement M
-least-spec =
+pub least-in-spec : {M : Type 1} → statement M
+least-in-spec =
     tie.close
     (tie.spec
-    slice-aggregate-fill
     fill-requires
-    slice-aggregate-settle
     settle-requires
-    slice-aggregate-settle-2
     settle-requires-2
     sub-b
     sub-b-2
     sub-b-3
     rem-b
     add-b
-    slice-aggregate-before
     before-requires
+    same-length
     returns
+    same-length-2
     returns-2)
