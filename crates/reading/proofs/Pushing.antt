@@ -50,7 +50,7 @@ module _ (g : ℕ → ℕ) (n : ℕ) where
 
   module _ (round : (m : ℕ) → g (m + 2 * n) ≡ g m) where
     -- n vertices on, the reading is the same
-    pub once-round : (u m : ℕ) → g (2 * (u + n) + m) ≡ g (2 * u + m)
+    once-round : (u m : ℕ) → g (2 * (u + n) + m) ≡ g (2 * u + m)
     once-round u m =
         let e : 2 * (u + n) + m ≡ 2 * u + m + 2 * n = omega arith in
         ap g e ∙ round (2 * u + m)
@@ -96,7 +96,8 @@ module _ (g : ℕ → ℕ) (n : ℕ) where
           go : Dec (a + d < n) → Beaten g n (b + d)
           go (yes l) = record { by = a + d; low = l; ahead = ahead-on d h }
           go (no l) =
-              record { by = w; low = omega arith; ahead = ahead-like (2 * (a + d)) (2 * w) (2 * (b + d)) (rounded l) (ahead-on d h) }
+              let x = ahead-like (2 * (a + d)) (2 * w) (2 * (b + d)) (rounded l) (ahead-on d h) in
+              record { by = w; low = omega arith; ahead = x }
 
       struck-at : (u : ℕ) → b ≤ u → u < b + (k / 2 + 1) → Beaten g n u
       struck-at u l h =

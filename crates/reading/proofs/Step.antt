@@ -58,7 +58,8 @@ module _
           subst (Stepped g n s) (push-past s u v (λ e. omega arith) (omega arith) f) (record { still = x; on = omega arith })
       go (no l) (yes h) (no f) =
           let x = higher (omega arith) (further s) (λ y a c. a) in
-          subst (Stepped g n s) (push-first s u v (λ e. omega arith) (omega arith) (omega arith)) (record { still = x; on = omega arith })
+          subst (Stepped g n s) (push-first s u v (λ e. omega arith) (omega arith) (omega arith))
+          (record { still = x; on = omega arith })
       go (no l) (no h) f =
           let e : u ≡ v = omega arith in
           let x = open-equal g n round (s .first) (s .second) (s .alike) o second short (sym p ∙ e ∙ q) in

@@ -72,10 +72,12 @@ module _ (r : List Vertex) (back : Bool) where
   round m = ap (λ (x : ℕ). ord (getD (at 0) x 0)) (add-mod-right m (2 * n))
 
   -- coordinate t from the start u on, in the ring's own order
-  coordinate-at : (u t v : ℕ) → u < n → t < 2 * n → v ≡ vertexPlace n (numberOf n back u) (t / 2) → getD (at u) t 0 ≡ getD (flat r) (2 * v + t % 2) 0
+  coordinate-at : (u t v : ℕ) → u < n → t < 2 * n → v ≡ vertexPlace n (numberOf n back u) (t / 2)
+      → getD (at u) t 0 ≡ getD (flat r) (2 * v + t % 2) 0
   coordinate-at u t v h k e =
       let c = numberOf n back u in
-      coord-of-vertex (choice r c) r v t (choice-at nowhere r c (t / 2) (number-low back n u h) (omega arith) ∙ ap (λ (x : ℕ). getD r x nowhere) (sym e))
+      let z = choice-at nowhere r c (t / 2) (number-low back n u h) (omega arith) in
+      coord-of-vertex (choice r c) r v t (z ∙ ap (λ (x : ℕ). getD r x nowhere) (sym e))
 
   place-at : (u t : ℕ) → u < n → t < 2 * n → ord (getD (at u) t 0) ≡ along r back (2 * u + t)
   unfolding along
@@ -200,7 +202,9 @@ module _ (r : List Vertex) (some : 0 < length r) (i j : ℕ) where
       least-number = omega (arith, here)
 
       none : (c : ℕ) → length r ≤ c → c < 2 * length r → earlier (choice r c) (choice r (length r + d)) ≡ false
-      none c h k = rw (number c h k, least-number) at (none-before r true (length r - 1 - d) (omega (arith, here)) un (start c) (omega arith))
+      none c h k =
+          rw (number c h k, least-number)
+          at (none-before r true (length r - 1 - d) (omega (arith, here)) un (start c) (omega arith))
 
       one : (c : ℕ) → length r ≤ c → c < length r + d → earlier (choice r (length r + d)) (choice r c) ≡ true
       one c h k =

@@ -174,7 +174,7 @@ fn settle(ring: &[f64], keys: &[u64], back: bool) -> Starts
     }
 }
 
-// The number of the first of the least readings: of both directions the lesser, onward where they are the same. The room takes the keys.
+// The number of the first of the least readings: the lesser of both directions, onward where they are the same. The room is for keys.
 fn least_in(ring: &[f64], room: &mut [u64]) -> usize
     requires { ⌜ Lent (now ring) ⌝ }
     requires { ⌜ (0 < length (now ring)) × (length (now ring) ≤ length (now room)) ⌝ }

@@ -79,8 +79,9 @@ loop-again c =
     let k = c .before .before in
     let u = k .before .key-at .ensures in
     let v = k .key-at2 .ensures in
-    let e : ord (getD (p k) (l k .loop .j) 0) ≡ ord (getD (q k) (l k .loop .j) 0) = omega (arith, c .if2 .left, c .before .if1 .left) in
-    ((omega arith), l k .loop .inv .1 ∙ left-equal (p k) (q k) (l k .loop .j) (in-first k) (in-second k) e)
+    let j = l k .loop .j in
+    let e : ord (getD (p k) j 0) ≡ ord (getD (q k) j 0) = omega (arith, c .if2 .left, c .before .if1 .left) in
+    ((omega arith), l k .loop .inv .1 ∙ left-equal (p k) (q k) j (in-first k) (in-second k) e)
 
 returns-3 : tie.Need-returns-3 Inv-loop μ-loop
 returns-3 c =

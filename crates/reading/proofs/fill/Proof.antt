@@ -67,10 +67,11 @@ loop-again : tie.Need-loop-again Inv-loop μ-loop
 loop-again c =
     let l = c .before .before .before .before in
     let k = c .before in
+    let xs = l .before .before .before .args .ring .now in
     let e = c .key .ensures ∙ ap ord (k .kept-bits .ensures) in (
       (omega arith),
       (simp length-set (omega arith)),
-      stored (l .loop .room) (l .before .before .before .args .ring .now) (l .loop .i) (c .key .result) (omega arith) (l .loop .inv .2) e,
+      stored (l .loop .room) xs (l .loop .i) (c .key .result) (omega arith) (l .loop .inv .2) e,
     )
 
 same-length : tie.Need-same-length Inv-loop μ-loop
