@@ -46,7 +46,7 @@ module _ {A : Type 0} (r : List A) where
 -- ---- the first of the least
 
 module _ (r : List Vertex) where
-  best-le : (c : ℕ) → best r c ≤ c
+  pub best-le : (c : ℕ) → best r c ≤ c
   unfolding best
   best-le zero = omega arith
   best-le (suc c) = go (earlier (choice r (suc c)) (choice r (best r c))) (best-le c)
@@ -55,7 +55,7 @@ module _ (r : List Vertex) where
       go true h = omega arith
       go false h = omega arith
 
-  best-least : (c j : ℕ) → j ≤ c → earlier (choice r j) (choice r (best r c)) ≡ false
+  pub best-least : (c j : ℕ) → j ≤ c → earlier (choice r j) (choice r (best r c)) ≡ false
   unfolding best
   best-least zero j h =
       let e : j ≡ 0 = omega arith in
@@ -130,38 +130,3 @@ least-exactly r x h k = (reads-of-least r x h k, same-least r x h)
 -- the least reading of the least reading is itself
 pub least-again : (r : List Vertex) → 0 < length r → leastReading (leastReading r) ≡ leastReading r
 least-again r h = sym (same-least r (leastReading r) h (least-reads r h))
-
--- ---- the loop of `least`
-
-step-in : (r : List Vertex) (k : ℕ) → earlier (choice r (suc k)) (choice r (best r k)) ≡ true → best r (suc k) ≡ suc k
-unfolding best
-step-in r k h = rw h
-
-step-out : (r : List Vertex) (k : ℕ) → earlier (choice r (suc k)) (choice r (best r k)) ≡ false → best r (suc k) ≡ best r k
-unfolding best
-step-out r k h = rw h
-
-module _ (r : List Vertex) (c b : ℕ) (one : 1 ≤ c) (now : b ≡ best r (c - 1)) where
-  next : c + 1 - 1 ≡ suc (c - 1)
-  next = omega arith
-
-  here : (t : Bool) → earlier (choice r c) (choice r b) ≡ t → earlier (choice r (suc (c - 1))) (choice r (best r (c - 1))) ≡ t
-  here t h =
-      let e : suc (c - 1) ≡ c = omega arith in
-      ap (λ (j : ℕ). earlier (choice r j) (choice r (best r (c - 1)))) e ∙ ap (λ (j : ℕ). earlier (choice r c) (choice r j)) (sym now) ∙ h
-
-  pub best-in : earlier (choice r c) (choice r b) ≡ true → c ≡ best r (c + 1 - 1)
-  best-in h =
-      let e : suc (c - 1) ≡ c = omega arith in
-      sym (ap (best r) next ∙ step-in r (c - 1) (here true h) ∙ e)
-
-  pub best-out : earlier (choice r c) (choice r b) ≡ false → b ≡ best r (c + 1 - 1)
-  best-out h = now ∙ sym (ap (best r) next ∙ step-out r (c - 1) (here false h))
-
-pub best-end : (r : List Vertex) (c b : ℕ) → c ≡ 2 * length r → b ≡ best r (c - 1) → b ≡ bestOf r
-unfolding bestOf
-best-end r c b e h = h ∙ ap (λ (j : ℕ). best r (j - 1)) e
-
-pub best-start : (r : List Vertex) → 0 ≡ best r (1 - 1)
-unfolding best
-best-start r = refl

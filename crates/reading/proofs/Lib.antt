@@ -7,3 +7,9 @@ pub mod Places
 pub mod Size
 pub mod KeptBits
 pub mod Changed
+pub mod Pushing
+pub mod Step
+pub mod Repeats
+pub mod First
+pub mod Lowest
+pub mod Ways

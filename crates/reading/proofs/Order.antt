@@ -52,12 +52,12 @@ same-place a b o o' (beyond l e) (beyond l' e') q = omega arith
 pub ord-inj : (a b : ℕ) → ord a ≡ ord b → a ≡ b
 ord-inj a b e = same-place a b (ord a) (ord b) (placed a) (placed b) e
 
-data Apart (a b : ℕ) : Type 0 where
+pub data Apart (a b : ℕ) : Type 0 where
   lower : ord a < ord b → Apart a b
   equal : a ≡ b → Apart a b
   higher : ord b < ord a → Apart a b
 
-apart : (a b : ℕ) → Apart a b
+pub apart : (a b : ℕ) → Apart a b
 apart a b = go (decLt (ord a) (ord b)) (decLt (ord b) (ord a))
   where
     go : Dec (ord a < ord b) → Dec (ord b < ord a) → Apart a b

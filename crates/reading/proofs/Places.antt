@@ -20,17 +20,17 @@ use Rattle.reading.proofs.Order.{less-lower, less-higher, less-equal, o
 
 -- ---- the vertices
 
-wrap-low : (n i : ℕ) → i < n → wrap n i ≡ i
+pub wrap-low : (n i : ℕ) → i < n → wrap n i ≡ i
 wrap-low n i h = rw (lt-ltb i n h)
 
-wrap-high : (n i : ℕ) → n ≤ i → wrap n i ≡ i - n
+pub wrap-high : (n i : ℕ) → n ≤ i → wrap n i ≡ i - n
 wrap-high n i h = rw (le-ltb i n h)
 
-vertex-onward : (n c i : ℕ) → c < n → vertexPlace n c i ≡ wrap n (c + i)
+pub vertex-onward : (n c i : ℕ) → c < n → vertexPlace n c i ≡ wrap n (c + i)
 unfolding vertexPlace
 vertex-onward n c i h = rw (lt-ltb c n h)
 
-vertex-back : (n c i : ℕ) → n ≤ c → vertexPlace n c i ≡ wrap n (c - i)
+pub vertex-back : (n c i : ℕ) → n ≤ c → vertexPlace n c i ≡ wrap n (c - i)
 unfolding vertexPlace
 vertex-back n c i h = rw (le-ltb c n h)
 
@@ -82,7 +82,7 @@ module _ {A : Type 0} (d : A) where
           let z : suc (length r) - suc i ≡ 0 = omega arith in
           getD-at (reverse r) a [] d i (omega (arith, e)) ∙ ap (λ (j : ℕ). getD (a ∷ r) j d) (sym z)
 
-  choice-at : (r : List A) (c i : ℕ) → c < 2 * length r → i < length r → getD (choice r c) i d ≡ getD r (vertexPlace (length r) c i) d
+  pub choice-at : (r : List A) (c i : ℕ) → c < 2 * length r → i < length r → getD (choice r c) i d ≡ getD r (vertexPlace (length r) c i) d
   choice-at r c i h l = go (ltb c (length r)) refl
     where
       go : (b : Bool) → ltb c (length r) ≡ b → getD (reading r (cond b c (c - length r)) (not b)) i d ≡ getD r (vertexPlace (length r) c i) d
@@ -109,7 +109,7 @@ any-default (a ∷ l) zero d d' h = refl
 any-default (a ∷ l) (suc i) d d' h = any-default l i d d' (omega arith)
 
 -- a vertex that no ring asks for
-abbrev nowhere : Vertex
+abbrev pub nowhere : Vertex
 nowhere = record { x = 0; y = 0 }
 
 flat-even : (p : List Vertex) (i : ℕ) → getD (flat p) (2 * i) 0 ≡ getD p i nowhere .x
@@ -132,7 +132,7 @@ flat-vertices (a ∷ []) h = absurd (omega arith)
 flat-vertices (a ∷ b ∷ l) h = ap (λ (t : List ℕ). a ∷ b ∷ t) (flat-vertices l (omega arith))
 
 -- two rings whose vertices are related by place have coordinates related by place
-coord-of-vertex : (p r : List Vertex) (v j : ℕ) → getD p (j / 2) nowhere ≡ getD r v nowhere → getD (flat p) j 0 ≡ getD (flat r) (2 * v + j % 2) 0
+pub coord-of-vertex : (p r : List Vertex) (v j : ℕ) → getD p (j / 2) nowhere ≡ getD r v nowhere → getD (flat p) j 0 ≡ getD (flat r) (2 * v + j % 2) 0
 coord-of-vertex p r v j e = go (j % 2) refl (omega arith)
   where
     go : (m : ℕ) → j % 2 ≡ m → m < 2 → getD (flat p) j 0 ≡ getD (flat r) (2 * v + m) 0

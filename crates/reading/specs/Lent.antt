@@ -6,7 +6,7 @@ use mathlib.Core.List.{List, map}
 use lib.ListN.{length, getD}
 use lib.Dec.{T, ltb}
 use lib.Ieee.{Float, nan, isNan, binary64, eq, ofBits, toBits}
-use Rattle.reading.specs.Reading.{Vertex, vertices}
+use Rattle.reading.specs.Reading.{Vertex, vertices, ord}
 
 -- a coordinate's bits as a book keeps them: those of +0.0 for either zero, and else its own
 unfoldable pub kept : Float → ℕ
@@ -21,6 +21,11 @@ pub record Lent (xs : List Float) : Type 0 where
   pub even : length xs % 2 ≡ 0
   pub most : length xs ≤ 512
   pub numbers : (i : ℕ) → i < length xs → T (not (isNan (getD xs i nan)))
+
+-- number i of a room is the place in the order of numbers of coordinate i, as a book keeps it
+pub record Keyed (keys : List ℕ) (xs : List Float) : Type 0 where
+  pub most : length xs ≤ length keys
+  pub each : (i : ℕ) → i < length xs → getD keys i 0 ≡ ord (kept (getD xs i nan))
 
 -- for a place below 2 * n, the same place on a ring of n
 abbrev pub wrap : ℕ → ℕ → ℕ

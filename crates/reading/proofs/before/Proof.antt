@@ -1,6 +1,7 @@
--- `reading::before` meets its contract. The loop's invariant: what is left of the two readings, from coordinate j on, decides. Assumes nothing.
+-- `reading::before` meets its contract. The loop's invariant: what is left of the two readings, from coordinate j on, decides.
+-- Assumes nothing.
 use Prim.Native.Nat.{ℕ, _-_, _≤_, _<_}
-use mathlib.Core.Path.{_≡_, refl, sym, ap, _∙_}
+use mathlib.Core.Path.{_≡_, refl, sym, _∙_}
 use mathlib.Core.List.{List}
 use native.Mathlib.Omega.{arith}
 use borrow.Author.Needs.{needs}
@@ -13,62 +14,59 @@ use Rattle.reading.proofs.before.Statement.{statement}
 use Rattle.reading.proofs.before.Tie as tie
 
 abbrev Inv-loop : tie.InvT-loop
-Inv-loop ring a b j₀ j =
-    (j ≤ length ring) × (earlier (choice (ringOf ring) a) (choice (ringOf ring) b) ≡ less (drop j (flat (choice (ringOf ring) a))) (drop j (flat (choice (ringOf ring) b))))
+Inv-loop ring keys a b j₀ j =
+    let p = choice (ringOf ring) a in
+    let q = choice (ringOf ring) b in
+    (j ≤ length ring) × (earlier p q ≡ less (drop j (flat p)) (drop j (flat q)))
 
 abbrev μ-loop : tie.MeasureT-loop
-μ-loop ring a b j₀ j = length ring - j
+μ-loop ring keys a b j₀ j = length ring - j
 
 loop-holds : tie.Need-loop-holds Inv-loop μ-loop
 loop-holds c = ((omega arith), refl)
 
-coordinate-requires : tie.Need-coordinate-requires Inv-loop μ-loop
-coordinate-requires c κs = search needs
+key-at-requires : tie.Need-key-at-requires Inv-loop μ-loop
+key-at-requires c κs = search needs
 
-key-requires : tie.Need-key-requires Inv-loop μ-loop
-key-requires c κs = search needs
+key-at-requires-2 : tie.Need-key-at-requires-2 Inv-loop μ-loop
+key-at-requires-2 c κs = search needs
 
-coordinate-requires-2 : tie.Need-coordinate-requires-2 Inv-loop μ-loop
-coordinate-requires-2 c κs = search needs
-
-key-requires-2 : tie.Need-key-requires-2 Inv-loop μ-loop
-key-requires-2 c κs = search needs
-
--- the two readings, and that the keys are those of their coordinates j
-module _ (c : tie.After-key2 Inv-loop μ-loop) where
+-- the two readings, whose coordinates j the keys are of
+module _ (c : tie.After-key-at2 Inv-loop μ-loop) where
   abbrev l : tie.At-loop Inv-loop μ-loop
-  l = c .before .before .before .before .before
+  l = c .before .before .before
+
+  abbrev s : tie.Start Inv-loop μ-loop
+  s = l .before .before .before
 
   abbrev xs : List Float
-  xs = l .before .before .args .ring .now
+  xs = s .args .ring .now
 
   abbrev p : List ℕ
-  p = flat (choice (ringOf xs) (l .before .before .args .a))
+  p = flat (choice (ringOf xs) (s .args .a))
 
   abbrev q : List ℕ
-  q = flat (choice (ringOf xs) (l .before .before .args .b))
-
-  first-key : c .before .before .key .result ≡ ord (getD p (l .loop .j) 0)
-  first-key = c .before .before .key .ensures ∙ ap ord (c .before .before .before .coordinate .ensures)
-
-  second-key : c .key2 .result ≡ ord (getD q (l .loop .j) 0)
-  second-key = c .key2 .ensures ∙ ap ord (c .before .coordinate2 .ensures)
+  q = flat (choice (ringOf xs) (s .args .b))
 
   in-first : l .loop .j < length p
-  in-first = omega (arith, length-choice xs (l .before .before .pre .0 .even) (l .before .before .args .a), c .before .before .before .before .loop-test .taken)
+  in-first = omega (arith, length-choice xs (s .pre .0 .0 .even) (s .args .a), c .before .before .loop-test .taken)
 
   in-second : l .loop .j < length q
-  in-second = omega (arith, length-choice xs (l .before .before .pre .0 .even) (l .before .before .args .b), c .before .before .before .before .loop-test .taken)
+  in-second = omega (arith, length-choice xs (s .pre .0 .0 .even) (s .args .b), c .before .before .loop-test .taken)
 
 returns : tie.Need-returns Inv-loop μ-loop
 returns c =
     let k = c .before in
-    sym (l k .loop .inv .1 ∙ left-lower (p k) (q k) (l k .loop .j) (in-first k) (in-second k) (omega (arith, c .if1 .taken, first-key k, second-key k)))
+    let u = k .before .key-at .ensures in
+    let v = k .key-at2 .ensures in
+    sym (l k .loop .inv .1 ∙ left-lower (p k) (q k) (l k .loop .j) (in-first k) (in-second k) (omega (arith, c .if1 .taken)))
 
 returns-2 : tie.Need-returns-2 Inv-loop μ-loop
 returns-2 c =
     let k = c .before .before in
-    sym (l k .loop .inv .1 ∙ left-higher (p k) (q k) (l k .loop .j) (in-first k) (in-second k) (omega (arith, c .if2 .taken, first-key k, second-key k)))
+    let u = k .before .key-at .ensures in
+    let v = k .key-at2 .ensures in
+    sym (l k .loop .inv .1 ∙ left-higher (p k) (q k) (l k .loop .j) (in-first k) (in-second k) (omega (arith, c .if2 .taken)))
 
 add-j : tie.Need-add-j Inv-loop μ-loop
 add-j c = omega arith
@@ -78,19 +76,22 @@ loop-less c = omega arith
 
 loop-again : tie.Need-loop-again Inv-loop μ-loop
 loop-again c =
-    let k = c .before .before in (
-      (omega arith),
-      l k .loop .inv .1
-          ∙ left-equal (p k) (q k) (l k .loop .j) (in-first k) (in-second k) (omega (arith, c .if2 .left, c .before .if1 .left, first-key k, second-key k)),
-    )
+    let k = c .before .before in
+    let u = k .before .key-at .ensures in
+    let v = k .key-at2 .ensures in
+    let j = l k .loop .j in
+    let e : ord (getD (p k) j 0) ≡ ord (getD (q k) j 0) = omega (arith, c .if2 .left, c .before .if1 .left) in
+    ((omega arith), l k .loop .inv .1 ∙ left-equal (p k) (q k) j (in-first k) (in-second k) e)
 
 returns-3 : tie.Need-returns-3 Inv-loop μ-loop
 returns-3 c =
-    let s = c .before .before .before in
+    let s = c .before .before .before .before in
     let xs = s .args .ring .now in
-    let np = length-choice xs (s .pre .0 .even) (s .args .a) in
-    let nq = length-choice xs (s .pre .0 .even) (s .args .b) in
-    sym (c .before .loop .inv .1 ∙ left-none (flat (choice (ringOf xs) (s .args .a))) (flat (choice (ringOf xs) (s .args .b))) (c .before .loop .j) (omega arith) (omega arith))
+    let p = flat (choice (ringOf xs) (s .args .a)) in
+    let q = flat (choice (ringOf xs) (s .args .b)) in
+    let np : length p ≡ length xs = length-choice xs (s .pre .0 .0 .even) (s .args .a) in
+    let nq : length q ≡ length xs = length-choice xs (s .pre .0 .0 .even) (s .args .b) in
+    sym (c .before .loop .inv .1 ∙ left-none p q (c .before .loop .j) (omega arith) (omega arith))
 
 pub before-spec : {M : Type 1} → statement M
 before-spec =
@@ -99,10 +100,8 @@ before-spec =
     Inv-loop
     μ-loop
     loop-holds
-    coordinate-requires
-    key-requires
-    coordinate-requires-2
-    key-requires-2
+    key-at-requires
+    key-at-requires-2
     returns
     returns-2
     add-j
