@@ -1,5 +1,6 @@
 -- The modules that belong to no one function.
 pub mod Nearer
+pub mod Passed
 pub mod Counting
 pub mod Pairs
 pub mod Nearest

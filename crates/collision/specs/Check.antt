@@ -8,7 +8,7 @@ use Rattle.scalar.specs.Float.{_⊖_, _⊘_}
 use Rattle.plane.specs.Vector.{point, lengthOf}
 use Rattle.plane.specs.declared.Point.{Point}
 use Rattle.ring.specs.Ring.{count, pointAt}
-use Rattle.laws.specs.FirstBest.{over, nest}
+use Rattle.laws.specs.FirstBest.{nest}
 use Rattle.collision.specs.Ray.{edgeRay}
 use Rattle.collision.specs.Hit.{countedOf, nearer}
 use Rattle.collision.specs.declared.Sweep.{Sweep}
@@ -20,10 +20,6 @@ unfoldable pub hitOf : List Float → List Float → Sweep → ℕ → ℕ → �
 hitOf vs es w kind v e =
     let ray = edgeRay (pointAt vs v) (w .dir) es e (w .tolerance) in
     cond (eqb kind 0) (countedOf ray w 0 e v) (countedOf ray w 1 v e)
-
--- the vertex v against each edge
-unfoldable pub rowOf : List Float → List Float → Sweep → ℕ → ℕ → Collision → Collision
-rowOf vs es w kind v before = over nearer (hitOf vs es w kind v) before (count es)
 
 -- each vertex against each edge
 unfoldable pub scanOf : List Float → List Float → Sweep → ℕ → Collision → Collision

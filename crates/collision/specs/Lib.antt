@@ -3,5 +3,6 @@ pub mod Ray
 pub mod Hit
 pub mod Parts
 pub mod Check
+pub mod Chained
 pub mod Nearest
 pub mod Calls

@@ -3,6 +3,11 @@
 pub mod answer;
 pub mod calls;
 
+use chains::NUMBERS;
+use chains::chain_end;
+use chains::fill;
+use chains::is_chained;
+use chains::is_passed;
 use plane::Point;
 use plane::vector::cross;
 use plane::vector::length;
@@ -10,12 +15,16 @@ use plane::vector::minus;
 use ring::next;
 use ring::point_at;
 ghost use mathlib.Core.Path.{_≡_};
-ghost use Prim.Native.Nat.{_<_};
+ghost use Prim.Native.Nat.{_≤_, _<_};
+ghost use lib.Ieee.{lt};
+ghost use lib.ListN.{length};
+ghost use Rattle.scalar.specs.Scalar.{absOf};
 ghost use Rattle.ring.specs.Ring.{count};
 ghost use Rattle.collision.specs.Ray.{rayOf, edgeRay};
 ghost use Rattle.collision.specs.Parts.{withinSegment, inFront, pairBy};
 ghost use Rattle.collision.specs.Hit.{countedOf, keptHit};
-ghost use Rattle.collision.specs.Check.{rowOf, scanOf, backOf, bothOf, raysBy, collisionOf};
+ghost use Rattle.collision.specs.Chained.{MissesTo, Few, Ready};
+ghost use Rattle.collision.specs.Check.{scanOf, backOf, bothOf, raysBy, collisionOf};
 
 // A ray against a segment: it misses, or it meets the segment at a distance.
 pub enum Ray {
@@ -63,6 +72,13 @@ fn in_front(t: f64, tolerance: f64) -> Ray
     }
 }
 
+// Whether the size of x is below the tolerance.
+fn is_small(x: f64, tolerance: f64) -> bool
+    ensures { λ r. ⌜ r ≡ lt (absOf x) tolerance ⌝ }
+{
+    if x < tolerance { -x < tolerance } else { false }
+}
+
 // How far along the ray from origin it meets the segment p1 p2.
 pub fn ray_segment_intersection(
     origin: Point,
@@ -75,7 +91,7 @@ pub fn ray_segment_intersection(
 {
     let seg = minus(p2, p1);
     let den = cross(dir, seg);
-    if scalar::abs(den) < tolerance {
+    if is_small(den, tolerance) {
         return Ray::Miss;
     }
     let diff = minus(p1, origin);
@@ -152,46 +168,104 @@ pub fn pair(ray: Ray, sweep: Sweep, kind: u8, v: usize, e: usize) -> Collision
     }
 }
 
-// The vertex v against each edge, from what was found before.
-fn row(
+// The first edge from one on and below another that the ray from origin does not miss, or the other.
+fn first_hit(origin: Point, edges: &[f64], sweep: Sweep, from: usize, to: usize) -> usize
+    requires { ⌜ (from ≤ to) × (to ≤ count (now edges)) ⌝ }
+    ensures { λ r. ⌜ (from ≤ r) × (r ≤ to) × MissesTo (now (edges .entry)) (sweep .dir) (sweep .tolerance) origin from r ⌝ }
+{
+    let mut e = from;
+    while e < to {
+        if let Ray::At(_) = edge_ray(origin, sweep.dir, edges, e, sweep.tolerance) {
+            return e;
+        }
+        e += 1;
+    }
+    e
+}
+
+// The first edge from one on that the ray from origin does not miss, or as many as there are. The table has the chains of all edges, so that
+// those that the ray passes beside are left out, or it is empty.
+pub fn next_hit(origin: Point, edges: &[f64], table: &[f64], sweep: Sweep, from: usize) -> usize
+    requires { ⌜ from ≤ count (now edges) ⌝ }
+    requires { ⌜ (0 < length (now table) → Ready (now table) (now edges) sweep) ⌝ }
+    ensures { λ r. ⌜ (from ≤ r) × (r ≤ count (now (edges .entry))) × MissesTo (now (edges .entry)) (sweep .dir) (sweep .tolerance) origin from r ⌝ }
+{
+    let n = edges.len() / 2;
+    if table.len() == 0 {
+        return first_hit(origin, edges, sweep, from, n);
+    }
+    let mut e = from;
+    while e < n {
+        let to = chain_end(e, n);
+        if is_passed(table, e / 8, origin, sweep.dir) {
+            e = to;
+        } else {
+            e = first_hit(origin, edges, sweep, e, to);
+            if e < to {
+                return e;
+            }
+        }
+    }
+    e
+}
+
+// Each vertex of one ring against each edge of the other, from what was found before, with a table of the edges' chains or an empty one.
+fn scan_by(
+    vertices: &[f64],
+    edges: &[f64],
+    table: &[f64],
+    sweep: Sweep,
+    kind: u8,
+    before: Collision,
+) -> Collision
+    requires { ⌜ (0 < length (now table) → Ready (now table) (now edges) sweep) ⌝ }
+    ensures { λ r. ⌜ r ≡ scanOf (now (vertices .entry)) (now (edges .entry)) sweep kind before ⌝ }
+{
+    let n = vertices.len() / 2;
+    let m = edges.len() / 2;
+    let mut best = before;
+    let mut v = 0;
+    let mut e = 0;
+    while v < n {
+        let origin = point_at(vertices, v);
+        let k = next_hit(origin, edges, table, sweep, e);
+        if k < m {
+            let ray = edge_ray(origin, sweep.dir, edges, k, sweep.tolerance);
+            best = keep(best, pair(ray, sweep, kind, v, k));
+            e = k + 1;
+        } else {
+            v += 1;
+            e = 0;
+        }
+    }
+    best
+}
+
+// The same with a table of the edges' chains.
+fn chained_scan(
     vertices: &[f64],
     edges: &[f64],
     sweep: Sweep,
     kind: u8,
-    v: usize,
     before: Collision,
 ) -> Collision
-    requires { ⌜ v < count (now vertices) ⌝ }
-    ensures { λ r. ⌜ r ≡ rowOf (now (vertices .entry)) (now (edges .entry)) sweep kind v before ⌝ }
+    requires { ⌜ Few (now edges) sweep ⌝ }
+    ensures { λ r. ⌜ r ≡ scanOf (now (vertices .entry)) (now (edges .entry)) sweep kind before ⌝ }
 {
-    let n = edges.len() / 2;
-    let origin = point_at(vertices, v);
-    let mut best = before;
-    let mut e = 0;
-    while e < n {
-        let ray = edge_ray(origin, sweep.dir, edges, e, sweep.tolerance);
-        if let Ray::At(_) = ray {
-            best = keep(best, pair(ray, sweep, kind, v, e));
-            e += 1;
-        } else {
-            e += 1;
-        }
-    }
-    best
+    let mut table = [0.0; NUMBERS];
+    fill(edges, sweep.dir, &mut table);
+    scan_by(vertices, edges, &table, sweep, kind, before)
 }
 
 // Each vertex of one ring against each edge of the other, from what was found before.
 fn scan(vertices: &[f64], edges: &[f64], sweep: Sweep, kind: u8, before: Collision) -> Collision
     ensures { λ r. ⌜ r ≡ scanOf (now (vertices .entry)) (now (edges .entry)) sweep kind before ⌝ }
 {
-    let n = vertices.len() / 2;
-    let mut best = before;
-    let mut v = 0;
-    while v < n {
-        best = row(vertices, edges, sweep, kind, v, best);
-        v += 1;
+    if is_chained(edges.len() / 2, sweep.tolerance) {
+        chained_scan(vertices, edges, sweep, kind, before)
+    } else {
+        scan_by(vertices, edges, &edges[..0], sweep, kind, before)
     }
-    best
 }
 
 // The same sweep the other way.

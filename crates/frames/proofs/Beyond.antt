@@ -19,7 +19,7 @@ use Rattle.frames.proofs.Foot.{between}
 abbrev pub InOrder : Float → Float → Type 0
 InOrder x y = (x ≡ nan) ⊎ ((y ≡ nan) ⊎ T (le x y))
 
-lowest : (y : Float) → InOrder (inf true) y
+pub lowest : (y : Float) → InOrder (inf true) y
 unfolding le
 lowest nan = inr (inl refl)
 lowest (inf true) = inr (inr tt)
@@ -70,7 +70,7 @@ sums (fin s m e) (fin t n d) (fin q i a) (fin r l b) h k =
     (finite-mono binary64 s m e t n d q i a h) (adds-more t n d q i a r l b k)))
 
 -- the order turned round
-turned : (x y : Float) → T (le x y) → T (le (neg y) (neg x))
+pub turned : (x y : Float) → T (le x y) → T (le (neg y) (neg x))
 unfolding le neg
 turned nan y h = absurd h
 turned (inf s) nan h = absurd h
@@ -88,22 +88,22 @@ turned (fin false m e) (fin true n d) h = le-of-parts false n d true m e (let l 
 turned (fin true m e) (fin false n d) h = le-of-parts true n d false m e (omega arith)
 turned (fin true m e) (fin true n d) h = le-of-parts false n d false m e (let l = parts-of-le true m e true n d h in omega arith)
 
-differences : (x y z w : Float) → T (le x y) → T (le w z) → InOrder (x ⊖ z) (y ⊖ w)
+pub differences : (x y z w : Float) → T (le x y) → T (le w z) → InOrder (x ⊖ z) (y ⊖ w)
 unfolding sub
 differences x y z w h k = sums x y (neg z) (neg w) h (turned w z k)
 
-nan-less : (x : Float) → nan ⊖ x ≡ nan
+pub nan-less : (x : Float) → nan ⊖ x ≡ nan
 unfolding sub add
 nan-less x = refl
 
-less-nan : (x : Float) → x ⊖ nan ≡ nan
+pub less-nan : (x : Float) → x ⊖ nan ≡ nan
 unfolding sub add neg
 less-nan nan = refl
 less-nan (inf s) = refl
 less-nan (fin s m e) = refl
 
 -- a NaN is neither above nor below
-no-gap : (x y : Float) → y ≡ nan → lt x y ≡ true → ⊥
+pub no-gap : (x y : Float) → y ≡ nan → lt x y ≡ true → ⊥
 no-gap x y e h = true≢false (sym h ∙ rw e (lt-nan x))
 
 no-reach : (x y : Float) → x ≡ nan → lt x y ≡ true → ⊥

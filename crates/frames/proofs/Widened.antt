@@ -37,7 +37,7 @@ lower-keeps b x z k = by (lt x b) refl
           | inr r ↦ elim r [ inl e ↦ absurd (true≢false (sym h ∙ rw e (lt-nan x))) | inr g ↦ not-less x z (le-trans x b z (le-of-lt x b h) g) ]
         ]
 
-higher-at : (b x : Float) → lt (higherNumber b x) x ≡ false
+pub higher-at : (b x : Float) → lt (higherNumber b x) x ≡ false
 unfolding higherNumber
 higher-at b x = by (lt b x) refl
   where
@@ -45,7 +45,7 @@ higher-at b x = by (lt b x) refl
     by true h = lt-irrefl x
     by false h = h
 
-higher-keeps : (b x z : Float) → lt b z ≡ false → lt (higherNumber b x) z ≡ false
+pub higher-keeps : (b x z : Float) → lt b z ≡ false → lt (higherNumber b x) z ≡ false
 unfolding higherNumber
 higher-keeps b x z k = by (lt b x) refl
   where

@@ -107,14 +107,14 @@ fn lower(bound: f64, x: f64) -> f64
     if x < bound { x } else { bound }
 }
 
-fn higher(bound: f64, x: f64) -> f64
+pub fn higher(bound: f64, x: f64) -> f64
     ensures { λ r. ⌜ r ≡ higherNumber bound x ⌝ }
 {
     if bound < x { x } else { bound }
 }
 
 // Bounds with a point taken in.
-fn with_point(q: Frame, p: Point) -> Frame
+pub fn with_point(q: Frame, p: Point) -> Frame
     ensures { λ r. ⌜ Inside r p × (WithinFrame q r × HeldPoint p) ⌝ }
 {
     Frame {

@@ -1,12 +1,13 @@
 -- A miss leaves everything as it is, and no count grows by more than one a pair. Assumes nothing.
 use Prim.Native.Nat.{ℕ, zero, suc, _+_, _*_, _≤_}
 use native.Mathlib.Omega.{arith}
-use native.Mathlib.Nat.{add-zero}
+use native.Mathlib.Nat.{add-zero, mul-le-mul}
 use mathlib.Core.Path.{_≡_, refl}
 use mathlib.Core.Bool.{Bool, true, false, cond}
 use mathlib.Core.List.{List}
 use lib.Dec.{eqb}
 use lib.Ieee.{Float, lt, eq}
+use Rattle.ring.specs.Ring.{count}
 use Rattle.laws.specs.FirstBest.{better}
 use Rattle.laws.specs.Turns.{turns, turnRows}
 use Rattle.laws.proofs.Turns.{rows-flat}
@@ -17,7 +18,7 @@ use Rattle.collision.specs.declared.Ray.the-variants.{Miss}
 use Rattle.collision.specs.declared.Collision.{Collision}
 use Rattle.collision.specs.declared.Collision.the-variants.{Nothing, Hit}
 use Rattle.grounds.specs.Classes.{tooNear, inBetween, tooFar, hitIs}
-use Rattle.grounds.specs.Scan.{AtMost, othersAfter, notedOf, pairNoted}
+use Rattle.grounds.specs.Scan.{kindMost, pairsMost, AtMost, othersAfter, notedOf, pairNoted}
 use Rattle.grounds.specs.declared.Tally.{Tally}
 
 -- ---- a miss
@@ -89,3 +90,11 @@ most-more t m n h l =
       between-below = omega (arith, h .between-below);
       far-below = omega (arith, h .far-below);
     }
+
+-- after v rows of one kind, and e edges of the next
+pub scan-small : (vs es : List Float) (w : Sweep) (kind v e : ℕ) (before : Tally) → AtMost before kindMost → v ≤ 256 → count es ≤ 256 → e ≤ 256
+    → AtMost (turns (λ t k. pairNoted vs es w kind t v k) (turnRows (pairNoted vs es w kind) (count es) before v) e) (2 * pairsMost)
+scan-small vs es w kind v e before a l n o =
+    let m : v * count es ≤ 256 * 256 = mul-le-mul l n in
+    let b = turnRows (pairNoted vs es w kind) (count es) before v in
+    most-more _ _ _ (row-most vs es w kind b (kindMost + v * count es) (rows-most vs es w kind before kindMost a (count es) v) v e) (omega (arith, m))

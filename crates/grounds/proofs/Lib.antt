@@ -1,6 +1,7 @@
 -- The modules that belong to no one function.
 pub mod Classes
 pub mod Counts
+pub mod Passed
 pub mod Scanned
 pub mod Others
 pub mod Explained

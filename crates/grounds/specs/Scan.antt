@@ -4,7 +4,7 @@ use mathlib.Core.Bool.{cond}
 use mathlib.Core.List.{List}
 use lib.Ieee.{Float, lt, eq}
 use Rattle.ring.specs.Ring.{count, pointAt}
-use Rattle.laws.specs.Turns.{turns, turnRows}
+use Rattle.laws.specs.Turns.{turnRows}
 use Rattle.collision.specs.Ray.{edgeRay}
 use Rattle.collision.specs.Hit.{keptHit}
 use Rattle.collision.specs.Parts.{pairBy}
@@ -41,10 +41,6 @@ notedOf w kind t v e ray =
 -- the pair of a vertex and an edge
 unfoldable pub pairNoted : List Float → List Float → Sweep → ℕ → Tally → ℕ → ℕ → Tally
 pairNoted vs es w kind t v e = notedOf w kind t v e (edgeRay (pointAt vs v) (w .dir) es e (w .tolerance))
-
--- the vertex v against each edge
-unfoldable pub rowNoted : List Float → List Float → Sweep → ℕ → ℕ → Tally → Tally
-rowNoted vs es w kind v before = turns (λ t e. pairNoted vs es w kind t v e) before (count es)
 
 -- each vertex against each edge
 unfoldable pub scanNoted : List Float → List Float → Sweep → ℕ → Tally → Tally

@@ -3,12 +3,16 @@
 pub mod answer;
 pub mod calls;
 
+use chains::NUMBERS;
+use chains::fill;
+use chains::is_chained;
 use collision::Collision;
 use collision::Ray;
 use collision::Sweep;
 use collision::back;
 use collision::edge_ray;
 use collision::keep;
+use collision::next_hit;
 use collision::pair;
 use collision::rays;
 use plane::Point;
@@ -17,12 +21,14 @@ use ring::point_at;
 ghost use mathlib.Core.Path.{_≡_};
 ghost use Prim.Native.Nat.{_+_, _*_, _<_, _≤_};
 ghost use mathlib.Core.Bool.{cond};
+ghost use lib.ListN.{length};
 ghost use Rattle.ring.specs.Ring.{count};
 ghost use Rattle.refusals.specs.Rings.{verticesMost};
 ghost use Rattle.grounds.specs.Classes.{inBetween, tooFar};
 ghost use Rattle.grounds.specs.Grounds.{groundBy, groundNumber};
+ghost use Rattle.collision.specs.Chained.{Few, Ready};
 ghost use Rattle.collision.specs.declared.Ray.the-variants.{At};
-ghost use Rattle.grounds.specs.Scan.{kindMost, pairsMost, AtMost, noTally, othersAfter, notedOf, rowNoted, scanNoted, bothNoted};
+ghost use Rattle.grounds.specs.Scan.{kindMost, pairsMost, AtMost, noTally, othersAfter, notedOf, scanNoted, bothNoted};
 ghost use Rattle.grounds.specs.Explanation.{explanationOf};
 
 // Why the answer is what it is: a hit; or the move is shorter than the tolerance, no pair is ever hit, all hits are too near, all are too
@@ -153,26 +159,58 @@ fn noted(sweep: Sweep, kind: u8, tally: Tally, v: usize, e: usize, d: f64) -> Ta
     }
 }
 
-// The vertex v against each edge, from what was known before.
-fn row(vertices: &[f64], edges: &[f64], sweep: Sweep, kind: u8, v: usize, before: Tally) -> Tally
-    requires { ⌜ v < count (now vertices) ⌝ }
-    requires { ⌜ (count (now edges) ≤ verticesMost) × AtMost before pairsMost ⌝ }
-    ensures { λ r. ⌜ r ≡ rowNoted (now (vertices .entry)) (now (edges .entry)) sweep kind v before ⌝ }
+// What is known after a ray of the vertex v against the edge e.
+fn noted_ray(sweep: Sweep, kind: u8, tally: Tally, v: usize, e: usize, ray: Ray) -> Tally
+    requires { ⌜ AtMost tally (2 * pairsMost) ⌝ }
+    ensures { λ r. ⌜ r ≡ notedOf sweep kind tally v e ray ⌝ }
 {
-    let n = edges.len() / 2;
-    let origin = point_at(vertices, v);
+    let Ray::At(d) = ray else {
+        return tally;
+    };
+    noted(sweep, kind, tally, v, e, d)
+}
+
+// Each vertex of one ring against each edge of the other, from what was known before, with a table of the edges' chains or an empty one.
+fn scan_by(
+    vertices: &[f64],
+    edges: &[f64],
+    table: &[f64],
+    sweep: Sweep,
+    kind: u8,
+    before: Tally,
+) -> Tally
+    requires { ⌜ (count (now vertices) ≤ verticesMost) × (count (now edges) ≤ verticesMost) × AtMost before kindMost ⌝ }
+    requires { ⌜ (0 < length (now table) → Ready (now table) (now edges) sweep) ⌝ }
+    ensures { λ r. ⌜ r ≡ scanNoted (now (vertices .entry)) (now (edges .entry)) sweep kind before ⌝ }
+{
+    let n = vertices.len() / 2;
+    let m = edges.len() / 2;
     let mut tally = before;
+    let mut v = 0;
     let mut e = 0;
-    while e < n {
-        let ray = edge_ray(origin, sweep.dir, edges, e, sweep.tolerance);
-        if let Ray::At(d) = ray {
-            tally = noted(sweep, kind, tally, v, e, d);
-            e += 1;
+    while v < n {
+        let origin = point_at(vertices, v);
+        let k = next_hit(origin, edges, table, sweep, e);
+        if k < m {
+            let ray = edge_ray(origin, sweep.dir, edges, k, sweep.tolerance);
+            tally = noted_ray(sweep, kind, tally, v, k, ray);
+            e = k + 1;
         } else {
-            e += 1;
+            v += 1;
+            e = 0;
         }
     }
     tally
+}
+
+// The same with a table of the edges' chains.
+fn chained_scan(vertices: &[f64], edges: &[f64], sweep: Sweep, kind: u8, before: Tally) -> Tally
+    requires { ⌜ (count (now vertices) ≤ verticesMost) × Few (now edges) sweep × AtMost before kindMost ⌝ }
+    ensures { λ r. ⌜ r ≡ scanNoted (now (vertices .entry)) (now (edges .entry)) sweep kind before ⌝ }
+{
+    let mut table = [0.0; NUMBERS];
+    fill(edges, sweep.dir, &mut table);
+    scan_by(vertices, edges, &table, sweep, kind, before)
 }
 
 // Each vertex of one ring against each edge of the other, from what was known before.
@@ -180,14 +218,11 @@ fn scan(vertices: &[f64], edges: &[f64], sweep: Sweep, kind: u8, before: Tally) 
     requires { ⌜ (count (now vertices) ≤ verticesMost) × (count (now edges) ≤ verticesMost) × AtMost before kindMost ⌝ }
     ensures { λ r. ⌜ r ≡ scanNoted (now (vertices .entry)) (now (edges .entry)) sweep kind before ⌝ }
 {
-    let n = vertices.len() / 2;
-    let mut tally = before;
-    let mut v = 0;
-    while v < n {
-        tally = row(vertices, edges, sweep, kind, v, tally);
-        v += 1;
+    if is_chained(edges.len() / 2, sweep.tolerance) {
+        chained_scan(vertices, edges, sweep, kind, before)
+    } else {
+        scan_by(vertices, edges, &edges[..0], sweep, kind, before)
     }
-    tally
 }
 
 // Both kinds of pair: orbiting vertices first, and then stationary vertices, which come the other way.

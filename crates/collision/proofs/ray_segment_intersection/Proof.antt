@@ -14,12 +14,12 @@ use Rattle.collision.specs.declared.Ray.the-variants.{Miss}
 use Rattle.collision.proofs.ray_segment_intersection.Statement.{statement}
 use Rattle.collision.proofs.ray_segment_intersection.Tie as tie
 
-module _ (o d p q : Point) (tol : Float) {seg : Point} {den a : Float} (es : seg ≡ minusOf q p) (ed : den ≡ crossOf d seg) (ea : a ≡ absOf den) where
-  parallel : lt a tol ≡ true → Miss ≡ rayOf o d p q tol
+module _ (o d p q : Point) (tol : Float) {seg : Point} {den : Float} {small : Bool} (es : seg ≡ minusOf q p) (ed : den ≡ crossOf d seg) (ea : small ≡ lt (absOf den) tol) where
+  parallel : small ≡ true → Miss ≡ rayOf o d p q tol
   unfolding rayOf
   parallel t = rw (← es, ← ed, ← ea, t)
 
-  module _ {diff : Point} {y : Float} {on : Bool} (t : lt a tol ≡ false) (f : diff ≡ minusOf p o) (ey : y ≡ crossOf diff d)
+  module _ {diff : Point} {y : Float} {on : Bool} (t : small ≡ false) (f : diff ≡ minusOf p o) (ey : y ≡ crossOf diff d)
       (eo : on ≡ withinSegment (y ⊘ den) tol) where
     within : {x : Float} → on ≡ true → x ≡ crossOf diff seg → {r : Ray} → r ≡ inFront (x ⊘ den) tol → r ≡ rayOf o d p q tol
     unfolding rayOf rayWithin
@@ -35,13 +35,13 @@ minus-requires c κs = search needs
 cross-requires : tie.Need-cross-requires
 cross-requires c κs = search needs
 
-abs-requires : tie.Need-abs-requires
-abs-requires c κs = search needs
+is-small-requires : tie.Need-is-small-requires
+is-small-requires c κs = search needs
 
 returns : tie.Need-returns
 returns c =
     let x = c .before .before in
-    parallel _ _ _ _ _ (x .before .minus .ensures) (x .cross .ensures) (c .before .abs .ensures) (c .if1 .taken)
+    parallel _ _ _ _ _ (x .before .minus .ensures) (x .cross .ensures) (c .before .is-small .ensures) (c .if1 .taken)
 
 minus-requires-2 : tie.Need-minus-requires-2
 minus-requires-2 c κs = search needs
@@ -64,7 +64,7 @@ returns-2 c =
     let d = s .before .before in
     let e = d .before in
     let x = e .before .before in
-    within _ _ _ _ _ (x .before .minus .ensures) (x .cross .ensures) (e .before .abs .ensures) (e .if1 .left) (d .minus2 .ensures) (s .before .cross2 .ensures) (s .within-segment .ensures)
+    within _ _ _ _ _ (x .before .minus .ensures) (x .cross .ensures) (e .before .is-small .ensures) (e .if1 .left) (d .minus2 .ensures) (s .before .cross2 .ensures) (s .within-segment .ensures)
     (c .before .before .if2 .taken) (c .before .cross3 .ensures) (c .in-front .ensures)
 
 returns-3 : tie.Need-returns-3
@@ -73,7 +73,7 @@ returns-3 c =
     let d = s .before .before in
     let e = d .before in
     let x = e .before .before in
-    beside _ _ _ _ _ (x .before .minus .ensures) (x .cross .ensures) (e .before .abs .ensures) (e .if1 .left) (d .minus2 .ensures) (s .before .cross2 .ensures) (s .within-segment .ensures)
+    beside _ _ _ _ _ (x .before .minus .ensures) (x .cross .ensures) (e .before .is-small .ensures) (e .if1 .left) (d .minus2 .ensures) (s .before .cross2 .ensures) (s .within-segment .ensures)
     (c .if2 .left)
 
 pub ray-segment-intersection-spec : {M : Type 1} → statement M
@@ -82,7 +82,7 @@ ray-segment-intersection-spec =
     (tie.spec
     minus-requires
     cross-requires
-    abs-requires
+    is-small-requires
     returns
     minus-requires-2
     cross-requires-2

@@ -1,45 +1,34 @@
--- `collision::scan` meets its contract. The invariant: the first v vertices are taken. Assumes nothing.
+-- `collision::scan` meets its contract: with a table, or an empty one. Assumes nothing.
 use native.Mathlib.Omega.{arith}
 use borrow.Author.Needs.{needs}
-use Prim.Native.Nat.{_-_, _≤_}
-use mathlib.Core.Path.{_≡_, refl, ap, _∙_}
-use Rattle.ring.specs.Ring.{count}
-use Rattle.laws.specs.FirstBest.{nest}
-use Rattle.laws.proofs.FirstBest.{nest-turn}
-use Rattle.collision.specs.Hit.{nearer}
-use Rattle.collision.specs.Check.{hitOf, rowOf, scanOf}
 use Rattle.collision.proofs.scan.Statement.{statement}
 use Rattle.collision.proofs.scan.Tie as tie
 
-abbrev Inv-loop : tie.InvT-loop
-Inv-loop vertices edges sweep kind n best₀ v₀ best v = (v ≤ n) × (best ≡ nest nearer (hitOf vertices edges sweep kind) (count edges) best₀ v)
+is-chained-requires : tie.Need-is-chained-requires
+is-chained-requires c κs = search needs
 
-abbrev μ-loop : tie.MeasureT-loop
-μ-loop vertices edges sweep kind n best₀ v₀ best v = n - v
+chained-scan-requires : tie.Need-chained-scan-requires
+chained-scan-requires c κs = let h = c .before .is-chained .ensures (c .if1 .taken) in record { edges = h .0; near = h .1 }
 
-loop-holds : tie.Need-loop-holds Inv-loop μ-loop
-unfolding nest
-loop-holds c = (omega arith, refl)
+slice-aggregate-scan-by : tie.Need-slice-aggregate-scan-by
+slice-aggregate-scan-by c = search needs
 
-row-requires : tie.Need-row-requires Inv-loop μ-loop
-row-requires c κs = search needs
+scan-by-requires : tie.Need-scan-by-requires
+scan-by-requires c κs = λ h. absurd (omega (arith, h))
 
-add-v : tie.Need-add-v Inv-loop μ-loop
-add-v c = omega arith
+returns : tie.Need-returns
+returns c = search needs
 
-loop-less : tie.Need-loop-less Inv-loop μ-loop
-loop-less c = omega arith
-
-loop-again : tie.Need-loop-again Inv-loop μ-loop
-unfolding rowOf
-loop-again c =
-    let l = c .before .before in
-    (omega arith, nest-turn nearer _ _ _ _ (l .loop .inv .1) (c .row .ensures))
-
-returns : tie.Need-returns Inv-loop μ-loop
-unfolding scanOf
-returns c = c .before .loop .inv .1 ∙ ap (nest nearer _ _ _) (omega arith)
+returns-2 : tie.Need-returns-2
+returns-2 c = search needs
 
 pub scan-spec : {M : Type 1} → statement M
 scan-spec =
-    tie.close (tie.spec Inv-loop μ-loop loop-holds row-requires add-v loop-less loop-again returns)
+    tie.close
+    (tie.spec
+    is-chained-requires
+    chained-scan-requires
+    slice-aggregate-scan-by
+    scan-by-requires
+    returns
+    returns-2)

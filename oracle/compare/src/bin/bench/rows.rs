@@ -361,6 +361,7 @@ pub fn calls() -> Vec<Row> {
     vec![
         Row::new("find_contacts, discs 64 x 64", || contacts(64)),
         Row::new("find_contacts, discs 256 x 256", || contacts(256)),
+        Row::new("check_translation_collision, discs 8 x 8", || collision(8)),
         Row::new("check_translation_collision, discs 64 x 64", || collision(64)),
         Row::new("check_translation_collision, discs 256 x 256", || collision(256)),
         Row::new("is_simple_polygon, disc 256", || simple(256)),

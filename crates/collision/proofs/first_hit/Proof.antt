@@ -1,0 +1,60 @@
+-- `collision::first_hit` meets its contract: `proofs/Passed.antt` has the laws. The invariant: the edges below e are missed. Assumes nothing.
+use Prim.Native.Nat.{_-_, _≤_}
+use native.Mathlib.Omega.{arith}
+use Rattle.collision.specs.Chained.{MissesTo}
+use Rattle.collision.proofs.Passed.{none-missed, more-missed, one-missed}
+use borrow.Author.Needs.{needs}
+use Rattle.collision.proofs.first_hit.Statement.{statement}
+use Rattle.collision.proofs.first_hit.Tie as tie
+
+abbrev Inv-loop : tie.InvT-loop
+Inv-loop origin edges sweep from to e₀ e = (from ≤ e) × (e ≤ to) × MissesTo edges (sweep .dir) (sweep .tolerance) origin from e
+
+abbrev μ-loop : tie.MeasureT-loop
+μ-loop origin edges sweep from to e₀ e = to - e
+
+loop-holds : tie.Need-loop-holds Inv-loop μ-loop
+loop-holds c = (omega arith, omega arith, none-missed _ _ _ _ _)
+
+edge-ray-requires : tie.Need-edge-ray-requires Inv-loop μ-loop
+edge-ray-requires c κs = search needs
+
+enum-told : tie.Need-enum-told Inv-loop μ-loop
+enum-told c = search needs
+
+returns : tie.Need-returns Inv-loop μ-loop
+returns c = c .before .before .before .before .loop .inv
+
+enum-told-2 : tie.Need-enum-told-2 Inv-loop μ-loop
+enum-told-2 c = search needs
+
+add-e : tie.Need-add-e Inv-loop μ-loop
+add-e c = omega arith
+
+loop-less : tie.Need-loop-less Inv-loop μ-loop
+loop-less c = omega arith
+
+loop-again : tie.Need-loop-again Inv-loop μ-loop
+loop-again c =
+    let r = c .before .before in
+    let l = r .before .before .loop .inv in
+    (omega arith, omega arith, more-missed _ _ _ _ _ _ _ (l .2) (one-missed _ _ _ _ _ (r .edge-ray .ensures) (c .enum-told2 .given .1)))
+
+returns-2 : tie.Need-returns-2 Inv-loop μ-loop
+returns-2 c = c .before .loop .inv
+
+pub first-hit-spec : {M : Type 1} → statement M
+first-hit-spec =
+    tie.close
+    (tie.spec
+    Inv-loop
+    μ-loop
+    loop-holds
+    edge-ray-requires
+    enum-told
+    returns
+    enum-told-2
+    add-e
+    loop-less
+    loop-again
+    returns-2)

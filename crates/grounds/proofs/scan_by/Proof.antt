@@ -1,0 +1,93 @@
+-- `grounds::scan_by` meets its contract: `proofs/Passed.antt` has the laws. The invariant: the first v vertices are noted, and the next one against its first e edges. Assumes nothing.
+use Prim.Native.Nat.{_+_, _*_, _-_, _≤_}
+use native.Mathlib.Omega.{arith}
+use mathlib.Core.Path.{_≡_, refl}
+use Rattle.grounds.proofs.Passed.{Sofar, from-none, next-pair, next-vertex, all-pairs, small}
+use Rattle.collision.proofs.Passed.{fewer}
+use borrow.Author.Needs.{needs}
+use Rattle.grounds.proofs.scan_by.Statement.{statement}
+use Rattle.grounds.proofs.scan_by.Tie as tie
+
+abbrev Inv-loop : tie.InvT-loop
+Inv-loop vertices edges table sweep kind n m tally₀ v₀ e₀ tally v e = (v ≤ n) × (e ≤ m) × (n ≤ v → e ≡ 0) × Sofar vertices edges sweep kind tally₀ v e tally
+
+abbrev μ-loop : tie.MeasureT-loop
+μ-loop vertices edges table sweep kind n m tally₀ v₀ e₀ tally v e = (n - v) * (m + 1) + (m - e)
+
+loop-holds : tie.Need-loop-holds Inv-loop μ-loop
+loop-holds c = (omega arith, omega arith, λ h. refl, from-none _ _ _ _ _)
+
+point-at-requires : tie.Need-point-at-requires Inv-loop μ-loop
+point-at-requires c κs = search needs
+
+next-hit-requires : tie.Need-next-hit-requires Inv-loop μ-loop
+next-hit-requires c κs = (c .before .before .loop .inv .1, c .before .before .before .before .before .before .pre .1)
+
+edge-ray-requires : tie.Need-edge-ray-requires Inv-loop μ-loop
+edge-ray-requires c κs = search needs
+
+noted-ray-requires : tie.Need-noted-ray-requires Inv-loop μ-loop
+noted-ray-requires c κs =
+    let l = c .before .before .before .before .before in
+    let i = l .loop .inv in
+    let p = l .before .before .before .before .pre .0 in
+    small _ _ _ _ _ _ _ (i .3) (p .2) (omega (arith, i .0, p .0)) (p .1) (omega (arith, i .1, p .1))
+
+add-e : tie.Need-add-e Inv-loop μ-loop
+add-e c = omega arith
+
+loop-less : tie.Need-loop-less Inv-loop μ-loop
+loop-less c =
+    let h = c .before .before .before in
+    omega (arith, h .next-hit .ensures .0, c .before .before .if1 .taken)
+
+loop-again : tie.Need-loop-again Inv-loop μ-loop
+loop-again c =
+    let r = c .before in
+    let h = r .before .before in
+    let l = h .before .before .before in (
+      l .loop .inv .0,
+      omega (arith, r .before .if1 .taken),
+      λ n. absurd (omega (arith, n, h .before .before .loop-test .taken)),
+      next-pair _ _ _ _ _ _ _ _ (l .loop .inv .3) (h .next-hit .ensures .0) (h .before .point-at .ensures) (h .next-hit .ensures .2) (r .edge-ray .ensures) (c .noted-ray .ensures),
+    )
+
+add-v : tie.Need-add-v Inv-loop μ-loop
+add-v c = omega arith
+
+loop-less-2 : tie.Need-loop-less-2 Inv-loop μ-loop
+loop-less-2 c = fewer _ _ _ _ (c .before .before .before .loop-test .taken)
+
+loop-again-2 : tie.Need-loop-again-2 Inv-loop μ-loop
+loop-again-2 c =
+    let h = c .before in
+    let l = h .before .before .before in (
+      omega arith,
+      omega arith,
+      λ n. refl,
+      next-vertex _ _ _ _ _ _ _ _ (l .loop .inv .3) (h .next-hit .ensures .0) (omega (arith, h .next-hit .ensures .1, c .if1 .left)) (h .before .point-at .ensures) (h .next-hit .ensures .2),
+    )
+
+returns : tie.Need-returns Inv-loop μ-loop
+returns c =
+    let i = c .before .loop .inv in
+    all-pairs _ _ _ _ _ _ _ (omega (arith, i .0, c .loop-test .left)) (i .2 (c .loop-test .left)) (i .3)
+
+pub scan-by-spec : {M : Type 1} → statement M
+scan-by-spec =
+    tie.close
+    (tie.spec
+    Inv-loop
+    μ-loop
+    loop-holds
+    point-at-requires
+    next-hit-requires
+    edge-ray-requires
+    noted-ray-requires
+    add-e
+    loop-less
+    loop-again
+    add-v
+    loop-less-2
+    loop-again-2
+    returns)
