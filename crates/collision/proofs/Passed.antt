@@ -18,8 +18,9 @@ use Rattle.collision.specs.Ray.{rayWithin, rayOf, edgeRay}
 use Rattle.collision.specs.Hit.{countedOf, nearer}
 use Rattle.collision.specs.Check.{hitOf, scanOf}
 use Rattle.collision.specs.Parts.{pairBy}
-use Rattle.collision.specs.Chained.{MissesTo, Ready}
+use Rattle.collision.specs.Chained.{MissesTo, MetFirst, Ready}
 use Rattle.collision.specs.declared.Sweep.{Sweep}
+use Rattle.collision.specs.declared.Met.{Met}
 use Rattle.collision.specs.declared.Ray.{Ray}
 use Rattle.collision.specs.declared.Ray.the-variants.{Miss}
 use Rattle.collision.specs.declared.Collision.{Collision}
@@ -102,17 +103,19 @@ module _ (vs es : List Float) (w : Sweep) (kind : ℕ) (before : Collision) wher
   skipped v a to h l m = passed-over (hitOf vs es w kind v) (nest nearer (hitOf vs es w kind) (count es) before v) a to h l (λ k i j. missed vs es w kind v k (m k i j))
 
   -- one hit more, after misses
-  pub next-pair : (v a k : ℕ) {best new next : Collision} {o : Point} {ray : Ray} → Sofar v a best → a ≤ k → o ≡ pointAt vs v → MissesTo es (w .dir) (w .tolerance) o a k
-      → ray ≡ edgeRay o (w .dir) es k (w .tolerance) → new ≡ pairBy ray w kind v k → next ≡ better nearer best new → Sofar v (k + 1) next
-  next-pair v a k h l eo m er en e = over-turn nearer _ _ k (skipped v a k h l (rw (← eo) m)) (pair-is eo er en) e
+  pub next-pair : (v a : ℕ) {best new next : Collision} {o : Point} {met : Met} → Sofar v a best → o ≡ pointAt vs v → MetFirst es (w .dir) (w .tolerance) o a (count es) met → met .edge < count es
+      → new ≡ pairBy (met .ray) w kind v (met .edge) → next ≡ better nearer best new → Sofar v (met .edge + 1) next
+  next-pair v a {o = o} {met = met} h eo m k en e = over-turn nearer _ _ (met .edge) (skipped v a (met .edge) h (m .not-before) (rw (← eo) (m .misses))) (pair-is (m .hits k) en) e
     where
-      pair-is : {new : Collision} {o : Point} {ray : Ray} → o ≡ pointAt vs v → ray ≡ edgeRay o (w .dir) es k (w .tolerance) → new ≡ pairBy ray w kind v k → new ≡ hitOf vs es w kind v k
-      pair-is eo er h = unfold hitOf in rw (h, er, eo)
+      pair-is : {new : Collision} {ray : Ray} → ray ≡ edgeRay o (w .dir) es (met .edge) (w .tolerance) → new ≡ pairBy ray w kind v (met .edge) → new ≡ hitOf vs es w kind v (met .edge)
+      pair-is er h = unfold hitOf in rw (h, er, eo)
 
   -- no hit more of a vertex
-  pub next-vertex : (v a k : ℕ) {best : Collision} {o : Point} → Sofar v a best → a ≤ k → k ≡ count es → o ≡ pointAt vs v → MissesTo es (w .dir) (w .tolerance) o a k → Sofar (v + 1) 0 best
+  pub next-vertex : (v a : ℕ) {best : Collision} {o : Point} {met : Met} → Sofar v a best → o ≡ pointAt vs v → MetFirst es (w .dir) (w .tolerance) o a (count es) met → count es ≤ met .edge → Sofar (v + 1) 0 best
   unfolding over
-  next-vertex v a k h l z eo m = nest-turn nearer _ _ before v refl (skipped v a (count es) h (omega (arith, l, z)) (λ i p q. rw (← eo) (m i p (omega (arith, q, z)))))
+  next-vertex v a h eo m z =
+      nest-turn nearer _ _ before v refl
+      (skipped v a (count es) h (omega (arith, m .not-before, m .not-after)) (λ i p q. rw (← eo) (m .misses i p (omega (arith, q, z)))))
 
   pub all-pairs : (v e : ℕ) {best : Collision} → v ≡ count vs → e ≡ 0 → Sofar v e best → best ≡ scanOf vs es w kind before
   unfolding over scanOf

@@ -23,13 +23,19 @@ ghost use Rattle.ring.specs.Ring.{count};
 ghost use Rattle.collision.specs.Ray.{rayOf, edgeRay};
 ghost use Rattle.collision.specs.Parts.{withinSegment, inFront, pairBy};
 ghost use Rattle.collision.specs.Hit.{countedOf, keptHit};
-ghost use Rattle.collision.specs.Chained.{MissesTo, Few, Ready};
+ghost use Rattle.collision.specs.Chained.{MetFirst, Few, Ready};
 ghost use Rattle.collision.specs.Check.{scanOf, backOf, bothOf, raysBy, collisionOf};
 
 // A ray against a segment: it misses, or it meets the segment at a distance.
 pub enum Ray {
     Miss,
     At(f64),
+}
+
+// An edge that a ray meets, with the ray against it.
+pub struct Met {
+    pub edge: usize,
+    pub ray: Ray,
 }
 
 // What a move runs into. Kind 0 is a vertex of orbiting on an edge of stationary, kind 1 a vertex of stationary on an edge of orbiting.
@@ -169,26 +175,31 @@ pub fn pair(ray: Ray, sweep: Sweep, kind: u8, v: usize, e: usize) -> Collision
 }
 
 // The first edge from one on and below another that the ray from origin does not miss, or the other.
-fn first_hit(origin: Point, edges: &[f64], sweep: Sweep, from: usize, to: usize) -> usize
+fn first_hit(origin: Point, edges: &[f64], sweep: Sweep, from: usize, to: usize) -> Met
     requires { ⌜ (from ≤ to) × (to ≤ count (now edges)) ⌝ }
-    ensures { λ r. ⌜ (from ≤ r) × (r ≤ to) × MissesTo (now (edges .entry)) (sweep .dir) (sweep .tolerance) origin from r ⌝ }
+    ensures { λ r. ⌜ MetFirst (now (edges .entry)) (sweep .dir) (sweep .tolerance) origin from to r ⌝ }
 {
     let mut e = from;
     while e < to {
-        if let Ray::At(_) = edge_ray(origin, sweep.dir, edges, e, sweep.tolerance) {
-            return e;
+        let ray = edge_ray(origin, sweep.dir, edges, e, sweep.tolerance);
+        if let Ray::At(_) = ray {
+            return Met { edge: e, ray };
+        } else {
+            e += 1;
         }
-        e += 1;
     }
-    e
+    Met {
+        edge: to,
+        ray: Ray::Miss,
+    }
 }
 
-// The first edge from one on that the ray from origin does not miss, or as many as there are. The table has the chains of all edges, so that
-// those that the ray passes beside are left out, or it is empty.
-pub fn next_hit(origin: Point, edges: &[f64], table: &[f64], sweep: Sweep, from: usize) -> usize
+// The first edge from one on that the ray from origin does not miss, or as many as there are. The table has the chains of all
+// edges, so that those that the ray passes beside are left out, or it is empty.
+pub fn next_hit(origin: Point, edges: &[f64], table: &[f64], sweep: Sweep, from: usize) -> Met
     requires { ⌜ from ≤ count (now edges) ⌝ }
     requires { ⌜ (0 < length (now table) → Ready (now table) (now edges) sweep) ⌝ }
-    ensures { λ r. ⌜ (from ≤ r) × (r ≤ count (now (edges .entry))) × MissesTo (now (edges .entry)) (sweep .dir) (sweep .tolerance) origin from r ⌝ }
+    ensures { λ r. ⌜ MetFirst (now (edges .entry)) (sweep .dir) (sweep .tolerance) origin from (count (now (edges .entry))) r ⌝ }
 {
     let n = edges.len() / 2;
     if table.len() == 0 {
@@ -200,16 +211,21 @@ pub fn next_hit(origin: Point, edges: &[f64], table: &[f64], sweep: Sweep, from:
         if is_passed(table, e / 8, origin, sweep.dir) {
             e = to;
         } else {
-            e = first_hit(origin, edges, sweep, e, to);
-            if e < to {
-                return e;
+            let met = first_hit(origin, edges, sweep, e, to);
+            if met.edge < to {
+                return met;
             }
+            e = to;
         }
     }
-    e
+    Met {
+        edge: n,
+        ray: Ray::Miss,
+    }
 }
 
-// Each vertex of one ring against each edge of the other, from what was found before, with a table of the edges' chains or an empty one.
+// Each vertex of one ring against each edge of the other, from what was found before, with a table of the edges' chains or an
+// empty one.
 fn scan_by(
     vertices: &[f64],
     edges: &[f64],
@@ -227,10 +243,10 @@ fn scan_by(
     let mut v = 0;
     let mut e = 0;
     while v < n {
-        let origin = point_at(vertices, v);
-        let k = next_hit(origin, edges, table, sweep, e);
+        let met = next_hit(point_at(vertices, v), edges, table, sweep, e);
+        let k = met.edge;
+        let ray = met.ray;
         if k < m {
-            let ray = edge_ray(origin, sweep.dir, edges, k, sweep.tolerance);
             best = keep(best, pair(ray, sweep, kind, v, k));
             e = k + 1;
         } else {

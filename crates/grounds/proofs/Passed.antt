@@ -9,8 +9,9 @@ use Rattle.ring.specs.Ring.{count, pointAt}
 use Rattle.laws.specs.Turns.{turns, turnRows}
 use Rattle.laws.proofs.Turns.{turns-split, one-more, row-more}
 use Rattle.collision.specs.Ray.{edgeRay}
-use Rattle.collision.specs.Chained.{MissesTo}
+use Rattle.collision.specs.Chained.{MissesTo, MetFirst}
 use Rattle.collision.specs.declared.Sweep.{Sweep}
+use Rattle.collision.specs.declared.Met.{Met}
 use Rattle.collision.specs.declared.Ray.{Ray}
 use Rattle.collision.specs.declared.Ray.the-variants.{Miss}
 use Rattle.grounds.specs.Scan.{kindMost, pairsMost, AtMost, notedOf, pairNoted, scanNoted}
@@ -48,17 +49,19 @@ module _ (vs es : List Float) (w : Sweep) (kind : ℕ) (before : Tally) where
   skipped v a to h l m = passed-over _ _ a to h l (λ s k i j. none-noted v k s (m k i j))
 
   -- one hit more, after misses
-  pub next-pair : (v a k : ℕ) {t next : Tally} {o : Point} {ray : Ray} → Sofar v a t → a ≤ k → o ≡ pointAt vs v → MissesTo es (w .dir) (w .tolerance) o a k
-      → ray ≡ edgeRay o (w .dir) es k (w .tolerance) → next ≡ notedOf w kind t v k ray → Sofar v (k + 1) next
-  next-pair v a k {t} h l eo m er e = one-more _ _ k (skipped v a k h l (rw (← eo) m)) (pair-is eo er e)
+  pub next-pair : (v a : ℕ) {t next : Tally} {o : Point} {met : Met} → Sofar v a t → o ≡ pointAt vs v → MetFirst es (w .dir) (w .tolerance) o a (count es) met → met .edge < count es
+      → next ≡ notedOf w kind t v (met .edge) (met .ray) → Sofar v (met .edge + 1) next
+  next-pair v a {t = t} {o = o} {met = met} h eo m k e = one-more _ _ (met .edge) (skipped v a (met .edge) h (m .not-before) (rw (← eo) (m .misses))) (pair-is (m .hits k) e)
     where
-      pair-is : {next : Tally} {o : Point} {ray : Ray} → o ≡ pointAt vs v → ray ≡ edgeRay o (w .dir) es k (w .tolerance) → next ≡ notedOf w kind t v k ray → next ≡ pairNoted vs es w kind t v k
-      pair-is eo er h = unfold pairNoted in rw (h, er, eo)
+      pair-is : {next : Tally} {ray : Ray} → ray ≡ edgeRay o (w .dir) es (met .edge) (w .tolerance) → next ≡ notedOf w kind t v (met .edge) ray → next ≡ pairNoted vs es w kind t v (met .edge)
+      pair-is er h = unfold pairNoted in rw (h, er, eo)
 
   -- no hit more of a vertex
-  pub next-vertex : (v a k : ℕ) {t : Tally} {o : Point} → Sofar v a t → a ≤ k → k ≡ count es → o ≡ pointAt vs v → MissesTo es (w .dir) (w .tolerance) o a k → Sofar (v + 1) 0 t
+  pub next-vertex : (v a : ℕ) {t : Tally} {o : Point} {met : Met} → Sofar v a t → o ≡ pointAt vs v → MetFirst es (w .dir) (w .tolerance) o a (count es) met → count es ≤ met .edge → Sofar (v + 1) 0 t
   unfolding turns
-  next-vertex v a k h l z eo m = row-more _ _ before v refl (skipped v a (count es) h (omega (arith, l, z)) (λ i p q. rw (← eo) (m i p (omega (arith, q, z)))))
+  next-vertex v a h eo m z =
+      row-more _ _ before v refl
+      (skipped v a (count es) h (omega (arith, m .not-before, m .not-after)) (λ i p q. rw (← eo) (m .misses i p (omega (arith, q, z)))))
 
   pub all-pairs : (v e : ℕ) {t : Tally} → v ≡ count vs → e ≡ 0 → Sofar v e t → t ≡ scanNoted vs es w kind before
   unfolding turns scanNoted

@@ -10,7 +10,6 @@ use collision::Collision;
 use collision::Ray;
 use collision::Sweep;
 use collision::back;
-use collision::edge_ray;
 use collision::keep;
 use collision::next_hit;
 use collision::pair;
@@ -189,10 +188,10 @@ fn scan_by(
     let mut v = 0;
     let mut e = 0;
     while v < n {
-        let origin = point_at(vertices, v);
-        let k = next_hit(origin, edges, table, sweep, e);
+        let met = next_hit(point_at(vertices, v), edges, table, sweep, e);
+        let k = met.edge;
+        let ray = met.ray;
         if k < m {
-            let ray = edge_ray(origin, sweep.dir, edges, k, sweep.tolerance);
             tally = noted_ray(sweep, kind, tally, v, k, ray);
             e = k + 1;
         } else {

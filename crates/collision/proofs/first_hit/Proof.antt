@@ -23,7 +23,10 @@ enum-told : tie.Need-enum-told Inv-loop μ-loop
 enum-told c = search needs
 
 returns : tie.Need-returns Inv-loop μ-loop
-returns c = c .before .before .before .before .loop .inv
+returns c =
+    let r = c .before .before in
+    let i = r .before .before .loop .inv in
+    record { not-before = i .0; not-after = i .1; misses = i .2; hits = λ h. r .edge-ray .ensures }
 
 enum-told-2 : tie.Need-enum-told-2 Inv-loop μ-loop
 enum-told-2 c = search needs
@@ -37,11 +40,13 @@ loop-less c = omega arith
 loop-again : tie.Need-loop-again Inv-loop μ-loop
 loop-again c =
     let r = c .before .before in
-    let l = r .before .before .loop .inv in
-    (omega arith, omega arith, more-missed _ _ _ _ _ _ _ (l .2) (one-missed _ _ _ _ _ (r .edge-ray .ensures) (c .enum-told2 .given .1)))
+    let i = r .before .before .loop .inv in
+    (omega arith, omega arith, more-missed _ _ _ _ _ _ _ (i .2) (one-missed _ _ _ _ _ (r .edge-ray .ensures) (c .enum-told2 .given .1)))
 
 returns-2 : tie.Need-returns-2 Inv-loop μ-loop
-returns-2 c = c .before .loop .inv
+returns-2 c =
+    let i = c .before .loop .inv in
+    record { not-before = omega (arith, i .0, i .1); not-after = omega arith; misses = λ k l h. i .2 k l (omega (arith, h, c .loop-test .left)); hits = λ h. absurd (omega (arith, h)) }
 
 pub first-hit-spec : {M : Type 1} → statement M
 first-hit-spec =

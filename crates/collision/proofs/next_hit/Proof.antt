@@ -49,30 +49,29 @@ first-hit-requires-2 c κs = let end = c .before .before .chain-end .ensures in 
 
 returns-2 : tie.Need-returns-2 Inv-loop μ-loop
 returns-2 c =
-    let f = c .before in
+    let f = c .before .before in
     let o = f .before .before .before in
-    let l = o .before .before .loop .inv in
+    let i = o .before .before .loop .inv in
     let end = o .chain-end .ensures in
     let h = f .first-hit2 .ensures in
-    (omega (arith, l .0, h .0), omega (arith, h .1, end .1), more-missed _ _ _ _ _ _ _ (l .2) (h .2))
+    record { not-before = omega (arith, i .0, h .not-before); not-after = omega (arith, h .not-after, end .1); misses = more-missed _ _ _ _ _ _ _ (i .2) (h .misses); hits = λ z. h .hits (c .if3 .taken) }
 
 loop-less-2 : tie.Need-loop-less-2 Inv-loop μ-loop
-loop-less-2 c =
-    let f = c .before in
-    let end = f .before .before .before .chain-end .ensures in
-    omega (arith, f .first-hit2 .ensures .1, end .0, end .1, c .if3 .left)
+loop-less-2 c = omega (arith, c .before .before .before .before .before .chain-end .ensures .0)
 
 loop-again-2 : tie.Need-loop-again-2 Inv-loop μ-loop
 loop-again-2 c =
-    let f = c .before in
+    let f = c .before .before in
     let o = f .before .before .before in
-    let l = o .before .before .loop .inv in
+    let i = o .before .before .loop .inv in
     let end = o .chain-end .ensures in
     let h = f .first-hit2 .ensures in
-    (omega (arith, l .0, h .0), omega (arith, h .1, end .1), more-missed _ _ _ _ _ _ _ (l .2) (h .2))
+    (omega (arith, i .0, end .0), end .1, more-missed _ _ _ _ _ _ _ (i .2) (λ k l z. h .misses k l (omega (arith, z, c .if3 .left))))
 
 returns-3 : tie.Need-returns-3 Inv-loop μ-loop
-returns-3 c = c .before .loop .inv
+returns-3 c =
+    let i = c .before .loop .inv in
+    record { not-before = omega (arith, i .0, i .1); not-after = omega arith; misses = λ k l h. i .2 k l (omega (arith, h, c .loop-test .left)); hits = λ h. absurd (omega (arith, h)) }
 
 pub next-hit-spec : {M : Type 1} → statement M
 next-hit-spec =

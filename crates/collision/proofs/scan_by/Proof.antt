@@ -22,9 +22,6 @@ point-at-requires c κs = search needs
 next-hit-requires : tie.Need-next-hit-requires Inv-loop μ-loop
 next-hit-requires c κs = (c .before .before .loop .inv .1, c .before .before .before .before .before .before .pre)
 
-edge-ray-requires : tie.Need-edge-ray-requires Inv-loop μ-loop
-edge-ray-requires c κs = search needs
-
 pair-requires : tie.Need-pair-requires Inv-loop μ-loop
 pair-requires c κs = search needs
 
@@ -36,18 +33,18 @@ add-e c = omega arith
 
 loop-less : tie.Need-loop-less Inv-loop μ-loop
 loop-less c =
-    let h = c .before .before .before .before in
-    omega (arith, h .next-hit .ensures .0, c .before .before .before .if1 .taken)
+    let h = c .before .before .before in
+    omega (arith, h .next-hit .ensures .not-before, c .before .before .if1 .taken)
 
 loop-again : tie.Need-loop-again Inv-loop μ-loop
 loop-again c =
-    let r = c .before .before in
-    let h = r .before .before in
+    let t = c .before .before in
+    let h = t .before in
     let l = h .before .before .before in (
       l .loop .inv .0,
-      omega (arith, r .before .if1 .taken),
+      omega (arith, t .if1 .taken),
       λ n. absurd (omega (arith, n, h .before .before .loop-test .taken)),
-      next-pair _ _ _ _ _ _ _ _ (l .loop .inv .3) (h .next-hit .ensures .0) (h .before .point-at .ensures) (h .next-hit .ensures .2) (r .edge-ray .ensures) (c .before .pair .ensures) (c .keep .ensures),
+      next-pair _ _ _ _ _ _ _ (l .loop .inv .3) (h .before .point-at .ensures) (h .next-hit .ensures) (t .if1 .taken) (c .before .pair .ensures) (c .keep .ensures),
     )
 
 add-v : tie.Need-add-v Inv-loop μ-loop
@@ -59,12 +56,8 @@ loop-less-2 c = fewer _ _ _ _ (c .before .before .before .loop-test .taken)
 loop-again-2 : tie.Need-loop-again-2 Inv-loop μ-loop
 loop-again-2 c =
     let h = c .before in
-    let l = h .before .before .before in (
-      omega arith,
-      omega arith,
-      λ n. refl,
-      next-vertex _ _ _ _ _ _ _ _ (l .loop .inv .3) (h .next-hit .ensures .0) (omega (arith, h .next-hit .ensures .1, c .if1 .left)) (h .before .point-at .ensures) (h .next-hit .ensures .2),
-    )
+    let l = h .before .before .before in
+    (omega arith, omega arith, λ n. refl, next-vertex _ _ _ _ _ _ _ (l .loop .inv .3) (h .before .point-at .ensures) (h .next-hit .ensures) (c .if1 .left))
 
 returns : tie.Need-returns Inv-loop μ-loop
 returns c =
@@ -80,7 +73,6 @@ scan-by-spec =
     loop-holds
     point-at-requires
     next-hit-requires
-    edge-ray-requires
     pair-requires
     keep-requires
     add-e

@@ -23,12 +23,9 @@ point-at-requires c κs = search needs
 next-hit-requires : tie.Need-next-hit-requires Inv-loop μ-loop
 next-hit-requires c κs = (c .before .before .loop .inv .1, c .before .before .before .before .before .before .pre .1)
 
-edge-ray-requires : tie.Need-edge-ray-requires Inv-loop μ-loop
-edge-ray-requires c κs = search needs
-
 noted-ray-requires : tie.Need-noted-ray-requires Inv-loop μ-loop
 noted-ray-requires c κs =
-    let l = c .before .before .before .before .before in
+    let l = c .before .before .before .before in
     let i = l .loop .inv in
     let p = l .before .before .before .before .pre .0 in
     small _ _ _ _ _ _ _ (i .3) (p .2) (omega (arith, i .0, p .0)) (p .1) (omega (arith, i .1, p .1))
@@ -38,18 +35,18 @@ add-e c = omega arith
 
 loop-less : tie.Need-loop-less Inv-loop μ-loop
 loop-less c =
-    let h = c .before .before .before in
-    omega (arith, h .next-hit .ensures .0, c .before .before .if1 .taken)
+    let h = c .before .before in
+    omega (arith, h .next-hit .ensures .not-before, c .before .if1 .taken)
 
 loop-again : tie.Need-loop-again Inv-loop μ-loop
 loop-again c =
-    let r = c .before in
-    let h = r .before .before in
+    let t = c .before in
+    let h = t .before in
     let l = h .before .before .before in (
       l .loop .inv .0,
-      omega (arith, r .before .if1 .taken),
+      omega (arith, t .if1 .taken),
       λ n. absurd (omega (arith, n, h .before .before .loop-test .taken)),
-      next-pair _ _ _ _ _ _ _ _ (l .loop .inv .3) (h .next-hit .ensures .0) (h .before .point-at .ensures) (h .next-hit .ensures .2) (r .edge-ray .ensures) (c .noted-ray .ensures),
+      next-pair _ _ _ _ _ _ _ (l .loop .inv .3) (h .before .point-at .ensures) (h .next-hit .ensures) (t .if1 .taken) (c .noted-ray .ensures),
     )
 
 add-v : tie.Need-add-v Inv-loop μ-loop
@@ -61,12 +58,8 @@ loop-less-2 c = fewer _ _ _ _ (c .before .before .before .loop-test .taken)
 loop-again-2 : tie.Need-loop-again-2 Inv-loop μ-loop
 loop-again-2 c =
     let h = c .before in
-    let l = h .before .before .before in (
-      omega arith,
-      omega arith,
-      λ n. refl,
-      next-vertex _ _ _ _ _ _ _ _ (l .loop .inv .3) (h .next-hit .ensures .0) (omega (arith, h .next-hit .ensures .1, c .if1 .left)) (h .before .point-at .ensures) (h .next-hit .ensures .2),
-    )
+    let l = h .before .before .before in
+    (omega arith, omega arith, λ n. refl, next-vertex _ _ _ _ _ _ _ (l .loop .inv .3) (h .before .point-at .ensures) (h .next-hit .ensures) (c .if1 .left))
 
 returns : tie.Need-returns Inv-loop μ-loop
 returns c =
@@ -82,7 +75,6 @@ scan-by-spec =
     loop-holds
     point-at-requires
     next-hit-requires
-    edge-ray-requires
     noted-ray-requires
     add-e
     loop-less
