@@ -126,3 +126,12 @@ pub fewer : (n v m e : ℕ) → v < n → (n - (v + 1)) * (m + 1) + (m - 0) < (n
 fewer n v m e h =
     let a : n - v ≡ n - (v + 1) + 1 = omega arith in
     rw a (omega arith)
+
+-- the new one, where it is nearer, and else what was found before
+pub kept-new : (best new : Collision) {t : Bool} → t ≡ nearer new best → t ≡ true → new ≡ better nearer best new
+unfolding better
+kept-new best new h k = rw (← h, k)
+
+pub kept-best : (best new : Collision) {t : Bool} → t ≡ nearer new best → t ≡ false → best ≡ better nearer best new
+unfolding better
+kept-best best new h k = rw (← h, k)

@@ -22,7 +22,7 @@ ghost use Rattle.scalar.specs.Scalar.{absOf};
 ghost use Rattle.ring.specs.Ring.{count};
 ghost use Rattle.collision.specs.Ray.{rayOf, edgeRay};
 ghost use Rattle.collision.specs.Parts.{withinSegment, inFront, pairBy};
-ghost use Rattle.collision.specs.Hit.{countedOf, keptHit};
+ghost use Rattle.collision.specs.Hit.{countedOf, nearer};
 ghost use Rattle.collision.specs.Chained.{MetFirst, Few, Ready};
 ghost use Rattle.collision.specs.Check.{scanOf, backOf, bothOf, raysBy, collisionOf};
 
@@ -138,9 +138,9 @@ fn counted(ray: Ray, sweep: Sweep, kind: u8, stationary: usize, orbiting: usize)
     Collision::Nothing
 }
 
-// Of what was found so far and a new one: only a strictly smaller distance replaces.
-pub fn keep(best: Collision, new: Collision) -> Collision
-    ensures { λ r. ⌜ r ≡ keptHit best new ⌝ }
+// Whether a new one replaces what was found so far: only a strictly smaller distance does.
+pub fn is_nearer(new: Collision, best: Collision) -> bool
+    ensures { λ r. ⌜ r ≡ nearer new best ⌝ }
 {
     let Collision::Hit {
         distance: e,
@@ -149,7 +149,7 @@ pub fn keep(best: Collision, new: Collision) -> Collision
         orbiting: _,
     } = new
     else {
-        return best;
+        return false;
     };
     let Collision::Hit {
         distance: d,
@@ -158,9 +158,9 @@ pub fn keep(best: Collision, new: Collision) -> Collision
         orbiting: _,
     } = best
     else {
-        return new;
+        return true;
     };
-    if e < d { new } else { best }
+    e < d
 }
 
 // What a ray of the vertex v of one ring makes of the edge e of the other.
@@ -247,8 +247,13 @@ fn scan_by(
         let k = met.edge;
         let ray = met.ray;
         if k < m {
-            best = keep(best, pair(ray, sweep, kind, v, k));
-            e = k + 1;
+            let new = pair(ray, sweep, kind, v, k);
+            if is_nearer(new, best) {
+                best = new;
+                e = k + 1;
+            } else {
+                e = k + 1;
+            }
         } else {
             v += 1;
             e = 0;

@@ -10,7 +10,7 @@ use collision::Collision;
 use collision::Ray;
 use collision::Sweep;
 use collision::back;
-use collision::keep;
+use collision::is_nearer;
 use collision::next_hit;
 use collision::pair;
 use collision::rays;
@@ -149,12 +149,26 @@ fn noted(sweep: Sweep, kind: u8, tally: Tally, v: usize, e: usize, d: f64) -> Ta
 {
     let best = tally.best;
     let new = pair(Ray::At(d), sweep, kind, v, e);
-    Tally {
-        best: keep(best, new),
-        others: others_after(tally.others, best, new),
-        near: one_more(tally.near, d <= sweep.tolerance),
-        between: one_more(tally.between, in_between(d, sweep)),
-        far: one_more(tally.far, too_far(d, sweep)),
+    let others = others_after(tally.others, best, new);
+    let near = one_more(tally.near, d <= sweep.tolerance);
+    let between = one_more(tally.between, in_between(d, sweep));
+    let far = one_more(tally.far, too_far(d, sweep));
+    if is_nearer(new, best) {
+        Tally {
+            best: new,
+            others,
+            near,
+            between,
+            far,
+        }
+    } else {
+        Tally {
+            best,
+            others,
+            near,
+            between,
+            far,
+        }
     }
 }
 
