@@ -1,10 +1,13 @@
 //! The subcommands.
 
 mod book;
+mod check;
 mod disc;
 mod mend;
 mod same;
 mod show;
+mod slide;
+mod why;
 
 use crate::nearest::nearest;
 use crate::{help, Fault, Result, Said};
@@ -13,12 +16,15 @@ use crate::{help, Fault, Result, Said};
 type Command = (&'static str, fn(&[String]) -> Result<Said>);
 
 /// All of them, in the order in which a shop uses them.
-const COMMANDS: [Command; 5] = [
+const COMMANDS: [Command; 8] = [
     ("book", book::called),
     ("same", same::called),
     ("show", show::called),
     ("mend", mend::called),
     ("disc", disc::called),
+    ("slide", slide::called),
+    ("why", why::called),
+    ("check", check::called),
 ];
 
 /// Does what the words ask for.

@@ -10,7 +10,7 @@ Status: 0 all is well, 1 the answer is no, 2 there is no answer, and a line says
 ";
 
 /// The jobs: the name, the words behind it, what it is for, more about it, an example.
-const JOBS: [[&str; 5]; 5] = [
+const JOBS: [[&str; 5]; 8] = [
     [
         "book",
         "OUT.book IN.. [--part N,..]",
@@ -48,6 +48,35 @@ const JOBS: [[&str; 5]; 5] = [
         "make a disc",
         "It has 4, 8, 16, 32, 64, 128 or 256 corners, with the same bits in every office.",
         "byr disc disc.wkb --centre 0,0 --radius 1.5 --corners 32",
+    ],
+    [
+        "slide",
+        "CARRIER DISC [--path OUT] [--svg OUT.svg] [--unit U] [--moved]\n\
+         \x20      [--tolerance T] [--passes N] [--least-move L]",
+        "slide a disc round its carrier",
+        "A point of the path is how far the disc, as drawn, is moved. Each leg is then asked on the\n\
+         grid of U whether nothing lies in between; without --unit that is the grid of 1 if all is\n\
+         whole, and else the finest of a power of ten that fits. Status 1, and a WARNING: the path\n\
+         is not closed, or leads through the carrier. --moved tells each corner that moved to its grid.",
+        "byr slide carrier.wkt disc.wkb --path path.txt --svg slide.svg",
+    ],
+    [
+        "why",
+        "CARRIER DISC --by DX,DY [--at X,Y] [--unit U] [--svg OUT.svg] [--moved]\n\
+         \x20      [--tolerance T]",
+        "why is a move clear, or not?",
+        "The disc, as drawn, is moved to X,Y and goes on from there by DX,DY. The rule's answer comes\n\
+         with its ground and counts, the true one, on the grid of U, with its lines or the edge in\n\
+         the way. Status 0: both say clear, 1: not.",
+        "byr why carrier.wkt disc.wkb --at 10,12 --by 0,-2.5 --unit 0.001 --svg why.svg",
+    ],
+    [
+        "check",
+        "CARRIER DISC PATH [--unit U] [--moved] [--tolerance T]",
+        "check a path that another program traced",
+        "Tells the first fault by the rule, and the first leg that is not clear on the grid of U.\n\
+         Status 0: accepted and clear, 1: not.",
+        "byr check carrier.wkt disc.wkb path.txt --unit 0.001",
     ],
 ];
 

@@ -1,0 +1,88 @@
+//! The legs of a path on the grid, each asked whether nothing lies in between. Positions
+//! that were put on the grid lie up to a unit nearer than they did, so a leg that is not
+//! clear as it stands is asked again a few units aside, all of it: clear there means that
+//! it is clear but for the rounding of the grid.
+
+use crate::grid::OnGrid;
+use crate::Result;
+use byrlygent::whole::{clear_move, Ground, Point};
+
+/// The farthest that a leg is set off, in units.
+const ASIDE: i32 = 3;
+
+/// What comes of a leg.
+#[derive(Debug, Clone, Copy, PartialEq, Eq)]
+pub enum Leg {
+    /// Clear as it stands.
+    Clear,
+    /// Clear when all of it is set off by so many units.
+    Aside(Point),
+    /// Not clear: an edge is in the way, or the way is enclosed.
+    Blocked(Ground),
+}
+
+/// The carrier, the disc as drawn and a path, on one grid.
+pub struct Walk {
+    /// The ring that stays.
+    pub carrier: OnGrid,
+    /// The ring that moves, as drawn.
+    pub disc: OnGrid,
+    /// Its positions.
+    pub path: OnGrid,
+}
+
+impl Walk {
+    /// Whether all was on the grid already.
+    pub fn is_exact(&self) -> bool {
+        ![&self.carrier, &self.disc, &self.path].iter().any(|on| on.is_moved())
+    }
+
+    /// What comes of each leg in order, the last to the first too if it is asked for, up
+    /// to the first that is not clear.
+    pub fn legs(&self, closing: bool) -> Result<Vec<Leg>> {
+        let n = self.path.spots.len();
+        let mut legs = Vec::new();
+        for at in 0..if closing { n } else { n - 1 } {
+            let leg = self.leg(self.path.spots[at], self.path.spots[(at + 1) % n])?;
+            legs.push(leg);
+            if matches!(leg, Leg::Blocked(_)) {
+                break;
+            }
+        }
+        Ok(legs)
+    }
+
+    /// What comes of the leg between two positions.
+    fn leg(&self, from: Point, to: Point) -> Result<Leg> {
+        let by = (to.0 - from.0, to.1 - from.1);
+        let ground = self.ground(from, by)?;
+        if ground == Ground::Clear {
+            return Ok(Leg::Clear);
+        }
+        if self.is_exact() {
+            return Ok(Leg::Blocked(ground));
+        }
+        for off in asides() {
+            if self.ground((from.0 + off.0, from.1 + off.1), by)? == Ground::Clear {
+                return Ok(Leg::Aside(off));
+            }
+        }
+        Ok(Leg::Blocked(ground))
+    }
+
+    /// The ground of a move from a position.
+    fn ground(&self, at: Point, by: Point) -> Result<Ground> {
+        let start: Vec<Point> =
+            self.disc.spots.iter().map(|spot| (spot.0 + at.0, spot.1 + at.1)).collect();
+        Ok(clear_move(&self.carrier.spots, &start, by)?.ground())
+    }
+}
+
+/// The ways to set a leg off, the shortest first.
+fn asides() -> Vec<Point> {
+    let range = || -ASIDE..=ASIDE;
+    let mut all: Vec<Point> = range().flat_map(|x| range().map(move |y| (x, y))).collect();
+    all.retain(|off| *off != (0, 0));
+    all.sort_by_key(|(x, y)| x * x + y * y);
+    all
+}
