@@ -3,6 +3,7 @@
 mod book;
 mod check;
 mod disc;
+mod inspect;
 mod mend;
 mod same;
 mod show;
@@ -16,7 +17,7 @@ use crate::{help, Fault, Result, Said};
 type Command = (&'static str, fn(&[String]) -> Result<Said>);
 
 /// All of them, in the order in which a shop uses them.
-const COMMANDS: [Command; 8] = [
+const COMMANDS: [Command; 9] = [
     ("book", book::called),
     ("same", same::called),
     ("show", show::called),
@@ -25,6 +26,7 @@ const COMMANDS: [Command; 8] = [
     ("slide", slide::called),
     ("why", why::called),
     ("check", check::called),
+    ("inspect", inspect::called),
 ];
 
 /// Does what the words ask for.

@@ -10,7 +10,7 @@ Status: 0 all is well, 1 the answer is no, 2 there is no answer, and a line says
 ";
 
 /// The jobs: the name, the words behind it, what it is for, more about it, an example.
-const JOBS: [[&str; 5]; 8] = [
+const JOBS: [[&str; 5]; 9] = [
     [
         "book",
         "OUT.book IN.. [--part N,..]",
@@ -77,6 +77,14 @@ const JOBS: [[&str; 5]; 8] = [
         "Tells the first fault by the rule, and the first leg that is not clear on the grid of U.\n\
          Status 0: accepted and clear, 1: not.",
         "byr check carrier.wkt disc.wkb path.txt --unit 0.001",
+    ],
+    [
+        "inspect",
+        "PATH --per-shift K --state FILE [--new]",
+        "which places does this shift inspect?",
+        "FILE keeps where the next shift starts, and is replaced whole. --new begins one at place 0:\n\
+         without it there must be one, of this path and this K. FILE.lock keeps two shifts apart.",
+        "byr inspect path.txt --per-shift 5 --state places.state --new",
     ],
 ];
 
