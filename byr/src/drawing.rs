@@ -196,7 +196,7 @@ pub fn path(bytes: &[u8]) -> std::result::Result<(Vec<Point>, bool), String> {
 /// What these bytes hold.
 fn held(bytes: &[u8]) -> std::result::Result<Held, String> {
     if bytes.is_empty() {
-        return Err("is empty".into());
+        return Err("is empty: look where it came from".into());
     }
     let book = match read_book(bytes) {
         Ok(rings) => return Ok(Held::Rings(Kind::Book, rings.into_iter().map(of_book).collect())),

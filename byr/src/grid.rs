@@ -122,14 +122,17 @@ impl OnGrid {
     }
 
     /// Whether the ring of these points is convex, with an area; an error if it has none.
-    pub fn is_convex(&self) -> Result<bool> {
+    pub fn is_convex(&self, grid: Grid) -> Result<bool> {
         let mut ring = self.spots.clone();
         ring.dedup();
         while ring.len() > 1 && ring.first() == ring.last() {
             ring.pop();
         }
         if ring.len() < 3 || signed_area2(&ring)? == 0 {
-            return Err(Fault::new("on this grid the disc has no area: give a smaller --unit"));
+            let unit = grid.unit;
+            let words =
+                format!("on the grid of {unit} the disc has no area: give a smaller --unit");
+            return Err(Fault::new(words));
         }
         let n = ring.len();
         let turns = (0..n).map(|i| turn(ring[i], ring[(i + 1) % n], ring[(i + 2) % n]));

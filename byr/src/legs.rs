@@ -7,7 +7,8 @@ use crate::grid::OnGrid;
 use crate::Result;
 use byrlygent::whole::{clear_move, Ground, Point};
 
-/// The farthest that a leg is set off, in units.
+/// The farthest that a leg is set off, in units: corners of both rings and positions are
+/// each rounded by 0.71 at most, and so is the way aside.
 const ASIDE: i32 = 3;
 
 /// What comes of a leg.
@@ -82,7 +83,8 @@ impl Walk {
 fn asides() -> Vec<Point> {
     let range = || -ASIDE..=ASIDE;
     let mut all: Vec<Point> = range().flat_map(|x| range().map(move |y| (x, y))).collect();
-    all.retain(|off| *off != (0, 0));
-    all.sort_by_key(|(x, y)| x * x + y * y);
+    let squared = |&(x, y): &Point| x * x + y * y;
+    all.retain(|off| (1..=ASIDE * ASIDE).contains(&squared(off)));
+    all.sort_by_key(squared);
     all
 }

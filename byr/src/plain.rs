@@ -28,8 +28,8 @@ pub fn size(length: f64) -> String {
         return "0".into();
     }
     let digits = 2 - length.abs().log10().floor() as i32;
-    if (0..=12).contains(&digits) {
-        let text = format!("{length:.*}", digits as usize);
+    if (-12..=12).contains(&digits) {
+        let text = format!("{length:.*}", digits.max(0) as usize);
         let text = if text.contains('.') { text.trim_end_matches('0') } else { &text };
         return text.trim_end_matches('.').to_string();
     }
@@ -52,6 +52,7 @@ mod tests {
         assert_eq!(size(0.000_123_456), "0.000123");
         assert_eq!(size(1.0), "1");
         assert_eq!(size(300.0), "300");
+        assert_eq!(size(1735.9), "1736");
         assert_eq!(size(1e-20), "1.00e-20");
     }
 }

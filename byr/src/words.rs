@@ -66,11 +66,9 @@ impl Takes {
         if let Some(known) = find(self.flags) {
             return Ok((known, false));
         }
-        let known = [self.valued, self.flags].concat();
-        Err(self.fault(match nearest(name, &known) {
-            Some(like) => format!("no option --{name}: the nearest is --{like}"),
-            None => format!("no option --{name}: it has none"),
-        }))
+        let known = [self.valued, self.flags, &["help"]].concat();
+        let like = nearest(name, &known).unwrap_or("help");
+        Err(self.fault(format!("no option --{name}: the nearest is --{like}")))
     }
 
     /// A fault of the words of this subcommand.

@@ -19,6 +19,9 @@ pub fn called(words: &[String]) -> Result<Said> {
     }
     let points = make_disc(centre, radius, corners / 4)
         .map_err(|refusal| words.fault(refusal.to_string()))?;
+    if words.has("part") && Kind::named(out) != Kind::Book {
+        return Err(words.fault(format!("--part is for a .book, and \"{out}\" is none")));
+    }
     let part = words.value("part").map(|_| words.count("part")).transpose()?;
     let large = |_| words.fault("--part is at most 4294967295");
     let part = part.map(u32::try_from).transpose().map_err(large)?;

@@ -68,8 +68,9 @@ fn outlines(a: &[Point], b: &[Point]) -> String {
         return format!("{counts}the least readings part at corner {longer}, which one has not");
     };
     let [(ax, ay), (bx, by)] = [a[at], b[at]];
-    let [from, to, off] = [a[at], b[at], (bx - ax, by - ay)].map(plain::point);
-    let first = format!("the least readings part at corner {at}, {from} and {to}, by {off}");
+    let [from, to] = [a[at], b[at]].map(plain::point);
+    let [x, y] = [bx - ax, by - ay].map(plain::size);
+    let first = format!("the least readings part at corner {at}, {from} and {to}, by ({x}, {y})");
     if a.len() != b.len() {
         return format!("{counts}{first}");
     }

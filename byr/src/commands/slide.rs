@@ -162,20 +162,26 @@ impl Judged {
         let grid = Grid::of_or_fitting(unit, &places(carrier, disc, path))?;
         let walk =
             Walk { carrier: grid.put(carrier)?, disc: grid.put(disc)?, path: grid.put(path)? };
-        let convex = walk.disc.is_convex()?;
+        let convex = walk.disc.is_convex(grid)?;
         let mut words = on_grid(grid, &walk, asked.has("moved"));
         if !convex {
-            words += "there the disc is not convex, and its hull is asked about\n";
+            words += "there the disc is not convex, and its hull is asked about: clear holds, not \
+                      clear proves nothing\n";
         }
         let legs = walk.legs(closed)?;
         let mut judged = Self { words, warning: None, blocked: None };
-        judged.tell(grid, carrier, path.len(), &legs);
+        let leads = if convex { "leads" } else { "may lead" };
+        judged.tell(grid, carrier, path.len(), &legs, leads);
         Ok(judged)
     }
 
     /// Puts what comes of the legs into words.
-    fn tell(&mut self, grid: Grid, carrier: &[Point], n: usize, legs: &[Leg]) {
-        let aside = legs.iter().filter(|leg| matches!(leg, Leg::Aside(_))).count();
+    fn tell(&mut self, grid: Grid, carrier: &[Point], n: usize, legs: &[Leg], leads: &str) {
+        let asides = legs.iter().filter_map(|leg| match leg {
+            Leg::Aside((x, y)) => Some(f64::from(*x).hypot(f64::from(*y)) * grid.unit()),
+            _ => None,
+        });
+        let (aside, farthest) = (asides.clone().count(), asides.fold(0.0, f64::max));
         let (at, ground) = match legs.last() {
             Some(Leg::Blocked(ground)) => (legs.len() - 1, ground),
             _ => {
@@ -186,7 +192,7 @@ impl Judged {
                     _ => format!(
                         "; {aside} of them {} clear once set off by {} at most, for the rounding\n",
                         if aside == 1 { "is" } else { "are" },
-                        plain::size(3.0 * 2_f64.sqrt() * grid.unit())
+                        plain::size(farthest)
                     ),
                 };
                 return;
@@ -203,7 +209,7 @@ impl Judged {
         };
         let unit = grid.unit();
         self.warning = Some(format!(
-            "WARNING: the leg from point {at} to point {next} leads through the carrier on the \
+            "WARNING: the leg from point {at} to point {next} {leads} through the carrier on the \
              grid of {unit}: {in_way}"
         ));
         self.blocked = Some((at, edge));

@@ -163,7 +163,7 @@ impl Question {
             [&self.carrier[..], &self.start, &[self.by]].map(|of| grid.put(of));
         let (carrier, start, by) = (carrier?, start?, by?);
         let mut words = put_told(grid, &carrier, &start, &by, asked.has("moved"));
-        if !start.is_convex()? {
+        if !start.is_convex(grid)? {
             words += "there the disc is not convex, and its hull is asked about: clear holds, not \
                       clear proves nothing\n";
         }
