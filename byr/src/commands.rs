@@ -5,6 +5,7 @@ mod check;
 mod disc;
 mod inspect;
 mod mend;
+mod report;
 mod same;
 mod show;
 mod slide;
@@ -17,7 +18,7 @@ use crate::{help, Fault, Result, Said};
 type Command = (&'static str, fn(&[String]) -> Result<Said>);
 
 /// All of them, in the order in which a shop uses them.
-const COMMANDS: [Command; 9] = [
+const COMMANDS: [Command; 10] = [
     ("book", book::called),
     ("same", same::called),
     ("show", show::called),
@@ -27,6 +28,7 @@ const COMMANDS: [Command; 9] = [
     ("why", why::called),
     ("check", check::called),
     ("inspect", inspect::called),
+    ("report", report::called),
 ];
 
 /// Does what the words ask for.

@@ -10,7 +10,7 @@ Status: 0 all is well, 1 the answer is no, 2 there is no answer, and a line says
 ";
 
 /// The jobs: the name, the words behind it, what it is for, more about it, an example.
-const JOBS: [[&str; 5]; 9] = [
+const JOBS: [[&str; 5]; 10] = [
     [
         "book",
         "OUT.book IN.. [--part N,..]",
@@ -85,6 +85,18 @@ const JOBS: [[&str; 5]; 9] = [
         "FILE keeps where the next shift starts, and is replaced whole. --new begins one at place 0:\n\
          without it there must be one, of this path and this K. FILE.lock keeps two shifts apart.",
         "byr inspect path.txt --per-shift 5 --state places.state --new",
+    ],
+    [
+        "report",
+        "OUT.html CARRIER DISC [--same OTHER] [--by DX,DY [--at X,Y]]\n\
+         \x20      [--per-shift K [--state FILE]] [--unit U] [--moved] [--tolerance T] [--passes N]\n\
+         \x20      [--least-move L]",
+        "write the auditor's file",
+        "One page that prints, with nothing loaded from outside: the outlines, whether the carrier is\n\
+         the same as OTHER, the slide, why the move is clear or not with every line and how to check\n\
+         it by hand, the inspection plan and what was given out so far, versions and refusals.\n\
+         Status 1: there is a WARNING in it.",
+        "byr report audit.html carrier.wkt disc.wkb --same thursday.txt --at 20,38 --by 10,0 --per-shift 5",
     ],
 ];
 

@@ -12,6 +12,7 @@ mod fault;
 mod files;
 mod grid;
 mod help;
+mod html;
 mod legs;
 mod nearest;
 mod picture;

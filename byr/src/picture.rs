@@ -22,7 +22,7 @@ const STYLE: &str = "<style>\
     polygon, path, circle { fill: none; stroke: #000; stroke-width: 2; stroke-linejoin: round }\
     .still { fill: #ccc }\
     .drawn { fill: #bbb; fill-opacity: .5 }\
-    .swept { fill: #fff; fill-opacity: .7; stroke-width: 1 }\
+    .swept { fill: #fff; stroke-width: 1 }\
     .start { stroke-width: 4 }\
     .end { stroke-width: 4; stroke-dasharray: 11 7 }\
     .path { stroke-width: 2.5 }\

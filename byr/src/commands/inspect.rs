@@ -77,22 +77,49 @@ fn told(after: &State, path: &[Point], places: &[u64], opened: bool) -> String {
     words + &format!("the next shift starts at place {}\n", after.start)
 }
 
+/// What each shift inspects from a new state on, until every place has been.
+pub fn plan(points: u64, per_shift: u64) -> byrlygent::Result<Vec<Vec<u64>>> {
+    let (mut plan, mut start) = (Vec::new(), 0);
+    loop {
+        let shift = next_places(points, per_shift, start)?;
+        start = shift.following;
+        plan.push(shift.places);
+        if (plan.len() as u64).saturating_mul(per_shift) >= points {
+            return Ok(plan);
+        }
+    }
+}
+
+/// What a state says of this path.
+pub fn so_far(file: &str, path: &[Point], per_shift: u64) -> Result<String> {
+    let state = kept(file, path, per_shift)?;
+    let each = per_shift.min(state.points);
+    let covered = state.shifts.saturating_mul(each).min(state.points);
+    let shifts = plain::count(state.shifts as usize, "shift", "shifts");
+    let all = plain::count(path.len(), "place", "places");
+    let start = state.start;
+    Ok(format!("{shifts}, {covered} of {all} given out, the next shift starts at place {start}"))
+}
+
 /// The state in a file, which must be of this path; with --new the first one, where there
 /// must be no file yet.
 fn state(asked: &Words, file: &str, path: &[Point], per_shift: u64) -> Result<State> {
-    let points = path.len() as u64;
-    let first = State { path: sum_of(path), points, per_shift, shifts: 0, start: 0 };
     match (Path::new(file).exists(), asked.has("new")) {
-        (false, true) => return Ok(first),
+        (false, true) => Ok(State::first(path, per_shift)),
         (false, false) => {
-            return Err(Fault::of(file, "there is no such state: --new begins one at place 0"));
+            Err(Fault::of(file, "there is no such state: --new begins one at place 0"))
         }
         (true, true) => {
             let words = "the state is there already: leave --new away to go on, or name another";
-            return Err(Fault::of(file, words));
+            Err(Fault::of(file, words))
         }
-        (true, false) => {}
+        (true, false) => kept(file, path, per_shift),
     }
+}
+
+/// The state in a file, which must be of this path.
+fn kept(file: &str, path: &[Point], per_shift: u64) -> Result<State> {
+    let first = State::first(path, per_shift);
     let state = State::read(&files::read(file)?).map_err(|words| {
         Fault::of(file, format!("{words}: bring back a copy, or begin another with --new"))
     })?;
@@ -109,6 +136,11 @@ fn state(asked: &Words, file: &str, path: &[Point], per_shift: u64) -> Result<St
 }
 
 impl State {
+    /// The state of a path before its first shift.
+    fn first(path: &[Point], per_shift: u64) -> Self {
+        Self { path: sum_of(path), points: path.len() as u64, per_shift, shifts: 0, start: 0 }
+    }
+
     /// The lines before the sum.
     fn lines(&self) -> String {
         let Self { path, points, per_shift, shifts, start } = self;

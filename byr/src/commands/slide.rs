@@ -119,7 +119,7 @@ impl Slide {
         // Where the disc ends its corners may be past the bounds: then none is shown.
         let contacts = find_contacts(carrier, stop, self.settings.contact_tolerance);
         contacts.iter().flatten().for_each(|contact| picture.touch(contact.point));
-        picture.name(first, (-28.0, 4.0), "start");
+        picture.name(first, (0.0, 22.0), "start");
         if !self.is_closed() {
             picture.name(last, (28.0, 4.0), "end");
         }

@@ -8,7 +8,7 @@ use crate::words::{Takes, Words};
 use crate::{files, plain, Result, Said};
 use byrlygent::nfp_sliding::{explain_collision, CollisionEvent, ContactType, Explanation, Ground};
 use byrlygent::whole::{clear_move, Line, Move};
-use byrlygent::Point;
+use byrlygent::{whole, Point};
 
 const TAKES: Takes =
     Takes { command: "why", valued: &["at", "by", "unit", "svg", "tolerance"], flags: &["moved"] };
@@ -20,9 +20,12 @@ struct Question {
     by: Point,
 }
 
-/// The true answer, on a grid.
+/// The true answer, on a grid, with the carrier, the disc at the start and the move there.
 struct Truth {
     grid: Grid,
+    carrier: Vec<whole::Point>,
+    start: Vec<whole::Point>,
+    by: whole::Point,
     answer: Move,
     words: String,
 }
@@ -98,6 +101,25 @@ impl Why {
         }
     }
 
+    /// What was found, in a sentence.
+    pub fn finding(&self) -> String {
+        let [at, by] = [self.at, self.question.by].map(plain::point);
+        let verdict = match (self.is_clear_by_rule(), self.is_clear()) {
+            (_, true) => "is clear: nothing lies in between",
+            (true, false) => "is clear by the rule, and in truth it is not: WARNING",
+            (false, _) => "is not clear: WARNING",
+        };
+        format!("The move by {by} from {at} {verdict}.")
+    }
+
+    /// How to check the reason by hand, where there is one.
+    pub fn by_hand(&self) -> Option<ByHand> {
+        match &self.truth.answer {
+            Move::Clear(reason) => Some(self.truth.by_hand(&reason.lines)),
+            _ => None,
+        }
+    }
+
     /// The move with its lines, or with what is in the way.
     pub fn picture(&self) -> String {
         let (question, truth) = (&self.question, &self.truth);
@@ -108,8 +130,8 @@ impl Why {
         let verdict = |line: &&str| verdicts.iter().any(|begins| line.starts_with(begins));
         let captions: Vec<String> = words.lines().filter(verdict).map(shortened).collect();
         let mut picture = Picture::over(&all, "Is the move clear?", &captions);
-        picture.ring(carrier, "still");
         picture.ring(&hull(&[&start[..], &end].concat()), "swept");
+        picture.ring(carrier, "still");
         if let Move::Edge(edge) = truth.answer {
             picture.told(carrier, edge);
         }
@@ -128,12 +150,85 @@ impl Why {
     }
 }
 
+/// What a person needs to check a reason: the rules, and the numbers in units.
+pub struct ByHand {
+    /// The rules, and an edge worked out.
+    pub rules: Vec<String>,
+    /// Tables with their headings.
+    pub tables: Vec<(String, String)>,
+}
+
+/// On which side of the line from p to q a point lies: above 0 left, below 0 right.
+fn side(line: &Line, v: whole::Point) -> i64 {
+    let [px, py, qx, qy] = [line.p.0, line.p.1, line.q.0, line.q.1].map(i64::from);
+    let [vx, vy] = [v.0, v.1].map(i64::from);
+    (qx - px) * (vy - py) - (qy - py) * (vx - px)
+}
+
 /// The verdict of a line, without the lines that it announces.
 fn shortened(line: &str) -> String {
     line.split(", and these lines").next().unwrap_or(line).to_string()
 }
 
 impl Truth {
+    /// The rules of the check with these lines, and the numbers that they need.
+    fn by_hand(&self, lines: &[Line]) -> ByHand {
+        let end: Vec<whole::Point> =
+            self.start.iter().map(|spot| (spot.0 + self.by.0, spot.1 + self.by.1)).collect();
+        let way = [&self.start[..], &end].concat();
+        let n = self.carrier.len();
+        let edge = |at: usize| (self.carrier[at], self.carrier[(at + 1) % n]);
+        let low = way.iter().map(|spot| spot.1).min().unwrap_or(0);
+        let through = |a: whole::Point, b: whole::Point| a.1 <= low && low < b.1;
+        let rising = || lines.iter().enumerate().filter(|(_, line)| line.p.1 < line.q.1);
+        let ups = rising().filter(|(at, _)| through(edge(*at).0, edge(*at).1)).count();
+        let downs = rising().filter(|(at, _)| through(edge(*at).1, edge(*at).0)).count();
+        let least = way.iter().map(|&v| side(&lines[0], v)).min().unwrap_or(0);
+        let ends = [edge(0).0, edge(0).1].map(|v| side(&lines[0], v));
+        let unit = self.grid.unit();
+        let rules = vec![
+            format!(
+                "All numbers are whole, in units of {unit}. For a line from p to q and a corner v \
+                 work out (q.x - p.x) * (v.y - p.y) - (q.y - p.y) * (v.x - p.x): above 0 the \
+                 corner lies left of the line, below 0 right of it, and 0 on it."
+            ),
+            "For each edge take its line. Every corner of the disc, at the start and at the end \
+             of the move, must give 0 or more; both ends of the edge 0 or less; and p and q must \
+             be two points."
+                .to_string(),
+            format!(
+                "Worked out for edge 0, with the line {}: the least of the disc's corners gives \
+                 {least}, the ends of the edge give {} and {}.",
+                lines[0], ends[0], ends[1]
+            ),
+            format!(
+                "Then take the edges whose line rises, p.y below q.y. Of these as many must come up \
+                 through the lowest height of the disc's corners, {low}, from it or below to above \
+                 it, as go down through it. Here {ups} come up and {downs} go down."
+            ),
+            "If all this is so, at no time of the move does a point of an edge lie inside the \
+             disc, and at every time each point inside the disc is outside the carrier: that is \
+             proved, whoever made the lines."
+                .to_string(),
+        ];
+        let list = |spots: &[whole::Point]| -> String {
+            let line =
+                |(at, spot): (usize, &whole::Point)| format!("{at:>4}  {} {}\n", spot.0, spot.1);
+            spots.iter().enumerate().map(line).collect()
+        };
+        let line = |(at, line): (usize, &Line)| format!("{at:>4}  {line}\n");
+        let tables = vec![
+            (
+                "The lines, p.x p.y q.x q.y, by edge".into(),
+                lines.iter().enumerate().map(line).collect(),
+            ),
+            ("The carrier's corners: edge 0 leads from 0 to 1".into(), list(&self.carrier)),
+            ("The disc's corners at the start".into(), list(&self.start)),
+            ("The disc's corners at the end".into(), list(&end)),
+        ];
+        ByHand { rules, tables }
+    }
+
     /// The lines of the reason as they lie in the plane, no two alike.
     fn lines(&self) -> impl Iterator<Item = (Point, Point)> + '_ {
         let mut lines: Vec<Line> = Vec::new();
@@ -169,7 +264,8 @@ impl Question {
         }
         let answer = clear_move(&carrier.spots, &start.spots, by.spots[0])?;
         words += &self.answered(&answer);
-        Ok(Truth { grid, answer, words })
+        let by = by.spots[0];
+        Ok(Truth { grid, carrier: carrier.spots, start: start.spots, by, answer, words })
     }
 
     /// The true answer in words, with every line of its reason.
