@@ -3,9 +3,18 @@
 
 use byrlygent::Point;
 
+/// A number: in decimals, or with an exponent where these would fill a line with zeros.
+pub fn number(x: f64) -> String {
+    if x == 0.0 || (1e-6..1e16).contains(&x.abs()) {
+        format!("{x}")
+    } else {
+        format!("{x:e}")
+    }
+}
+
 /// A point.
 pub fn point((x, y): Point) -> String {
-    format!("({x}, {y})")
+    format!("({}, {})", number(x), number(y))
 }
 
 /// So many of a thing.
@@ -38,12 +47,23 @@ pub fn size(length: f64) -> String {
 
 /// The points, two numbers a line.
 pub fn lines(points: &[Point]) -> String {
-    points.iter().map(|(x, y)| format!("{x} {y}\n")).collect()
+    points.iter().map(|(x, y)| format!("{} {}\n", number(*x), number(*y))).collect()
 }
 
 #[cfg(test)]
 mod tests {
-    use super::size;
+    use super::{number, size};
+
+    #[test]
+    fn a_number_reads_back_to_its_bits() {
+        for bits in
+            [0, 1 << 63, 1, 0x0010_0000_0000_0000, 0x3fb9_9999_9999_999a, 0x412e_847f_ffff_ffff]
+        {
+            let text = number(f64::from_bits(bits));
+            assert_eq!(text.parse().map(f64::to_bits), Ok(bits), "{text}");
+            assert!(text.len() < 26, "{text}");
+        }
+    }
 
     #[test]
     fn a_size_has_three_digits() {

@@ -1,5 +1,6 @@
 //! Well-known text: a polygon of one ring, `POLYGON ((0 0, 4 0, 0 3, 0 0))`.
 
+use crate::plain;
 use crate::text::{number, shortened, Wrong};
 use byrlygent::Point;
 
@@ -116,7 +117,7 @@ fn opening(rest: &mut Rest) -> Result<(), Wrong> {
 
 /// The ring as well-known text, closed.
 pub fn written(ring: &[Point]) -> String {
-    let point = |(x, y): &Point| format!("{x} {y}");
+    let point = |(x, y): &Point| format!("{} {}", plain::number(*x), plain::number(*y));
     let points: Vec<String> = ring.iter().chain(ring.first()).map(point).collect();
     format!("POLYGON (({}))\n", points.join(", "))
 }

@@ -40,23 +40,25 @@ fn printed(command: &str, folder: &Path) -> String {
         .current_dir(folder)
         .output()
         .expect("a shell");
-    let text = String::from_utf8(output.stdout).expect("text");
+    let mut text = String::from_utf8(output.stdout).expect("text");
+    if !text.is_empty() && !text.ends_with('\n') {
+        text.push('\n');
+    }
     match output.status.code() {
         Some(0) => text,
         status => format!("{text}status {}\n", status.expect("no signal")),
     }
 }
 
-/// The session with what its commands print now.
+/// The session with what its commands print now: `$` begins a command, `##` a remark.
 fn replayed(session: &str, folder: &Path) -> String {
-    let kept = |line: &&str| line.starts_with("$ ") || line.starts_with("# ") || line.is_empty();
     let mut text = String::new();
-    let lines: Vec<&str> = session.lines().collect();
-    for (at, line) in lines.iter().enumerate() {
+    for line in session.lines() {
         if let Some(command) = line.strip_prefix("$ ") {
             text += &format!("{line}\n{}", printed(command, folder));
-        } else if kept(line) && (at == 0 || line.starts_with("# ") || line.is_empty()) {
-            text += &format!("{line}\n");
+        } else if line.starts_with("## ") {
+            let gap = if text.is_empty() { "" } else { "\n" };
+            text += &format!("{gap}{line}\n");
         }
     }
     text

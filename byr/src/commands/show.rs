@@ -57,7 +57,7 @@ fn table(points: &[Point]) -> String {
     let rows: Vec<[String; 3]> = points
         .iter()
         .enumerate()
-        .map(|(at, (x, y))| [at.to_string(), x.to_string(), y.to_string()])
+        .map(|(at, (x, y))| [at.to_string(), plain::number(*x), plain::number(*y)])
         .collect();
     let width = |column: usize| rows.iter().map(|row| row[column].len()).max().unwrap_or(0);
     let [a, b, c] = [0, 1, 2].map(width);
