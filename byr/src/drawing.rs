@@ -317,9 +317,9 @@ fn bounded(points: &[(usize, Point)]) -> std::result::Result<(), String> {
     let far = |(_, (x, y)): &&(usize, Point)| !(x.abs() <= LARGEST && y.abs() <= LARGEST);
     match points.iter().find(far) {
         None => Ok(()),
-        Some((line, _)) => {
-            Err(format!("line {line}: a coordinate is not from -1000000 to 1000000"))
-        }
+        Some((line, _)) => Err(format!(
+            "line {line}: a coordinate is not from -1000000 to 1000000: move or scale it"
+        )),
     }
 }
 

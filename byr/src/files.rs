@@ -40,7 +40,9 @@ pub fn write(name: &str, bytes: &[u8]) -> Result<()> {
     let place = place(name)?;
     let wrong = |error: io::Error| Fault::of(name, format!("not written: {}", spoken(&error)));
     let beside = beside(&place);
-    let written = written(&beside, bytes).and_then(|()| fs::rename(&beside, &place));
+    let written = written(&beside, bytes)
+        .and_then(|()| same_rights(&place, &beside))
+        .and_then(|()| fs::rename(&beside, &place));
     if written.is_err() {
         // What could be written of it is of no use to anyone.
         let _ = fs::remove_file(&beside);
@@ -75,6 +77,14 @@ fn written(beside: &Path, bytes: &[u8]) -> io::Result<()> {
     let mut file = File::create(beside)?;
     file.write_all(bytes)?;
     file.sync_all()
+}
+
+/// Gives a new file the rights of the one that it replaces, if there is one.
+fn same_rights(place: &Path, beside: &Path) -> io::Result<()> {
+    match fs::metadata(place) {
+        Ok(old) => fs::set_permissions(beside, old.permissions()),
+        Err(_) => Ok(()),
+    }
 }
 
 /// Waits until the disc has the folder's new entry.

@@ -5,8 +5,8 @@ use crate::{plain, Fault, Result};
 use byrlygent::whole::{is_simple_polygon, signed_area2, turn};
 use byrlygent::{whole, Point};
 
-/// Most units of a coordinate, with room for a leg that is set off.
-const MOST: f64 = 999_990.0;
+/// Most units of a coordinate.
+const MOST: f64 = 1e6;
 
 /// A grid.
 #[derive(Debug, Clone, Copy, PartialEq)]
@@ -153,7 +153,7 @@ mod tests {
         assert_eq!(put.spots, [(300, -1500), (12_000, 3517)]);
         assert_eq!(put.moved, [0.0, 0.0]);
         assert!(grid.put(&[(0.0004, 0.0)]).expect("in bounds").is_moved());
-        assert!(grid.put(&[(1000.0, 0.0)]).is_err());
+        assert!(grid.put(&[(1000.001, 0.0)]).is_err());
     }
 
     #[test]
@@ -161,7 +161,9 @@ mod tests {
         let unit = |points: &[(f64, f64)]| Grid::of_or_fitting(None, points).map(Grid::unit);
         assert_eq!(unit(&[(3.0, -7.0)]), Ok(1.0));
         assert_eq!(unit(&[(3.5, -7.0)]), Ok(1e-5));
-        assert_eq!(unit(&[(1e6, 0.5)]), Ok(10.0));
+        assert_eq!(unit(&[(1e6, -1e6)]), Ok(1.0));
+        assert_eq!(unit(&[(1e6, 0.5)]), Ok(1.0));
+        assert_eq!(unit(&[(1e6 + 0.5, 0.0)]), Ok(10.0));
     }
 
     #[test]

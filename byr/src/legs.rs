@@ -64,7 +64,8 @@ impl Walk {
             return Ok(Leg::Blocked(ground));
         }
         for off in asides() {
-            if self.ground((from.0 + off.0, from.1 + off.1), by)? == Ground::Clear {
+            // Past the bounds there is no answer, and another way aside is tried.
+            if let Ok(Ground::Clear) = self.ground((from.0 + off.0, from.1 + off.1), by) {
                 return Ok(Leg::Aside(off));
             }
         }
@@ -73,14 +74,17 @@ impl Walk {
 
     /// The ground of a move from a position.
     fn ground(&self, at: Point, by: Point) -> Result<Ground> {
-        let start: Vec<Point> =
-            self.disc.spots.iter().map(|spot| (spot.0 + at.0, spot.1 + at.1)).collect();
-        Ok(clear_move(&self.carrier.spots, &start, by)?.ground())
+        Ok(clear_move(&self.carrier.spots, &placed(&self.disc.spots, at), by)?.ground())
     }
 }
 
+/// The ring with this much added to its corners.
+pub fn placed(ring: &[Point], (x, y): Point) -> Vec<Point> {
+    ring.iter().map(|spot| (spot.0 + x, spot.1 + y)).collect()
+}
+
 /// The ways to set a leg off, the shortest first.
-fn asides() -> Vec<Point> {
+pub fn asides() -> Vec<Point> {
     let range = || -ASIDE..=ASIDE;
     let mut all: Vec<Point> = range().flat_map(|x| range().map(move |y| (x, y))).collect();
     let squared = |&(x, y): &Point| x * x + y * y;

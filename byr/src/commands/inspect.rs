@@ -41,6 +41,9 @@ pub fn called(words: &[String]) -> Result<Said> {
     let Some(file) = asked.value("state") else {
         return Err(asked.fault("--state is missing: it keeps where the next shift starts"));
     };
+    if file == "-" {
+        return Err(asked.fault("--state is a file's name, and standard output is none"));
+    }
     let (path, opened) = read_path(name)?;
     let _lock = lock(file)?;
     let state = state(&asked, file, &path, per_shift)?;
@@ -50,7 +53,8 @@ pub fn called(words: &[String]) -> Result<Said> {
     let told = told(&after, &path, &shift.places, opened);
     print(&told)
         .map_err(|error| Fault::new(format!("standard output: {error}: the state is as it was")))?;
-    files::write(file, after.written().as_bytes())?;
+    files::write(file, after.written().as_bytes())
+        .map_err(|fault| Fault::new(format!("{fault}: the places above count as not given out")))?;
     Ok(Said::well(String::new()))
 }
 
@@ -200,7 +204,8 @@ fn sum_of(path: &[Point]) -> u64 {
 /// Holds the state for this shift alone, until the file that is handed out is dropped: the
 /// system takes it back even from a shift that is killed.
 fn lock(state: &str) -> Result<File> {
-    let name = format!("{state}.lock");
+    let place = std::fs::canonicalize(state).unwrap_or_else(|_| state.into());
+    let name = format!("{}.lock", place.display());
     let wrong = |error: std::io::Error| Fault::of(&name, error);
     let file = OpenOptions::new().create(true).append(true).open(&name).map_err(wrong)?;
     let begun = Instant::now();

@@ -150,7 +150,8 @@ pub struct Judged {
 }
 
 impl Judged {
-    /// What the grid that is asked for, or the finest that fits, says of the legs.
+    /// What the grid that is asked for, or the finest that fits, says of the legs; where
+    /// none was asked for and none can answer, that is told.
     pub fn of(
         asked: &Words,
         carrier: &[Point],
@@ -160,6 +161,22 @@ impl Judged {
     ) -> Result<Self> {
         let unit = asked.value("unit").map(|_| asked.number("unit")).transpose()?;
         let grid = Grid::of_or_fitting(unit, &places(carrier, disc, path))?;
+        match (Self::on(grid, asked, [carrier, disc, path], closed), unit) {
+            (Err(fault), None) => {
+                let words = format!("WARNING: whether the way is clear is not known: {fault}");
+                Ok(Self { words: String::new(), warning: Some(words), blocked: None })
+            }
+            (judged, _) => judged,
+        }
+    }
+
+    /// What this grid says of the legs.
+    fn on(
+        grid: Grid,
+        asked: &Words,
+        [carrier, disc, path]: [&[Point]; 3],
+        closed: bool,
+    ) -> Result<Self> {
         let walk =
             Walk { carrier: grid.put(carrier)?, disc: grid.put(disc)?, path: grid.put(path)? };
         let convex = walk.disc.is_convex(grid)?;

@@ -3,6 +3,7 @@
 use super::slide::{edge_told, moved};
 use crate::drawing::read_ring;
 use crate::grid::{Grid, OnGrid};
+use crate::legs::{asides, placed};
 use crate::picture::Picture;
 use crate::words::{Takes, Words};
 use crate::{files, plain, Result, Said};
@@ -126,7 +127,8 @@ impl Why {
         let (carrier, start, end) = (&question.carrier, &question.start, question.end());
         let all = [&carrier[..], start, &end].concat();
         let words = self.words();
-        let verdicts = ["by the rule", "on the grid", "all corners", "in truth", "WARNING"];
+        let verdicts =
+            ["by the rule", "on the grid", "all corners", "for the", "in truth", "WARNING"];
         let verdict = |line: &&str| verdicts.iter().any(|begins| line.starts_with(begins));
         let captions: Vec<String> = words.lines().filter(verdict).map(shortened).collect();
         let mut picture = Picture::over(&all, "Is the move clear?", &captions);
@@ -173,8 +175,7 @@ fn shortened(line: &str) -> String {
 impl Truth {
     /// The rules of the check with these lines, and the numbers that they need.
     fn by_hand(&self, lines: &[Line]) -> ByHand {
-        let end: Vec<whole::Point> =
-            self.start.iter().map(|spot| (spot.0 + self.by.0, spot.1 + self.by.1)).collect();
+        let end = placed(&self.start, self.by);
         let way = [&self.start[..], &end].concat();
         let n = self.carrier.len();
         let edge = |at: usize| (self.carrier[at], self.carrier[(at + 1) % n]);
@@ -262,10 +263,22 @@ impl Question {
             words += "there the disc is not convex, and its hull is asked about: clear holds, not \
                       clear proves nothing\n";
         }
-        let answer = clear_move(&carrier.spots, &start.spots, by.spots[0])?;
+        let exact = !(carrier.is_moved() || start.is_moved() || by.is_moved());
+        let (carrier, mut start, by) = (carrier.spots, start.spots, by.spots[0]);
+        let mut answer = clear_move(&carrier, &start, by)?;
+        if !exact && !matches!(answer, Move::Clear(_)) {
+            if let Some((off, reason)) = set_off(&carrier, &start, by) {
+                start = placed(&start, off);
+                answer = reason;
+                let far = plain::size(f64::from(off.0).hypot(f64::from(off.1)) * grid.unit());
+                words += &format!(
+                    "for the rounding the disc is set off by {} {} units, {far}\n",
+                    off.0, off.1
+                );
+            }
+        }
         words += &self.answered(&answer);
-        let by = by.spots[0];
-        Ok(Truth { grid, carrier: carrier.spots, start: start.spots, by, answer, words })
+        Ok(Truth { grid, carrier, start, by, answer, words })
     }
 
     /// The true answer in words, with every line of its reason.
@@ -317,6 +330,19 @@ impl Question {
             _ => self.carrier[hit.stationary_idx],
         }
     }
+}
+
+/// The nearest way aside from which a move is clear, with that answer.
+fn set_off(
+    carrier: &[whole::Point],
+    start: &[whole::Point],
+    by: whole::Point,
+) -> Option<(whole::Point, Move)> {
+    let clear = |off: whole::Point| match clear_move(carrier, &placed(start, off), by) {
+        Ok(answer @ Move::Clear(_)) => Some((off, answer)),
+        _ => None,
+    };
+    asides().into_iter().find_map(clear)
 }
 
 /// What is said of the grid.
