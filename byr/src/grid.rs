@@ -103,13 +103,18 @@ impl OnGrid {
         self.moved.iter().any(|&by| by > 0.0)
     }
 
+    /// The farthest that one of them moved.
+    pub fn farthest(&self) -> f64 {
+        self.moved.iter().copied().fold(0.0, f64::max)
+    }
+
     /// How far they moved, in words.
     pub fn told(&self, one: &str, several: &str) -> String {
         let moved = self.moved.iter().filter(|&&by| by > 0.0).count();
         if moved == 0 {
             return format!("no {one} moved");
         }
-        let most = self.moved.iter().copied().fold(0.0, f64::max);
+        let most = self.farthest();
         let at = self.moved.iter().position(|&by| by == most).unwrap_or(0);
         let all = plain::count(self.moved.len(), one, several);
         format!("{moved} of {all} moved, {one} {at} farthest, by {}", plain::size(most))

@@ -1,15 +1,11 @@
-//! The legs of a path on the grid, each asked whether nothing lies in between. Positions
-//! that were put on the grid lie up to a unit nearer than they did, so a leg that is not
-//! clear as it stands is asked again a few units aside, all of it: clear there means that
-//! it is clear but for the rounding of the grid.
+//! The legs of a path on the grid, each asked whether nothing lies in between. What was
+//! put on the grid may lie nearer than it did, so a leg that is not clear as it stands is
+//! asked again aside, all of it, by no more than all moved to get there: clear there means
+//! that it is clear but for the rounding of the grid.
 
-use crate::grid::OnGrid;
+use crate::grid::{Grid, OnGrid};
 use crate::Result;
 use byrlygent::whole::{clear_move, Ground, Point};
-
-/// The farthest that a leg is set off, in units: corners of both rings and positions are
-/// each rounded by 0.71 at most, and so is the way aside.
-const ASIDE: i32 = 3;
 
 /// What comes of a leg.
 #[derive(Debug, Clone, Copy, PartialEq, Eq)]
@@ -24,6 +20,8 @@ pub enum Leg {
 
 /// The carrier, the disc as drawn and a path, on one grid.
 pub struct Walk {
+    /// The grid.
+    pub grid: Grid,
     /// The ring that stays.
     pub carrier: OnGrid,
     /// The ring that moves, as drawn.
@@ -60,10 +58,7 @@ impl Walk {
         if ground == Ground::Clear {
             return Ok(Leg::Clear);
         }
-        if self.is_exact() {
-            return Ok(Leg::Blocked(ground));
-        }
-        for off in asides() {
+        for off in asides(self.grid, &[&self.carrier, &self.disc, &self.path]) {
             // Past the bounds there is no answer, and another way aside is tried.
             if let Ok(Ground::Clear) = self.ground((from.0 + off.0, from.1 + off.1), by) {
                 return Ok(Leg::Aside(off));
@@ -83,12 +78,18 @@ pub fn placed(ring: &[Point], (x, y): Point) -> Vec<Point> {
     ring.iter().map(|spot| (spot.0 + x, spot.1 + y)).collect()
 }
 
-/// The ways to set a leg off, the shortest first.
-pub fn asides() -> Vec<Point> {
-    let range = || -ASIDE..=ASIDE;
-    let mut all: Vec<Point> = range().flat_map(|x| range().map(move |y| (x, y))).collect();
+/// The ways to set a leg off, the shortest first: as far as these moved to get to the
+/// grid, all together, and once more to a neighbour on it; none where nothing moved.
+pub fn asides(grid: Grid, all: &[&OnGrid]) -> Vec<Point> {
+    let moved: f64 = all.iter().map(|on| on.farthest()).sum::<f64>() / grid.unit();
+    if moved == 0.0 {
+        return Vec::new();
+    }
+    let most = moved + std::f64::consts::FRAC_1_SQRT_2;
+    let range = || -3..=3;
     let squared = |&(x, y): &Point| x * x + y * y;
-    all.retain(|off| (1..=ASIDE * ASIDE).contains(&squared(off)));
+    let mut all: Vec<Point> = range().flat_map(|x| range().map(move |y| (x, y))).collect();
+    all.retain(|off| squared(off) > 0 && f64::from(squared(off)).sqrt() <= most);
     all.sort_by_key(squared);
     all
 }

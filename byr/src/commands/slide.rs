@@ -177,8 +177,12 @@ impl Judged {
         [carrier, disc, path]: [&[Point]; 3],
         closed: bool,
     ) -> Result<Self> {
-        let walk =
-            Walk { carrier: grid.put(carrier)?, disc: grid.put(disc)?, path: grid.put(path)? };
+        let walk = Walk {
+            grid,
+            carrier: grid.put(carrier)?,
+            disc: grid.put(disc)?,
+            path: grid.put(path)?,
+        };
         let convex = walk.disc.is_convex(grid)?;
         let mut words = on_grid(grid, &walk, asked.has("moved"));
         if !convex {

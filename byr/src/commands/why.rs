@@ -28,6 +28,8 @@ struct Truth {
     start: Vec<whole::Point>,
     by: whole::Point,
     answer: Move,
+    /// Whether the disc is set off for the rounding.
+    aside: bool,
     words: String,
 }
 
@@ -106,6 +108,7 @@ impl Why {
     pub fn finding(&self) -> String {
         let [at, by] = [self.at, self.question.by].map(plain::point);
         let verdict = match (self.is_clear_by_rule(), self.is_clear()) {
+            (_, true) if self.truth.aside => "is clear but for the rounding of the grid",
             (_, true) => "is clear: nothing lies in between",
             (true, false) => "is clear by the rule, and in truth it is not: WARNING",
             (false, _) => "is not clear: WARNING",
@@ -263,22 +266,22 @@ impl Question {
             words += "there the disc is not convex, and its hull is asked about: clear holds, not \
                       clear proves nothing\n";
         }
-        let exact = !(carrier.is_moved() || start.is_moved() || by.is_moved());
+        let asides = asides(grid, &[&carrier, &start, &by]);
         let (carrier, mut start, by) = (carrier.spots, start.spots, by.spots[0]);
         let mut answer = clear_move(&carrier, &start, by)?;
-        if !exact && !matches!(answer, Move::Clear(_)) {
-            if let Some((off, reason)) = set_off(&carrier, &start, by) {
-                start = placed(&start, off);
-                answer = reason;
-                let far = plain::size(f64::from(off.0).hypot(f64::from(off.1)) * grid.unit());
-                words += &format!(
-                    "for the rounding the disc is set off by {} {} units, {far}\n",
-                    off.0, off.1
-                );
-            }
+        let mut aside = None;
+        if !matches!(answer, Move::Clear(_)) {
+            aside = set_off(asides, &carrier, &start, by);
+        }
+        if let Some((off, reason)) = &aside {
+            start = placed(&start, *off);
+            answer = reason.clone();
+            let far = plain::size(f64::from(off.0).hypot(f64::from(off.1)) * grid.unit());
+            let units = format!("{} {} units", off.0, off.1);
+            words += &format!("for the rounding the disc is set off by {units}, {far}\n");
         }
         words += &self.answered(&answer);
-        Ok(Truth { grid, carrier, start, by, answer, words })
+        Ok(Truth { grid, carrier, start, by, answer, aside: aside.is_some(), words })
     }
 
     /// The true answer in words, with every line of its reason.
@@ -334,6 +337,7 @@ impl Question {
 
 /// The nearest way aside from which a move is clear, with that answer.
 fn set_off(
+    asides: Vec<whole::Point>,
     carrier: &[whole::Point],
     start: &[whole::Point],
     by: whole::Point,
@@ -342,7 +346,7 @@ fn set_off(
         Ok(answer @ Move::Clear(_)) => Some((off, answer)),
         _ => None,
     };
-    asides().into_iter().find_map(clear)
+    asides.into_iter().find_map(clear)
 }
 
 /// What is said of the grid.
