@@ -283,9 +283,9 @@ fn like_wkb(bytes: &[u8]) -> bool {
 /// The ring of a text: opened, if its last point repeats the first.
 fn text_ring(mut points: Vec<(usize, Point)>) -> std::result::Result<Ring, String> {
     bounded(&points)?;
-    let repeated = |points: &[(usize, Point)]| matches!((points.first(), points.last()), (Some((_, a)), Some((_, b))) if a == b);
     // As `open_ring` does it, which takes no ring that has 257 points before it is opened.
-    let opened = points.len() > 3 && repeated(&points);
+    let ends = [points.first(), points.last()].map(|end| end.map(|(_, point)| *point));
+    let opened = points.len() > 3 && ends[0] == ends[1];
     if opened {
         points.pop();
     }

@@ -104,7 +104,8 @@ const JOBS: [[&str; 5]; 10] = [
 pub fn all() -> String {
     let job = |[name, _, what, ..]: &[&str; 5]| format!("  {name:<9}{what}\n");
     let jobs: String = JOBS.iter().map(job).collect();
-    format!("byr JOB ..: outlines of parts, kept, compared, slid and inspected\n\n{jobs}\n{FILES}\nbyr help JOB says more.\n")
+    let what = "byr JOB ..: outlines of parts, kept, compared, slid and inspected";
+    format!("{what}\n\n{jobs}\n{FILES}\nbyr help JOB says more.\n")
 }
 
 /// The help for one.

@@ -6,6 +6,7 @@
 //! The status is 0 where all is well, 1 where the answer is no (not the same, not clear,
 //! not closed, a fault), and 2 where there is no answer: then one line says why.
 
+mod by_hand;
 mod commands;
 pub mod drawing;
 mod fault;

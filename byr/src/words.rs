@@ -31,20 +31,7 @@ impl Takes {
             if word == "--" {
                 files.extend(rest.by_ref().cloned());
             } else if let Some(option) = word.strip_prefix("--") {
-                let (name, joined) = match option.split_once('=') {
-                    Some((name, value)) => (name, Some(value.to_string())),
-                    None => (option, None),
-                };
-                let (name, valued) = self.option(name)?;
-                let value = match (valued, joined) {
-                    (false, None) => String::new(),
-                    (false, Some(_)) => return Err(self.fault(format!("--{name} has no value"))),
-                    (true, Some(value)) => value,
-                    (true, None) => rest
-                        .next()
-                        .cloned()
-                        .ok_or_else(|| self.fault(format!("--{name} needs a value behind it")))?,
-                };
+                let (name, value) = self.given(option, &mut rest)?;
                 if options.iter().any(|(known, _)| *known == name) {
                     return Err(self.fault(format!("--{name} is given twice")));
                 }
@@ -54,6 +41,29 @@ impl Takes {
             }
         }
         Ok(Words { command: self.command, files, options })
+    }
+
+    /// An option with its value: behind an equals sign, or the next word.
+    fn given<'a>(
+        &self,
+        option: &str,
+        rest: &mut impl Iterator<Item = &'a String>,
+    ) -> Result<(&'static str, String)> {
+        let (name, joined) = match option.split_once('=') {
+            Some((name, value)) => (name, Some(value.to_string())),
+            None => (option, None),
+        };
+        let (name, valued) = self.option(name)?;
+        let value = match (valued, joined) {
+            (false, None) => String::new(),
+            (false, Some(_)) => return Err(self.fault(format!("--{name} has no value"))),
+            (true, Some(value)) => value,
+            (true, None) => {
+                let missing = || self.fault(format!("--{name} needs a value behind it"));
+                rest.next().cloned().ok_or_else(missing)?
+            }
+        };
+        Ok((name, value))
     }
 
     /// The option of this name, and whether it has a value.

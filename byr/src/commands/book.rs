@@ -9,6 +9,7 @@ const TAKES: Takes = Takes { command: "book", valued: &["part"], flags: &[] };
 /// A ring with the name that it was asked for by.
 type Named = (String, Ring);
 
+/// Puts the drawings that the words name into a book, and tells each ring.
 pub fn called(words: &[String]) -> Result<Said> {
     let words = TAKES.read(words)?;
     let [out, drawings @ ..] = words.all_files() else {

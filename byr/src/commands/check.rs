@@ -8,6 +8,7 @@ use byrlygent::nfp_sliding::{check_path, Fault as First};
 
 const TAKES: Takes = Takes { command: "check", valued: &["unit", "tolerance"], flags: &["moved"] };
 
+/// The first fault of the path that the words name, and its first leg that is not clear.
 pub fn called(words: &[String]) -> Result<Said> {
     let asked = TAKES.read(words)?;
     let [carrier, disc, name] = asked.files(["CARRIER", "DISC", "PATH"])?;
@@ -40,7 +41,8 @@ fn told(fault: First, path: &[byrlygent::Point]) -> String {
         First::Blocked(at) => {
             let next = (at + 1) % path.len();
             let [from, to] = [path[at], path[next]].map(plain::point);
-            format!("not accepted: the leg from point {at}, {from}, to point {next}, {to}, runs into something")
+            let leg = format!("the leg from point {at}, {from}, to point {next}, {to},");
+            format!("not accepted: {leg} runs into something")
         }
     }
 }

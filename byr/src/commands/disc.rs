@@ -8,6 +8,7 @@ use byrlygent::discs::make_disc;
 const TAKES: Takes =
     Takes { command: "disc", valued: &["centre", "radius", "corners", "part"], flags: &[] };
 
+/// Makes the disc that the words ask for.
 pub fn called(words: &[String]) -> Result<Said> {
     let words = TAKES.read(words)?;
     let [out] = words.files(["OUT"])?;

@@ -34,6 +34,7 @@ struct State {
     start: u64,
 }
 
+/// The places of this shift, once the state is kept for the next one.
 pub fn called(words: &[String]) -> Result<Said> {
     let asked = TAKES.read(words)?;
     let [name] = asked.files(["PATH"])?;

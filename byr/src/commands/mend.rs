@@ -7,6 +7,7 @@ use byrlygent::polygon_ops::{mend_ring, Dropped, Why};
 
 const TAKES: Takes = Takes { command: "mend", valued: &[], flags: &[] };
 
+/// Mends the drawing that the words name, and tells each point that goes.
 pub fn called(words: &[String]) -> Result<Said> {
     let asked = TAKES.read(words)?;
     let [name, out] = asked.files(["IN", "OUT"])?;

@@ -26,6 +26,7 @@ const TAKES: Takes = Takes {
     flags: &["moved"],
 };
 
+/// Writes the auditor's file for the carrier and the disc that the words name.
 pub fn called(words: &[String]) -> Result<Said> {
     let asked = TAKES.read(words)?;
     let [out, carrier, disc] = asked.files(["OUT.html", "CARRIER", "DISC"])?;
@@ -144,10 +145,10 @@ impl Report {
         self.findings.push(why.finding());
         if let Some(hand) = why.by_hand() {
             self.page.smaller_heading("How to check it by hand");
-            hand.rules.iter().for_each(|rule| self.page.paragraph(rule));
-            for (heading, lines) in &hand.tables {
+            hand.rules().iter().for_each(|rule| self.page.paragraph(rule));
+            for (heading, lines) in hand.tables() {
                 self.page.smaller_heading(heading);
-                self.page.columns(lines);
+                self.page.columns(&lines);
             }
         }
         Ok(())

@@ -8,6 +8,7 @@ use byrlygent::Point;
 
 const TAKES: Takes = Takes { command: "same", valued: &[], flags: &[] };
 
+/// Whether the two drawings that the words name are the same outlines.
 pub fn called(words: &[String]) -> Result<Said> {
     let words = TAKES.read(words)?;
     let [a, b] = words.files(["A", "B"])?;

@@ -10,6 +10,7 @@ use byrlygent::Point;
 
 const TAKES: Takes = Takes { command: "show", valued: &["svg"], flags: &[] };
 
+/// The table of the drawing that the words name, and its picture if it is asked for.
 pub fn called(words: &[String]) -> Result<Said> {
     let asked = TAKES.read(words)?;
     let [name] = asked.files(["F"])?;

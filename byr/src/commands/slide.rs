@@ -18,6 +18,7 @@ const TAKES: Takes = Takes {
     flags: &["moved"],
 };
 
+/// Slides the disc that the words name round its carrier.
 pub fn called(words: &[String]) -> Result<Said> {
     let asked = TAKES.read(words)?;
     let [carrier, disc] = asked.files(["CARRIER", "DISC"])?;

@@ -1,6 +1,7 @@
 //! Why is a move clear, or not?
 
 use super::slide::{edge_told, moved};
+use crate::by_hand::ByHand;
 use crate::drawing::read_ring;
 use crate::grid::{Grid, OnGrid};
 use crate::legs::{asides, placed};
@@ -33,6 +34,7 @@ struct Truth {
     words: String,
 }
 
+/// Why the move that the words ask for is clear, or not.
 pub fn called(words: &[String]) -> Result<Said> {
     let asked = TAKES.read(words)?;
     let [carrier, disc] = asked.files(["CARRIER", "DISC"])?;
@@ -117,9 +119,15 @@ impl Why {
     }
 
     /// How to check the reason by hand, where there is one.
-    pub fn by_hand(&self) -> Option<ByHand> {
+    pub fn by_hand(&self) -> Option<ByHand<'_>> {
         match &self.truth.answer {
-            Move::Clear(reason) => Some(self.truth.by_hand(&reason.lines)),
+            Move::Clear(reason) => Some(ByHand {
+                unit: self.truth.grid.unit(),
+                lines: &reason.lines,
+                carrier: &self.truth.carrier,
+                start: &self.truth.start,
+                end: placed(&self.truth.start, self.truth.by),
+            }),
             _ => None,
         }
     }
@@ -155,84 +163,12 @@ impl Why {
     }
 }
 
-/// What a person needs to check a reason: the rules, and the numbers in units.
-pub struct ByHand {
-    /// The rules, and an edge worked out.
-    pub rules: Vec<String>,
-    /// Tables with their headings.
-    pub tables: Vec<(String, String)>,
-}
-
-/// On which side of the line from p to q a point lies: above 0 left, below 0 right.
-fn side(line: &Line, v: whole::Point) -> i64 {
-    let [px, py, qx, qy] = [line.p.0, line.p.1, line.q.0, line.q.1].map(i64::from);
-    let [vx, vy] = [v.0, v.1].map(i64::from);
-    (qx - px) * (vy - py) - (qy - py) * (vx - px)
-}
-
 /// The verdict of a line, without the lines that it announces.
 fn shortened(line: &str) -> String {
     line.split(", and these lines").next().unwrap_or(line).to_string()
 }
 
 impl Truth {
-    /// The rules of the check with these lines, and the numbers that they need.
-    fn by_hand(&self, lines: &[Line]) -> ByHand {
-        let end = placed(&self.start, self.by);
-        let way = [&self.start[..], &end].concat();
-        let n = self.carrier.len();
-        let edge = |at: usize| (self.carrier[at], self.carrier[(at + 1) % n]);
-        let low = way.iter().map(|spot| spot.1).min().unwrap_or(0);
-        let through = |a: whole::Point, b: whole::Point| a.1 <= low && low < b.1;
-        let rising = || lines.iter().enumerate().filter(|(_, line)| line.p.1 < line.q.1);
-        let ups = rising().filter(|(at, _)| through(edge(*at).0, edge(*at).1)).count();
-        let downs = rising().filter(|(at, _)| through(edge(*at).1, edge(*at).0)).count();
-        let least = way.iter().map(|&v| side(&lines[0], v)).min().unwrap_or(0);
-        let ends = [edge(0).0, edge(0).1].map(|v| side(&lines[0], v));
-        let unit = self.grid.unit();
-        let rules = vec![
-            format!(
-                "All numbers are whole, in units of {unit}. For a line from p to q and a corner v \
-                 work out (q.x - p.x) * (v.y - p.y) - (q.y - p.y) * (v.x - p.x): above 0 the \
-                 corner lies left of the line, below 0 right of it, and 0 on it."
-            ),
-            "For each edge take its line. Every corner of the disc, at the start and at the end \
-             of the move, must give 0 or more; both ends of the edge 0 or less; and p and q must \
-             be two points."
-                .to_string(),
-            format!(
-                "Worked out for edge 0, with the line {}: the least of the disc's corners gives \
-                 {least}, the ends of the edge give {} and {}.",
-                lines[0], ends[0], ends[1]
-            ),
-            format!(
-                "Then take the edges whose line rises, p.y below q.y. Of these as many must come up \
-                 through the lowest height of the disc's corners, {low}, from it or below to above \
-                 it, as go down through it. Here {ups} come up and {downs} go down."
-            ),
-            "If all this is so, at no time of the move does a point of an edge lie inside the \
-             disc, and at every time each point inside the disc is outside the carrier: that is \
-             proved, whoever made the lines."
-                .to_string(),
-        ];
-        let list = |spots: &[whole::Point]| -> String {
-            let line =
-                |(at, spot): (usize, &whole::Point)| format!("{at:>4}  {} {}\n", spot.0, spot.1);
-            spots.iter().enumerate().map(line).collect()
-        };
-        let line = |(at, line): (usize, &Line)| format!("{at:>4}  {line}\n");
-        let tables = vec![
-            (
-                "The lines, p.x p.y q.x q.y, by edge".into(),
-                lines.iter().enumerate().map(line).collect(),
-            ),
-            ("The carrier's corners: edge 0 leads from 0 to 1".into(), list(&self.carrier)),
-            ("The disc's corners at the start".into(), list(&self.start)),
-            ("The disc's corners at the end".into(), list(&end)),
-        ];
-        ByHand { rules, tables }
-    }
-
     /// The lines of the reason as they lie in the plane, no two alike.
     fn lines(&self) -> impl Iterator<Item = (Point, Point)> + '_ {
         let mut lines: Vec<Line> = Vec::new();
