@@ -47,6 +47,8 @@ pub struct Picture {
     top: f64,
     height: f64,
     parts: String,
+    /// The words, which lie over all parts, and where they are.
+    words: String,
     labels: Vec<Point>,
 }
 
@@ -63,9 +65,9 @@ impl Picture {
         let top = 18.0 + LINE * (captions.len() + 1) as f64 + MARGIN;
         let height = top + (high.1 - low.1) * scale + MARGIN;
         let left = MARGIN + (room - (high.0 - low.0) * scale) / 2.0;
-        let parts = String::new();
+        let (parts, words) = (String::new(), String::new());
         let title = title.to_string();
-        Self { title, captions, low, scale, left, top, height, parts, labels: Vec::new() }
+        Self { title, captions, low, scale, left, top, height, parts, words, labels: Vec::new() }
     }
 
     /// Where a point lies in the picture, whose heights grow downwards.
@@ -202,7 +204,7 @@ impl Picture {
         self.labels.push(place);
         let (x, y) = (digits(place.0), digits(place.1 + 5.0));
         let words = escaped(words);
-        self.parts += &format!(
+        self.words += &format!(
             "<text class=\"{class}\" x=\"{x}\" y=\"{y}\" text-anchor=\"middle\">{words}</text>\n"
         );
     }
@@ -224,8 +226,8 @@ impl Picture {
             "<svg xmlns=\"http://www.w3.org/2000/svg\" viewBox=\"0 0 {width} {height}\" \
              width=\"{width}\" height=\"{height}\" role=\"img\">\n<title>{title}</title>\n\
              <desc>{told}</desc>\n{STYLE}<rect width=\"{width}\" height=\"{height}\" \
-             fill=\"#fff\"/>\n{}{captions}</svg>\n",
-            self.parts
+             fill=\"#fff\"/>\n{}{}{captions}</svg>\n",
+            self.parts, self.words
         )
     }
 }
