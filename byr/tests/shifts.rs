@@ -98,3 +98,20 @@ fn a_shift_that_holds_the_state_is_waited_for_or_told() {
     drop(lock);
     assert!(shift(&folder, false).status().expect("run").success());
 }
+
+#[test]
+fn a_shift_that_is_stopped_as_it_writes_leaves_the_old_state() {
+    let folder = folder("stopped", 24);
+    assert!(shift(&folder, true).status().expect("run").success());
+    let state = fs::read(folder.join("places.state")).expect("a state");
+    // No file may grow here: the system kills the shift in the middle of the new state.
+    let script = "ulimit -f 0; exec \"$0\" inspect path.txt --per-shift 5 --state places.state";
+    let mut stopped = Command::new("sh");
+    stopped.args(["-c", script, env!("CARGO_BIN_EXE_byr")]).current_dir(&folder);
+    let output = stopped.output().expect("run");
+    assert!(!output.status.success(), "{output:?}");
+    assert_eq!(fs::read(folder.join("places.state")).expect("a state"), state);
+    let next = shift(&folder, false).output().expect("run");
+    assert_eq!(places(&next.stdout), places(&output.stdout));
+    assert_eq!(places(&next.stdout), [5, 6, 7, 8, 9]);
+}
