@@ -1,0 +1,214 @@
+//! The auditor's file: outlines, sameness, the slide, the reason with every line, the
+//! inspection plan, versions and refusals, in one page that prints.
+
+use super::{inspect, same, show, slide::Slide, why::Why};
+use crate::drawing::{read, read_ring};
+use crate::html::{page, Sections};
+use crate::words::{Takes, Words};
+use crate::{files, help, plain, Result, Said};
+use byrlygent::nfp_sliding::StopReason;
+use byrlygent::wkb::Fault as Wrong;
+use byrlygent::{Entries, List, Point, Refusal};
+
+const TAKES: Takes = Takes {
+    command: "report",
+    valued: &[
+        "same",
+        "at",
+        "by",
+        "unit",
+        "per-shift",
+        "state",
+        "tolerance",
+        "passes",
+        "least-move",
+    ],
+    flags: &["moved"],
+};
+
+/// Writes the auditor's file for the carrier and the disc that the words name.
+pub fn called(words: &[String]) -> Result<Said> {
+    let asked = TAKES.read(words)?;
+    let [out, carrier, disc] = asked.files(["OUT.html", "CARRIER", "DISC"])?;
+    if !out.ends_with(".html") {
+        return Err(asked.fault(format!("a report is called .html, and \"{out}\" is not")));
+    }
+    if [carrier, disc].contains(&"-") || asked.value("same") == Some("-") {
+        return Err(asked.fault("files are read more than once: standard input cannot be"));
+    }
+    if asked.has("at") && !asked.has("by") {
+        return Err(asked.fault("--at is for a move, and --by is missing"));
+    }
+    if asked.has("state") && !asked.has("per-shift") {
+        return Err(asked.fault("--state is for an inspection, and --per-shift is missing"));
+    }
+    let mut report = Report::default();
+    report.outlines(&[carrier, disc])?;
+    report.sameness(&asked, carrier)?;
+    let path = report.slide(&asked, carrier, disc)?;
+    report.reason(&asked, carrier, disc)?;
+    report.inspection(&asked, &path)?;
+    report.refusals();
+    let Report { page: sections, findings } = report;
+    let page = page("Outlines, slide and inspection", &[front(&findings, carrier, disc), sections]);
+    files::write(out, page.as_bytes())?;
+    let lines: String = findings.iter().map(|finding| format!("{finding}\n")).collect();
+    let yes = !findings.iter().any(|finding| finding.contains("WARNING"));
+    Ok(Said { words: format!("{lines}{out}: the report, {} bytes\n", page.len()), yes })
+}
+
+/// The front: what was found, in the order of the sections.
+fn front(findings: &[String], carrier: &str, disc: &str) -> Sections {
+    let mut front = Sections::default();
+    let version = help::version();
+    front.paragraph(&format!(
+        "A disc, {disc}, and its carrier, {carrier}. Made by {}.",
+        version.trim_end()
+    ));
+    front.heading("What was found");
+    findings.iter().for_each(|finding| front.paragraph(finding));
+    front.paragraph("Checked by: ______________________   on: ______________");
+    front
+}
+
+/// A report in the making, and what was found.
+#[derive(Default)]
+struct Report {
+    page: Sections,
+    findings: Vec<String>,
+}
+
+impl Report {
+    /// The outlines, each with its table and its picture.
+    fn outlines(&mut self, names: &[&str]) -> Result<()> {
+        self.page.heading("The outlines");
+        self.page.paragraph("The decimals read back to the same bits. Corners count from 0.");
+        for name in names {
+            let drawing = read(name)?;
+            let words = show::shown(&drawing)?;
+            let (head, table): (Vec<&str>, Vec<&str>) =
+                words.lines().partition(|line| !line.starts_with(' '));
+            self.page.smaller_heading(name);
+            self.page.lines(&head.join("\n"));
+            self.page.picture(&show::picture(&drawing)?);
+            self.page.columns(&table.join("\n"));
+        }
+        Ok(())
+    }
+
+    /// Whether the carrier is the same outline as another.
+    fn sameness(&mut self, asked: &Words, carrier: &str) -> Result<()> {
+        let Some(other) = asked.value("same") else { return Ok(()) };
+        let said = same::compared(carrier, other)?;
+        self.page.heading("Are they the same outline?");
+        self.page.paragraph(&format!(
+            "{carrier} and {other}, wherever they were begun and whichever way round they go."
+        ));
+        self.page.lines(&said.words);
+        self.findings.push(match said.yes {
+            true => format!("{carrier} and {other} are the same outline."),
+            false => format!("WARNING: {carrier} and {other} are not the same outline."),
+        });
+        Ok(())
+    }
+
+    /// The slide, with its path, which is handed out.
+    fn slide(&mut self, asked: &Words, carrier: &str, disc: &str) -> Result<Vec<Point>> {
+        let slide = Slide::of(asked, read_ring(carrier)?.points, read_ring(disc)?.points)?;
+        self.page.heading("The slide");
+        self.page.paragraph(
+            "What the given rule traces, and then what is so: each leg of the path is asked on a \
+             grid whether nothing lies in between.",
+        );
+        self.page.lines(&slide.words());
+        self.page.picture(&slide.picture());
+        self.page.smaller_heading("The points of the path");
+        let point = |(at, p): (usize, &Point)| format!("{at:>4}  {}", plain::point(*p));
+        let points: Vec<String> = slide.path().iter().enumerate().map(point).collect();
+        self.page.columns(&points.join("\n"));
+        if slide.warnings.is_empty() {
+            self.findings.push("The slide comes round, and nothing lies in between.".into());
+        }
+        self.findings.extend(slide.warnings.iter().cloned());
+        Ok(slide.path().to_vec())
+    }
+
+    /// Why a move is clear, or not, and how to check it by hand.
+    fn reason(&mut self, asked: &Words, carrier: &str, disc: &str) -> Result<()> {
+        if !asked.has("by") {
+            return Ok(());
+        }
+        let why = Why::of(asked, read_ring(carrier)?.points, &read_ring(disc)?.points)?;
+        self.page.heading("Why is the move clear, or not?");
+        self.page.lines(&why.words());
+        self.page.picture(&why.picture());
+        self.findings.push(why.finding());
+        if let Some(hand) = why.by_hand() {
+            self.page.smaller_heading("How to check it by hand");
+            hand.rules().iter().for_each(|rule| self.page.paragraph(rule));
+            for (heading, lines) in hand.tables() {
+                self.page.smaller_heading(heading);
+                self.page.columns(&lines);
+            }
+        }
+        Ok(())
+    }
+
+    /// Which shift inspects which places, and what has been given out so far.
+    fn inspection(&mut self, asked: &Words, path: &[Point]) -> Result<()> {
+        if !asked.has("per-shift") {
+            return Ok(());
+        }
+        let per_shift = asked.count("per-shift")?;
+        let plan = inspect::plan(path.len() as u64, per_shift)
+            .map_err(|refusal| asked.fault(refusal.to_string()))?;
+        self.page.heading("The inspection");
+        let so_far = match asked.value("state") {
+            Some(file) => inspect::so_far(file, path, per_shift)?,
+            None => "no shift has been given out yet, or no --state was named".to_string(),
+        };
+        self.page.paragraph(&format!(
+            "The path has {}, and {per_shift} are inspected a shift: after {} every place has \
+             been, whatever shift was the first. So far: {so_far}.",
+            plain::count(path.len(), "place", "places"),
+            plain::count(plan.len(), "shift", "shifts"),
+        ));
+        let row = |(at, places): (usize, &Vec<u64>)| {
+            let places: Vec<String> = places.iter().map(u64::to_string).collect();
+            vec![(at + 1).to_string(), places.join(", ")]
+        };
+        let rows: Vec<Vec<String>> = plan.iter().enumerate().map(row).collect();
+        self.page.table(&["shift", "places of the path"], &rows);
+        self.findings.push(format!("Inspection: {so_far}."));
+        Ok(())
+    }
+
+    /// The refusals, each with an example of what it says.
+    fn refusals(&mut self) {
+        self.page.heading("What is refused, and in what words");
+        self.page.paragraph(
+            "A question that cannot be answered is refused by its number, never answered wrongly. \
+             1, 4 and 5 speak of lists and rooms that this command always lends whole.",
+        );
+        let row = |refusal: Refusal| vec![refusal.number().to_string(), refusal.to_string()];
+        self.page.table(&["number", "for example"], &examples().map(row));
+    }
+}
+
+/// A refusal of each number.
+fn examples() -> [Refusal; 10] {
+    let few = Entries { list: List::Orbiting, has: 2, least: 3, most: 256 };
+    let many = Entries { has: 257, ..few };
+    [
+        Refusal::Number,
+        Refusal::Setting,
+        Refusal::ShortPath { passes: 0, stop: StopReason::Passes },
+        Refusal::Book { place: 40 },
+        Refusal::Few(few),
+        Refusal::Many(many),
+        Refusal::Wkb { place: 5, fault: Wrong::Rings(2) },
+        Refusal::Remaining,
+        Refusal::Quarter(3),
+        Refusal::Inspection,
+    ]
+}

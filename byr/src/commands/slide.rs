@@ -1,0 +1,276 @@
+//! Slides a disc round its carrier.
+
+use crate::drawing::read_ring;
+use crate::grid::Grid;
+use crate::legs::{Leg, Walk};
+use crate::picture::Picture;
+use crate::words::{Takes, Words};
+use crate::{files, plain, Result, Said};
+use byrlygent::nfp_sliding::{
+    compute_nfp_sliding, find_contacts, Nfp, SlidingNfpConfig, StopReason,
+};
+use byrlygent::whole::Ground;
+use byrlygent::Point;
+
+const TAKES: Takes = Takes {
+    command: "slide",
+    valued: &["path", "svg", "unit", "tolerance", "passes", "least-move"],
+    flags: &["moved"],
+};
+
+/// Slides the disc that the words name round its carrier.
+pub fn called(words: &[String]) -> Result<Said> {
+    let asked = TAKES.read(words)?;
+    let [carrier, disc] = asked.files(["CARRIER", "DISC"])?;
+    let slide = Slide::of(&asked, read_ring(carrier)?.points, read_ring(disc)?.points)?;
+    let mut words = slide.words();
+    if let Some(out) = asked.value("path") {
+        files::write(out, slide.path_file().as_bytes())?;
+        let points = plain::count(slide.path().len(), "point", "points");
+        words += &format!("path: {out}, {points}\n");
+    }
+    if let Some(out) = asked.value("svg") {
+        files::write(out, slide.picture().as_bytes())?;
+        words += &format!("picture: {out}\n");
+    }
+    Ok(Said { words, yes: slide.warnings.is_empty() })
+}
+
+/// A slide, and what is said of it.
+pub struct Slide {
+    carrier: Vec<Point>,
+    disc: Vec<Point>,
+    settings: SlidingNfpConfig,
+    nfp: Nfp,
+    judged: Judged,
+    /// What nobody may miss.
+    pub warnings: Vec<String>,
+}
+
+impl Slide {
+    /// The slide of a disc round its carrier, with the settings that are asked for.
+    pub fn of(asked: &Words, carrier: Vec<Point>, disc: Vec<Point>) -> Result<Self> {
+        let settings = settings(asked)?;
+        let nfp = compute_nfp_sliding(&carrier, &disc, &settings)?;
+        let closed = nfp.stop == StopReason::Closed;
+        let judged = Judged::of(asked, &carrier, &disc, &nfp.polygons[0], closed)?;
+        let open = format!("WARNING: the path is not closed: the trace ended {}", nfp.stop);
+        let warnings = (!closed).then_some(open).into_iter().chain(judged.warning.clone());
+        let warnings = warnings.collect();
+        Ok(Self { carrier, disc, settings, nfp, judged, warnings })
+    }
+
+    /// Its path.
+    pub fn path(&self) -> &[Point] {
+        &self.nfp.polygons[0]
+    }
+
+    /// Whether it came round.
+    fn is_closed(&self) -> bool {
+        self.nfp.stop == StopReason::Closed
+    }
+
+    /// What is said of it.
+    pub fn words(&self) -> String {
+        let warnings: String = self.warnings.iter().map(|line| format!("{line}\n")).collect();
+        format!("{}{}{warnings}", self.traced(), self.judged.words)
+    }
+
+    /// What is said of the trace.
+    fn traced(&self) -> String {
+        let path = self.path();
+        let [first, last] = [path[0], path[path.len() - 1]].map(plain::point);
+        let (disc, carrier) = (plain::corners(self.disc.len()), plain::corners(self.carrier.len()));
+        let points = plain::count(path.len(), "point", "points");
+        let passes = plain::count(self.nfp.passes as usize, "pass", "passes");
+        let (limit, stop) = (self.settings.max_iterations, self.nfp.stop);
+        format!(
+            "a disc of {disc} slides round a carrier of {carrier}\n\
+             the path has {points}, from {first} to {last}\n\
+             {passes} of at most {limit}, ended {stop}\n"
+        )
+    }
+
+    /// The path as text, with its warnings in front.
+    fn path_file(&self) -> String {
+        let head: String = self.warnings.iter().map(|warning| format!("# {warning}\n")).collect();
+        let words = "# the x and y by which the disc, as drawn, is moved";
+        format!("{head}{words}\n{}", plain::lines(self.path()))
+    }
+
+    /// Carrier and path, with the disc where it starts and where it ends.
+    pub fn picture(&self) -> String {
+        let (path, carrier) = (self.path(), &self.carrier);
+        let (first, last) = (path[0], path[path.len() - 1]);
+        let [start, end] = [first, last].map(|at| moved(&self.disc, at));
+        let swept = path.iter().flat_map(|&at| moved(&self.disc, at));
+        let seen: Vec<Point> = carrier.iter().copied().chain(swept).collect();
+        let captions: Vec<String> = self.words().lines().map(String::from).collect();
+        let mut picture = Picture::over(&seen, "A disc slides round its carrier", &captions);
+        picture.ring(carrier, "still");
+        if let Some((_, Some(edge))) = self.judged.blocked {
+            picture.told(carrier, edge);
+        }
+        picture.ring(&start, "start");
+        if !self.is_closed() {
+            picture.ring(&end, "end");
+        }
+        picture.path(path, self.is_closed());
+        let stop = if self.is_closed() { &start } else { &end };
+        // Where the disc ends its corners may be past the bounds: then none is shown.
+        let contacts = find_contacts(carrier, stop, self.settings.contact_tolerance);
+        contacts.iter().flatten().for_each(|contact| picture.touch(contact.point));
+        picture.name(first, (0.0, 22.0), "start");
+        if !self.is_closed() {
+            picture.name(last, (28.0, 4.0), "end");
+        }
+        picture.corner_numbers(carrier);
+        picture.finished()
+    }
+}
+
+/// The settings of a trace, the library's own where none are given.
+pub fn settings(words: &Words) -> Result<SlidingNfpConfig> {
+    let own = SlidingNfpConfig::default();
+    let passes = words.count_or("passes", own.max_iterations as u64)?;
+    Ok(SlidingNfpConfig {
+        contact_tolerance: words.number_or("tolerance", own.contact_tolerance)?,
+        max_iterations: usize::try_from(passes).unwrap_or(usize::MAX),
+        min_translation: words.number_or("least-move", own.min_translation)?,
+    })
+}
+
+/// What the grid says of a path's legs.
+pub struct Judged {
+    /// In words.
+    pub words: String,
+    /// That a leg leads through the carrier, if one does.
+    pub warning: Option<String>,
+    /// That leg, and the edge in its way if there is one.
+    pub blocked: Option<(usize, Option<usize>)>,
+}
+
+impl Judged {
+    /// What the grid that is asked for, or the finest that fits, says of the legs; where
+    /// none was asked for and none can answer, that is told.
+    pub fn of(
+        asked: &Words,
+        carrier: &[Point],
+        disc: &[Point],
+        path: &[Point],
+        closed: bool,
+    ) -> Result<Self> {
+        let unit = asked.value("unit").map(|_| asked.number("unit")).transpose()?;
+        let grid = Grid::of_or_fitting(unit, &places(carrier, disc, path))?;
+        match (Self::on(grid, asked, [carrier, disc, path], closed), unit) {
+            (Err(fault), None) => {
+                let words = format!("WARNING: whether the way is clear is not known: {fault}");
+                Ok(Self { words: String::new(), warning: Some(words), blocked: None })
+            }
+            (judged, _) => judged,
+        }
+    }
+
+    /// What this grid says of the legs.
+    fn on(
+        grid: Grid,
+        asked: &Words,
+        [carrier, disc, path]: [&[Point]; 3],
+        closed: bool,
+    ) -> Result<Self> {
+        let walk = Walk {
+            grid,
+            carrier: grid.put(carrier)?,
+            disc: grid.put(disc)?,
+            path: grid.put(path)?,
+        };
+        let convex = walk.disc.is_convex(grid)?;
+        let mut words = on_grid(grid, &walk, asked.has("moved"));
+        if !convex {
+            words += "there the disc is not convex, and its hull is asked about: clear holds, not \
+                      clear proves nothing\n";
+        }
+        let legs = walk.legs(closed)?;
+        let mut judged = Self { words, warning: None, blocked: None };
+        let leads = if convex { "leads" } else { "may lead" };
+        judged.tell(grid, carrier, path.len(), &legs, leads);
+        Ok(judged)
+    }
+
+    /// Puts what comes of the legs into words.
+    fn tell(&mut self, grid: Grid, carrier: &[Point], n: usize, legs: &[Leg], leads: &str) {
+        let asides = legs.iter().filter_map(|leg| match leg {
+            Leg::Aside((x, y)) => Some(f64::from(*x).hypot(f64::from(*y)) * grid.unit()),
+            _ => None,
+        });
+        let (aside, farthest) = (asides.clone().count(), asides.fold(0.0, f64::max));
+        let (at, ground) = match legs.last() {
+            Some(Leg::Blocked(ground)) => (legs.len() - 1, ground),
+            _ => {
+                let count = plain::count(legs.len(), "leg", "legs");
+                self.words += &format!("on it nothing lies in between on any of {count}");
+                self.words += &match aside {
+                    0 => "\n".to_string(),
+                    _ => format!(
+                        "; {aside} of them {} clear once set off by {} at most, for the rounding\n",
+                        if aside == 1 { "is" } else { "are" },
+                        plain::size(farthest)
+                    ),
+                };
+                return;
+            }
+        };
+        let next = (at + 1) % n;
+        let edge = match ground {
+            Ground::Edge(edge) => Some(*edge),
+            _ => None,
+        };
+        let in_way = match edge {
+            Some(edge) => edge_told(carrier, edge),
+            None => "the disc lies within the carrier".to_string(),
+        };
+        let unit = grid.unit();
+        self.warning = Some(format!(
+            "WARNING: the leg from point {at} to point {next} {leads} through the carrier on the \
+             grid of {unit}: {in_way}"
+        ));
+        self.blocked = Some((at, edge));
+    }
+}
+
+/// An edge in the way, by its ends.
+pub fn edge_told(carrier: &[Point], edge: usize) -> String {
+    let [a, b] = [carrier[edge], carrier[(edge + 1) % carrier.len()]].map(plain::point);
+    format!("edge {edge} of the carrier, from {a} to {b}, is in the way")
+}
+
+/// The carrier's corners, and the disc's at every position.
+fn places(carrier: &[Point], disc: &[Point], path: &[Point]) -> Vec<Point> {
+    let at = |&(x, y): &Point| disc.iter().map(move |&(dx, dy)| (dx + x, dy + y));
+    carrier.iter().chain(disc).chain(path).copied().chain(path.iter().flat_map(at)).collect()
+}
+
+/// What is said of the grid, and how far all moved to get there.
+fn on_grid(grid: Grid, walk: &Walk, each: bool) -> String {
+    let unit = grid.unit();
+    if walk.is_exact() {
+        return format!("all corners and points are on the grid of {unit} already\n");
+    }
+    let mut words = format!(
+        "on the grid of {unit}: carrier, {}; disc, {}; path, {}\n",
+        walk.carrier.told("corner", "corners"),
+        walk.disc.told("corner", "corners"),
+        walk.path.told("point", "points"),
+    );
+    if each {
+        words += &walk.carrier.each("carrier's corner");
+        words += &walk.disc.each("disc's corner");
+        words += &walk.path.each("path's point");
+    }
+    words
+}
+
+/// The ring moved to a position.
+pub fn moved(ring: &[Point], (x, y): Point) -> Vec<Point> {
+    ring.iter().map(|&(rx, ry)| (rx + x, ry + y)).collect()
+}

@@ -1,0 +1,339 @@
+//! Why is a move clear, or not?
+
+use super::slide::{edge_told, moved};
+use crate::by_hand::ByHand;
+use crate::drawing::read_ring;
+use crate::grid::{Grid, OnGrid};
+use crate::legs::{asides, placed};
+use crate::picture::Picture;
+use crate::words::{Takes, Words};
+use crate::{files, plain, Result, Said};
+use byrlygent::nfp_sliding::{explain_collision, CollisionEvent, ContactType, Explanation, Ground};
+use byrlygent::whole::{clear_move, Line, Move};
+use byrlygent::{whole, Point};
+
+const TAKES: Takes =
+    Takes { command: "why", valued: &["at", "by", "unit", "svg", "tolerance"], flags: &["moved"] };
+
+/// A question: the carrier, the disc where the move starts, and the move.
+struct Question {
+    carrier: Vec<Point>,
+    start: Vec<Point>,
+    by: Point,
+}
+
+/// The true answer, on a grid, with the carrier, the disc at the start and the move there.
+struct Truth {
+    grid: Grid,
+    carrier: Vec<whole::Point>,
+    start: Vec<whole::Point>,
+    by: whole::Point,
+    answer: Move,
+    /// Whether the disc is set off for the rounding.
+    aside: bool,
+    words: String,
+}
+
+/// Why the move that the words ask for is clear, or not.
+pub fn called(words: &[String]) -> Result<Said> {
+    let asked = TAKES.read(words)?;
+    let [carrier, disc] = asked.files(["CARRIER", "DISC"])?;
+    let why = Why::of(&asked, read_ring(carrier)?.points, &read_ring(disc)?.points)?;
+    let mut words = why.words();
+    if let Some(out) = asked.value("svg") {
+        files::write(out, why.picture().as_bytes())?;
+        words += &format!("picture: {out}\n");
+    }
+    Ok(Said { words, yes: why.is_clear() })
+}
+
+/// A question with both its answers.
+pub struct Why {
+    question: Question,
+    at: Point,
+    rule: Explanation,
+    truth: Truth,
+}
+
+impl Why {
+    /// The answers to what is asked.
+    pub fn of(asked: &Words, carrier: Vec<Point>, disc: &[Point]) -> Result<Self> {
+        let (at, by) = (asked.point_or_origin("at")?, asked.point("by")?);
+        let question = Question { carrier, start: moved(disc, at), by };
+        let tolerance = asked.number_or("tolerance", 1e-6)?;
+        let rule = explain_collision(&question.carrier, &question.start, by, tolerance)?;
+        let truth = question.truth(asked)?;
+        Ok(Self { question, at, rule, truth })
+    }
+
+    /// Whether the rule says clear.
+    fn is_clear_by_rule(&self) -> bool {
+        !matches!(self.rule.ground, Ground::Hit { .. })
+    }
+
+    /// Whether both say clear.
+    pub fn is_clear(&self) -> bool {
+        self.is_clear_by_rule() && matches!(self.truth.answer, Move::Clear(_))
+    }
+
+    /// What is said of it.
+    pub fn words(&self) -> String {
+        let [at, by] = [self.at, self.question.by].map(plain::point);
+        let mut words = format!("the disc as drawn, moved to {at}, goes on by {by}\n");
+        words += &format!("by the rule: {}\n", self.ruled());
+        words += &self.truth.words;
+        if self.is_clear_by_rule() && !self.is_clear() {
+            words += "WARNING: the rule says clear, and the move is not\n";
+        }
+        words
+    }
+
+    /// What the rule says.
+    fn ruled(&self) -> String {
+        let Explanation { ground, too_near, between, too_far } = self.rule;
+        let counts = format!("hits: {too_near} too near, {between} between, {too_far} too far");
+        match ground {
+            Ground::Hit { hit, others } => {
+                let (pair, distance) = (self.question.pair(&hit), hit.distance);
+                let others = match others {
+                    0 => "no other pair is hit there".to_string(),
+                    1 => "1 other pair is hit there".to_string(),
+                    _ => format!("{others} other pairs are hit there"),
+                };
+                format!("not clear: {pair} after {distance}; {others} ({counts})")
+            }
+            clear => format!("clear by ground {}: {clear} ({counts})", clear.number()),
+        }
+    }
+
+    /// What was found, in a sentence.
+    pub fn finding(&self) -> String {
+        let [at, by] = [self.at, self.question.by].map(plain::point);
+        let verdict = match (self.is_clear_by_rule(), self.is_clear()) {
+            (_, true) if self.truth.aside => "is clear but for the rounding of the grid",
+            (_, true) => "is clear: nothing lies in between",
+            (true, false) => "is clear by the rule, and in truth it is not: WARNING",
+            (false, _) => "is not clear: WARNING",
+        };
+        format!("The move by {by} from {at} {verdict}.")
+    }
+
+    /// How to check the reason by hand, where there is one.
+    pub fn by_hand(&self) -> Option<ByHand<'_>> {
+        match &self.truth.answer {
+            Move::Clear(reason) => Some(ByHand {
+                unit: self.truth.grid.unit(),
+                lines: &reason.lines,
+                carrier: &self.truth.carrier,
+                start: &self.truth.start,
+                end: placed(&self.truth.start, self.truth.by),
+            }),
+            _ => None,
+        }
+    }
+
+    /// The move with its lines, or with what is in the way.
+    pub fn picture(&self) -> String {
+        let (question, truth) = (&self.question, &self.truth);
+        let (carrier, start, end) = (&question.carrier, &question.start, question.end());
+        let all = [&carrier[..], start, &end].concat();
+        let words = self.words();
+        let verdicts =
+            ["by the rule", "on the grid", "all corners", "for the", "in truth", "WARNING"];
+        let verdict = |line: &&str| verdicts.iter().any(|begins| line.starts_with(begins));
+        let captions: Vec<String> = words.lines().filter(verdict).map(shortened).collect();
+        let mut picture = Picture::over(&all, "Is the move clear?", &captions);
+        picture.ring(&hull(&[&start[..], &end].concat()), "swept");
+        picture.ring(carrier, "still");
+        if let Move::Edge(edge) = truth.answer {
+            picture.told(carrier, edge);
+        }
+        picture.ring(start, "start");
+        picture.ring(&end, "end");
+        truth.lines().for_each(|(p, q)| picture.line(p, q));
+        if let Ground::Hit { hit, .. } = self.rule.ground {
+            picture.touch(question.met(&hit));
+        }
+        let middle = middle(start);
+        picture.arrow(middle, question.by);
+        picture.name(middle, (0.0, -14.0), "start");
+        picture.name((middle.0 + question.by.0, middle.1 + question.by.1), (0.0, 24.0), "end");
+        picture.corner_numbers(carrier);
+        picture.finished()
+    }
+}
+
+/// The verdict of a line, without the lines that it announces.
+fn shortened(line: &str) -> String {
+    line.split(", and these lines").next().unwrap_or(line).to_string()
+}
+
+impl Truth {
+    /// The lines of the reason as they lie in the plane, no two alike.
+    fn lines(&self) -> impl Iterator<Item = (Point, Point)> + '_ {
+        let mut lines: Vec<Line> = Vec::new();
+        if let Move::Clear(reason) = &self.answer {
+            reason.lines.iter().for_each(|line| {
+                if !lines.contains(line) {
+                    lines.push(*line);
+                }
+            });
+        }
+        lines.into_iter().map(|line| (self.grid.in_plane(line.p), self.grid.in_plane(line.q)))
+    }
+}
+
+impl Question {
+    /// The disc at the end of the move.
+    fn end(&self) -> Vec<Point> {
+        moved(&self.start, self.by)
+    }
+
+    /// The true answer on the grid that is asked for, or the finest that fits.
+    fn truth(&self, asked: &Words) -> Result<Truth> {
+        let unit = asked.value("unit").map(|_| asked.number("unit")).transpose()?;
+        let all = [&self.carrier[..], &self.start, &self.end(), &[self.by]].concat();
+        let grid = Grid::of_or_fitting(unit, &all)?;
+        let [carrier, start, by] =
+            [&self.carrier[..], &self.start, &[self.by]].map(|of| grid.put(of));
+        let (carrier, start, by) = (carrier?, start?, by?);
+        let mut words = put_told(grid, &carrier, &start, &by, asked.has("moved"));
+        if !start.is_convex(grid)? {
+            words += "there the disc is not convex, and its hull is asked about: clear holds, not \
+                      clear proves nothing\n";
+        }
+        let asides = asides(grid, &[&carrier, &start, &by]);
+        let (carrier, mut start, by) = (carrier.spots, start.spots, by.spots[0]);
+        let mut answer = clear_move(&carrier, &start, by)?;
+        let mut aside = None;
+        if !matches!(answer, Move::Clear(_)) {
+            aside = set_off(asides, &carrier, &start, by);
+        }
+        if let Some((off, reason)) = &aside {
+            start = placed(&start, *off);
+            answer = reason.clone();
+            let far = plain::size(f64::from(off.0).hypot(f64::from(off.1)) * grid.unit());
+            let units = format!("{} {} units", off.0, off.1);
+            words += &format!("for the rounding the disc is set off by {units}, {far}\n");
+        }
+        words += &self.answered(&answer);
+        Ok(Truth { grid, carrier, start, by, answer, aside: aside.is_some(), words })
+    }
+
+    /// The true answer in words, with every line of its reason.
+    fn answered(&self, answer: &Move) -> String {
+        match answer {
+            Move::Clear(reason) => {
+                let line = |(at, line): (usize, &Line)| format!("  edge {at}: {line}\n");
+                let lines: String = reason.lines.iter().enumerate().map(line).collect();
+                format!(
+                    "in truth: clear: nothing lies in between, and these lines tell why\n\
+                     of each, from p to q, the disc's way lies left or on it, the edge right or on \
+                     it (p.x p.y q.x q.y in units):\n{lines}"
+                )
+            }
+            Move::Edge(edge) => {
+                format!("in truth: not clear: {}\n", edge_told(&self.carrier, *edge))
+            }
+            Move::Enclosed => "in truth: not clear: the disc lies within the carrier\n".into(),
+        }
+    }
+
+    /// The pair of a hit, in words.
+    fn pair(&self, hit: &CollisionEvent) -> String {
+        let (carrier, disc) = (hit.stationary_idx, hit.orbiting_idx);
+        let edge = |ring: &[Point], at: usize| {
+            let [a, b] = [ring[at], ring[(at + 1) % ring.len()]].map(plain::point);
+            format!("edge {at}, from {a} to {b},")
+        };
+        match hit.contact_type {
+            ContactType::VertexEdge => {
+                format!(
+                    "the disc's corner {disc} meets the carrier's {}",
+                    edge(&self.carrier, carrier)
+                )
+            }
+            _ => {
+                let at = plain::point(self.carrier[carrier]);
+                format!("the disc's edge {disc} meets the carrier's corner {carrier}, {at},")
+            }
+        }
+    }
+
+    /// Where a hit is.
+    fn met(&self, hit: &CollisionEvent) -> Point {
+        let part = hit.distance / self.by.0.hypot(self.by.1);
+        let (x, y) = self.start[hit.orbiting_idx];
+        match hit.contact_type {
+            ContactType::VertexEdge => (x + self.by.0 * part, y + self.by.1 * part),
+            _ => self.carrier[hit.stationary_idx],
+        }
+    }
+}
+
+/// The nearest way aside from which a move is clear, with that answer.
+fn set_off(
+    asides: Vec<whole::Point>,
+    carrier: &[whole::Point],
+    start: &[whole::Point],
+    by: whole::Point,
+) -> Option<(whole::Point, Move)> {
+    let clear = |off: whole::Point| match clear_move(carrier, &placed(start, off), by) {
+        Ok(answer @ Move::Clear(_)) => Some((off, answer)),
+        _ => None,
+    };
+    asides.into_iter().find_map(clear)
+}
+
+/// What is said of the grid.
+fn put_told(grid: Grid, carrier: &OnGrid, start: &OnGrid, by: &OnGrid, each: bool) -> String {
+    let unit = grid.unit();
+    if !(carrier.is_moved() || start.is_moved() || by.is_moved()) {
+        return format!("all corners are on the grid of {unit} already\n");
+    }
+    let mut words = format!(
+        "on the grid of {unit}: carrier, {}; disc, {}; the move {}\n",
+        carrier.told("corner", "corners"),
+        start.told("corner", "corners"),
+        if by.is_moved() {
+            format!("is off by {}", plain::size(by.moved[0]))
+        } else {
+            "is kept".into()
+        },
+    );
+    if each {
+        words += &carrier.each("carrier's corner");
+        words += &start.each("disc's corner");
+    }
+    words
+}
+
+/// The mean of a ring's corners.
+fn middle(ring: &[Point]) -> Point {
+    let n = ring.len() as f64;
+    ring.iter().fold((0.0, 0.0), |m, p| (m.0 + p.0 / n, m.1 + p.1 / n))
+}
+
+/// The hull of some points, for a picture alone.
+fn hull(points: &[Point]) -> Vec<Point> {
+    let mut sorted = points.to_vec();
+    sorted.sort_by(|a, b| a.0.total_cmp(&b.0).then(a.1.total_cmp(&b.1)));
+    let half = |points: &mut dyn Iterator<Item = Point>| {
+        let mut chain: Vec<Point> = Vec::new();
+        for p in points {
+            while let [.., a, b] = chain[..] {
+                let turn = (b.0 - a.0) * (p.1 - a.1) - (b.1 - a.1) * (p.0 - a.0);
+                if turn > 0.0 {
+                    break;
+                }
+                chain.pop();
+            }
+            chain.push(p);
+        }
+        chain.pop();
+        chain
+    };
+    let mut ring = half(&mut sorted.iter().copied());
+    ring.extend(half(&mut sorted.iter().rev().copied()));
+    ring
+}

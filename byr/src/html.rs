@@ -1,0 +1,87 @@
+//! A page of HTML in one file: nothing is loaded from outside, and it prints on A4.
+
+use crate::picture::escaped;
+
+/// How a page looks, on the screen and on paper.
+const STYLE: &str = "\
+    body { font: 16px/1.45 sans-serif; color: #000; background: #fff; max-width: 62rem; \
+    margin: 2rem auto; padding: 0 1.5rem }\n\
+    h1 { font-size: 1.7rem } h2 { font-size: 1.3rem; margin-top: 2.2rem; border-bottom: 2px solid }\n\
+    h3 { font-size: 1.05rem }\n\
+    p.warning, li.warning { font-weight: bold; border-left: .5rem solid; padding-left: .6rem }\n\
+    pre { font: 13px/1.35 monospace; white-space: pre-wrap; overflow-wrap: anywhere }\n\
+    pre.columns { columns: 19rem; column-gap: 2rem }\n\
+    table { border-collapse: collapse; font-size: .92rem } th, td { border: 1px solid #888; \
+    padding: .2rem .6rem; text-align: left; vertical-align: top }\n\
+    figure { margin: 1rem 0; break-inside: avoid } svg { max-width: 100%; height: auto; \
+    max-height: 24cm; border: 1px solid #ccc }\n\
+    h2, h3 { break-after: avoid }\n\
+    @page { size: A4; margin: 16mm }\n\
+    @media print { body { font-size: 10.5pt; max-width: none; margin: 0; padding: 0 } \
+    pre { font-size: 8pt } }\n";
+
+/// Sections of a page in the making.
+#[derive(Default)]
+pub struct Sections {
+    body: String,
+}
+
+impl Sections {
+    /// A heading.
+    pub fn heading(&mut self, words: &str) {
+        self.body += &format!("<h2>{}</h2>\n", escaped(words));
+    }
+
+    /// A heading below one.
+    pub fn smaller_heading(&mut self, words: &str) {
+        self.body += &format!("<h3>{}</h3>\n", escaped(words));
+    }
+
+    /// A paragraph; a warning is one that nobody can miss.
+    pub fn paragraph(&mut self, words: &str) {
+        let class = if words.contains("WARNING") { " class=\"warning\"" } else { "" };
+        self.body += &format!("<p{class}>{}</p>\n", escaped(words));
+    }
+
+    /// Lines as they are printed, those of a warning heavy.
+    pub fn lines(&mut self, words: &str) {
+        let line = |line: &str| match line.contains("WARNING") {
+            true => format!("<b>{}</b>\n", escaped(line)),
+            false => format!("{}\n", escaped(line)),
+        };
+        self.body += &format!("<pre>{}</pre>\n", words.lines().map(line).collect::<String>());
+    }
+
+    /// Short lines, in columns.
+    pub fn columns(&mut self, words: &str) {
+        let words: Vec<String> = words.lines().map(escaped).collect();
+        self.body += &format!("<pre class=\"columns\">{}</pre>\n", words.join("\n"));
+    }
+
+    /// A picture, which says its captions itself.
+    pub fn picture(&mut self, svg: &str) {
+        self.body += &format!("<figure>{svg}</figure>\n");
+    }
+
+    /// A table with these headings.
+    pub fn table(&mut self, headings: &[&str], rows: &[Vec<String>]) {
+        let cells = |tag: &str, cells: Vec<String>| -> String {
+            let cell = |cell: &String| format!("<{tag}>{}</{tag}>", escaped(cell));
+            format!("<tr>{}</tr>\n", cells.iter().map(cell).collect::<String>())
+        };
+        let head = cells("th", headings.iter().map(|word| word.to_string()).collect());
+        let rows: String = rows.iter().map(|row| cells("td", row.clone())).collect();
+        self.body += &format!("<table>\n<thead>{head}</thead>\n{rows}</table>\n");
+    }
+}
+
+/// The whole file of these sections, one behind the other.
+pub fn page(title: &str, all: &[Sections]) -> String {
+    let title = escaped(title);
+    let body: String = all.iter().map(|sections| sections.body.as_str()).collect();
+    format!(
+        "<!DOCTYPE html>\n<html lang=\"en\">\n<head>\n<meta charset=\"utf-8\">\n\
+         <meta name=\"viewport\" content=\"width=device-width\">\n<title>{title}</title>\n\
+         <style>\n{STYLE}</style>\n</head>\n<body>\n<h1>{title}</h1>\n{body}</body>\n</html>\n"
+    )
+}

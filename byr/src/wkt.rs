@@ -1,0 +1,123 @@
+//! Well-known text: a polygon of one ring, `POLYGON ((0 0, 4 0, 0 3, 0 0))`.
+
+use crate::plain;
+use crate::text::{number, shortened, Wrong};
+use byrlygent::Point;
+
+/// What is left of a text, with its lines counted.
+struct Rest<'a> {
+    text: &'a str,
+    line: usize,
+}
+
+impl<'a> Rest<'a> {
+    /// A fault here.
+    fn wrong<T>(&self, words: impl Into<String>) -> Result<T, Wrong> {
+        Err((self.line, words.into()))
+    }
+
+    /// Goes on by so many bytes.
+    fn skip(&mut self, bytes: usize) -> &'a str {
+        let (front, back) = self.text.split_at(bytes);
+        self.line += front.matches('\n').count();
+        self.text = back;
+        front
+    }
+
+    /// Goes on past blanks.
+    fn blanks(&mut self) {
+        self.skip(self.text.len() - self.text.trim_start().len());
+    }
+
+    /// The letters here, which may be none.
+    fn word(&mut self) -> &'a str {
+        self.blanks();
+        let end = self.text.find(|c: char| !c.is_ascii_alphabetic());
+        self.skip(end.unwrap_or(self.text.len()))
+    }
+
+    /// Whether this sign stands here; goes past it.
+    fn sign(&mut self, sign: char) -> bool {
+        self.blanks();
+        let here = self.text.starts_with(sign);
+        if here {
+            self.skip(sign.len_utf8());
+        }
+        here
+    }
+
+    /// This sign must stand here.
+    fn expect(&mut self, sign: char) -> Result<(), Wrong> {
+        if self.sign(sign) {
+            return Ok(());
+        }
+        match self.text.chars().next() {
+            Some(other) => self.wrong(format!("'{sign}' is expected where '{other}' stands")),
+            None => self.wrong(format!("'{sign}' is expected where the text ends")),
+        }
+    }
+
+    /// The number here.
+    fn number(&mut self) -> Result<f64, Wrong> {
+        self.blanks();
+        let end = self.text.find(|c: char| c.is_whitespace() || "(),".contains(c));
+        let line = self.line;
+        let word = self.skip(end.unwrap_or(self.text.len()));
+        number(word).map_err(|words| (line, words))
+    }
+}
+
+/// The points of the ring, the closing one too, each with its line.
+pub fn points(text: &str) -> Result<Vec<(usize, Point)>, Wrong> {
+    let mut rest = Rest { text, line: 1 };
+    opening(&mut rest)?;
+    let mut points = Vec::new();
+    loop {
+        let (x, y) = (rest.number()?, rest.number()?);
+        points.push((rest.line, (x, y)));
+        if rest.sign(')') {
+            break;
+        }
+        if !rest.sign(',') {
+            return rest.wrong("a point has two numbers and then ',' or ')': take Z and M away");
+        }
+    }
+    if rest.sign(',') {
+        return rest.wrong("it has more rings than one: take the holes away");
+    }
+    rest.expect(')')?;
+    rest.blanks();
+    match rest.text.is_empty() {
+        true => Ok(points),
+        false => rest.wrong("more stands behind the polygon: put each into a file of its own"),
+    }
+}
+
+/// Goes past `POLYGON ((`.
+fn opening(rest: &mut Rest) -> Result<(), Wrong> {
+    let word = rest.word();
+    if word.eq_ignore_ascii_case("SRID") {
+        return rest.wrong("it has a reference system: take SRID=..; away");
+    }
+    if !word.eq_ignore_ascii_case("POLYGON") {
+        let word = shortened(word);
+        return rest.wrong(format!("\"{word}\" is not known: POLYGON is, or two numbers a line"));
+    }
+    match rest.word() {
+        "" => {}
+        word if word.eq_ignore_ascii_case("EMPTY") => return rest.wrong("the polygon is empty"),
+        word => {
+            let word = shortened(word);
+            return rest.wrong(format!("POLYGON {word} is not known: take Z and M away"));
+        }
+    }
+    rest.expect('(')?;
+    rest.expect('(')
+}
+
+/// The ring as well-known text, closed.
+pub fn written(ring: &[Point]) -> String {
+    let point = |(x, y): &Point| format!("{} {}", plain::number(*x), plain::number(*y));
+    let points: Vec<String> = ring.iter().chain(ring.first()).map(point).collect();
+    format!("POLYGON (({}))\n", points.join(", "))
+}
