@@ -1,7 +1,7 @@
-//! Runs the stored sessions, `golden/NAME.txt`, and compares what each command prints and
-//! its status. A session begins in a folder of its own with the shop's drawings, `shop/`,
+//! Runs the stored transcripts, `golden/NAME.txt`, and compares what each command prints and
+//! its status. A transcript begins in a folder of its own with the shop's drawings, `shop/`,
 //! and the drawings of other programs, `peers/`. `BYR_WRITE=1 cargo test` writes the
-//! sessions anew.
+//! transcripts anew.
 
 use std::fs;
 use std::path::{Path, PathBuf};
@@ -50,10 +50,10 @@ fn printed(command: &str, folder: &Path) -> String {
     }
 }
 
-/// The session with what its commands print now: `$` begins a command, `##` a remark.
-fn replayed(session: &str, folder: &Path) -> String {
+/// The transcript with what its commands print now: `$` begins a command, `##` a remark.
+fn replayed(transcript: &str, folder: &Path) -> String {
     let mut text = String::new();
-    for line in session.lines() {
+    for line in transcript.lines() {
         if let Some(command) = line.strip_prefix("$ ") {
             text += &format!("{line}\n{}", printed(command, folder));
         } else if line.starts_with("## ") {
@@ -77,19 +77,19 @@ fn difference(a: &str, b: &str) -> String {
 }
 
 #[test]
-fn every_session_prints_what_is_stored() {
-    let mut sessions = 0;
+fn every_transcript_prints_what_is_stored() {
+    let mut transcripts = 0;
     for entry in fs::read_dir(Path::new(ROOT).join("tests/golden")).expect("a folder") {
         let path = entry.expect("an entry").path();
         let name = path.file_stem().expect("a name").to_string_lossy().into_owned();
-        let stored = fs::read_to_string(&path).expect("a session");
+        let stored = fs::read_to_string(&path).expect("a transcript");
         let now = replayed(&stored, &folder(&name));
         if std::env::var_os("BYR_WRITE").is_some() {
             fs::write(&path, &now).expect("written");
         } else {
             assert!(stored == now, "{name}: {}", difference(&stored, &now));
         }
-        sessions += 1;
+        transcripts += 1;
     }
-    assert!(sessions >= 10, "{sessions} sessions");
+    assert!(transcripts >= 10, "{transcripts} transcripts");
 }
