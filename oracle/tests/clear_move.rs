@@ -42,7 +42,7 @@ fn what_is_printed_of_a_clear_move_is_its_reason() {
     inputs.push(example());
     let texts = inputs.iter().map(|input| (input, printed(input)));
     let clear: Vec<_> = texts.filter(|(_, text)| text.starts_with("clear\n")).collect();
-    assert_eq!(clear.len(), 11);
+    assert_eq!(clear.len(), 12);
     for (input, text) in clear {
         assert_eq!(judged(input, &text), Some(Ground::Clear), "{text}");
     }
