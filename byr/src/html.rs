@@ -10,15 +10,16 @@ const STYLE: &str = "\
     h3 { font-size: 1.05rem }\n\
     p.warning, li.warning { font-weight: bold; border-left: .5rem solid; padding-left: .6rem }\n\
     pre { font: 13px/1.35 monospace; white-space: pre-wrap; overflow-wrap: anywhere }\n\
-    pre.columns { columns: 19rem; column-gap: 2rem }\n\
+    pre.columns { columns: 2; column-gap: 1.5rem; white-space: pre; orphans: 3; widows: 3 }\n\
     table { border-collapse: collapse; font-size: .92rem } th, td { border: 1px solid #888; \
     padding: .2rem .6rem; text-align: left; vertical-align: top }\n\
-    figure { margin: 1rem 0; break-inside: avoid } svg { max-width: 100%; height: auto; \
-    max-height: 24cm; border: 1px solid #ccc }\n\
-    h2, h3 { break-after: avoid }\n\
+    figure { margin: 1rem 0; break-inside: avoid } svg { max-width: 100%; \
+    max-height: 13.5cm; width: auto; height: auto; border: 1px solid #ccc }\n\
+    figure.small svg { max-height: 8.4cm }\n\
+    h2, h3 { break-after: avoid } tr { break-inside: avoid }\n\
     @page { size: A4; margin: 16mm }\n\
     @media print { body { font-size: 10.5pt; max-width: none; margin: 0; padding: 0 } \
-    pre { font-size: 8pt } }\n";
+    pre { font-size: 8pt } pre.columns { font-size: 7.2pt } }\n";
 
 /// Sections of a page in the making.
 #[derive(Default)]
@@ -61,6 +62,11 @@ impl Sections {
     /// A picture, which says its captions itself.
     pub fn picture(&mut self, svg: &str) {
         self.body += &format!("<figure>{svg}</figure>\n");
+    }
+
+    /// A picture that need not be large.
+    pub fn small_picture(&mut self, svg: &str) {
+        self.body += &format!("<figure class=\"small\">{svg}</figure>\n");
     }
 
     /// A table with these headings.

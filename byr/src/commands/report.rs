@@ -90,7 +90,7 @@ impl Report {
                 words.lines().partition(|line| !line.starts_with(' '));
             self.page.smaller_heading(name);
             self.page.lines(&head.join("\n"));
-            self.page.picture(&show::picture(&drawing)?);
+            self.page.small_picture(&show::picture(&drawing)?);
             self.page.columns(&table.join("\n"));
         }
         Ok(())
