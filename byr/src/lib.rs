@@ -6,6 +6,8 @@
 //! The status is 0 where all is well, 1 where the answer is no (not the same, not clear,
 //! not closed, a fault), and 2 where there is no answer: then one line says why.
 
+#![forbid(unsafe_code)]
+
 mod by_hand;
 mod commands;
 pub mod drawing;
