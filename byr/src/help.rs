@@ -115,7 +115,17 @@ pub fn of(name: &str) -> String {
     format!("byr {name} {words}\n\n{what}\n\n{more}\n\n{FILES}\nExample: {example}\n")
 }
 
-/// The version.
+/// The header that the library is called by.
+const HEADER: &str = include_str!("../../include/byrlygent.h");
+
+/// The number of the library's interface: the wrapper calls no library of another one.
+fn interface() -> &'static str {
+    let number = |line: &'static str| line.strip_prefix("#define BYR_ABI_VERSION ");
+    HEADER.lines().find_map(number).map_or("unknown", |number| number.trim_end_matches('u'))
+}
+
+/// The versions of the command and of the library.
 pub fn version() -> String {
-    format!("byr {}, over the library byrlygent\n", env!("CARGO_PKG_VERSION"))
+    let (version, interface) = (env!("CARGO_PKG_VERSION"), interface());
+    format!("byr {version}, over the library byrlygent, interface {interface}\n")
 }

@@ -67,7 +67,7 @@ fn answered(arguments: impl Iterator<Item = OsString>) -> Result<Said> {
     match print(&said.words) {
         // A reader that has seen enough, as `head`, is no fault.
         Err(error) if error.kind() == ErrorKind::BrokenPipe => Ok(said),
-        Err(error) => Err(Fault::new(format!("standard output: {error}"))),
+        Err(error) => Err(Fault::of("standard output", files::spoken(&error))),
         Ok(()) => Ok(said),
     }
 }

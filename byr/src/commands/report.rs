@@ -2,7 +2,8 @@
 //! inspection plan, versions and refusals, in one page that prints.
 
 use super::{inspect, same, show, slide::Slide, why::Why};
-use crate::drawing::{read, read_ring};
+use crate::drawing::{file_of, read, read_ring};
+use crate::grid::without_hint;
 use crate::html::{page, Sections};
 use crate::words::{Takes, Words};
 use crate::{files, help, plain, Result, Said};
@@ -33,9 +34,13 @@ pub fn called(words: &[String]) -> Result<Said> {
     if !out.ends_with(".html") {
         return Err(asked.fault(format!("a report is called .html, and \"{out}\" is not")));
     }
-    if [carrier, disc].contains(&"-") || asked.value("same") == Some("-") {
+    let (same, state) = (asked.value("same"), asked.value("state"));
+    let read: Vec<&str> = [carrier, disc].into_iter().chain(same).collect();
+    if read.iter().any(|name| file_of(name) == "-") {
         return Err(asked.fault("files are read more than once: standard input cannot be"));
     }
+    let read: Vec<&str> = read.into_iter().chain(state).collect();
+    asked.apart(&read, &[out])?;
     if asked.has("at") && !asked.has("by") {
         return Err(asked.fault("--at is for a move, and --by is missing"));
     }
@@ -90,7 +95,7 @@ impl Report {
                 words.lines().partition(|line| !line.starts_with(' '));
             self.page.smaller_heading(name);
             self.page.lines(&head.join("\n"));
-            self.page.small_picture(&show::picture(&drawing)?);
+            self.page.small_picture(&show::picture(&drawing, false)?);
             self.page.columns(&table.join("\n"));
         }
         Ok(())
@@ -120,8 +125,8 @@ impl Report {
             "What the given rule traces, and then what is so: each leg of the path is asked on a \
              grid whether nothing lies in between.",
         );
-        self.page.lines(&slide.words());
-        self.page.picture(&slide.picture());
+        self.page.lines(&without_hint(&slide.words()));
+        self.page.picture(&slide.picture(false));
         self.page.smaller_heading("The points of the path");
         let point = |(at, p): (usize, &Point)| format!("{at:>4}  {}", plain::point(*p));
         let points: Vec<String> = slide.path().iter().enumerate().map(point).collect();
@@ -140,8 +145,8 @@ impl Report {
         }
         let why = Why::of(asked, read_ring(carrier)?.points, &read_ring(disc)?.points)?;
         self.page.heading("Why is the move clear, or not?");
-        self.page.lines(&why.words());
-        self.page.picture(&why.picture());
+        self.page.lines(&without_hint(&why.words_without_lines()));
+        self.page.picture(&why.picture(false));
         self.findings.push(why.finding());
         if let Some(hand) = why.by_hand() {
             self.page.smaller_heading("How to check it by hand");
@@ -163,9 +168,9 @@ impl Report {
         let plan = inspect::plan(path.len() as u64, per_shift)
             .map_err(|refusal| asked.fault(refusal.to_string()))?;
         self.page.heading("The inspection");
-        let so_far = match asked.value("state") {
+        let (given, so_far) = match asked.value("state") {
             Some(file) => inspect::so_far(file, path, per_shift)?,
-            None => "no shift has been given out yet, or no --state was named".to_string(),
+            None => (0, "nothing is known to be given out, since no --state is named".to_string()),
         };
         self.page.paragraph(&format!(
             "The path has {}, and {per_shift} are inspected a shift: after {} every place has \
@@ -175,10 +180,11 @@ impl Report {
         ));
         let row = |(at, places): (usize, &Vec<u64>)| {
             let places: Vec<String> = places.iter().map(u64::to_string).collect();
-            vec![(at + 1).to_string(), places.join(", ")]
+            let is_given = if (at as u64) < given { "given out" } else { "not yet" };
+            vec![(at + 1).to_string(), places.join(", "), is_given.to_string()]
         };
         let rows: Vec<Vec<String>> = plan.iter().enumerate().map(row).collect();
-        self.page.table(&["shift", "places of the path"], &rows);
+        self.page.table(&["shift", "places of the path", "so far"], &rows);
         self.findings.push(format!("Inspection: {so_far}."));
         Ok(())
     }

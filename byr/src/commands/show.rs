@@ -1,7 +1,7 @@
 //! Shows what a drawing holds: a table, and a picture.
 
 use crate::drawing::{read, Drawing, Kind, Ring};
-use crate::picture::Picture;
+use crate::picture::{Captions, Picture};
 use crate::words::Takes;
 use crate::{files, plain, Result, Said};
 use byrlygent::polygon_ops::is_simple_polygon;
@@ -14,10 +14,12 @@ const TAKES: Takes = Takes { command: "show", valued: &["svg"], flags: &[] };
 pub fn called(words: &[String]) -> Result<Said> {
     let asked = TAKES.read(words)?;
     let [name] = asked.files(["F"])?;
+    let svg: Vec<&str> = asked.value("svg").into_iter().collect();
+    asked.apart(&[name], &svg)?;
     let drawing = read(name)?;
     let mut words = shown(&drawing)?;
     if let Some(out) = asked.value("svg") {
-        files::write(out, picture(&drawing)?.as_bytes())?;
+        files::write(out, picture(&drawing, true)?.as_bytes())?;
         words += &format!("picture: {out}\n");
     }
     Ok(Said::well(words))
@@ -65,14 +67,15 @@ fn table(points: &[Point]) -> String {
     rows.iter().map(|[at, x, y]| format!("{at:>w$}  {x:>b$}  {y:>c$}\n", w = a.max(4))).collect()
 }
 
-/// The picture of all rings.
-pub fn picture(drawing: &Drawing) -> Result<String> {
+/// The picture of all rings; the captions stand above it where that is asked for.
+pub fn picture(drawing: &Drawing, above: bool) -> Result<String> {
     let all: Vec<Point> = drawing.rings.iter().flat_map(|(_, ring)| ring.points.clone()).collect();
-    let captions: Vec<String> =
-        drawing.rings.iter().map(|(at, ring)| told(*at, ring)).collect::<Result<_>>()?;
+    let rings = drawing.rings.iter().map(|(at, ring)| told(*at, ring));
+    let lines: Vec<String> = rings.collect::<Result<_>>()?;
     let name = if drawing.kind == Kind::Book { "Book" } else { "Drawing" };
     let title = format!("{name} {}", drawing.name);
-    let mut picture = Picture::over(&all, &title, &captions);
+    let captions = Captions { title: &title, lines, legend: String::new(), above };
+    let mut picture = Picture::over(&all, &captions);
     for (_, ring) in &drawing.rings {
         picture.ring(&ring.points, "drawn");
     }
@@ -81,6 +84,6 @@ pub fn picture(drawing: &Drawing) -> Result<String> {
             picture.name_ring(&ring.points, &format!("ring {at}"));
         }
     }
-    drawing.rings.iter().for_each(|(_, ring)| picture.corner_numbers(&ring.points));
+    drawing.rings.iter().for_each(|(_, ring)| picture.corner_numbers(&ring.points, "pale"));
     Ok(picture.finished())
 }
