@@ -38,7 +38,7 @@ const STYLE: &str = "<style>\
     text { font: 19px sans-serif; paint-order: stroke; stroke: #fff; stroke-width: 5 }\
     .number { font-size: 16px; stroke-width: 3 }\
     .grey { stroke: #ccc }\
-    .pale { stroke: #ddd }\
+    .pale { stroke: #ddd; font-size: 21px }\
     .warning { font-weight: bold }\
     </style>\n";
 
@@ -208,7 +208,8 @@ impl Picture {
             let half = (x.hypot(y) / 2.0).max(0.4);
             // So far from both edges that the digits fit, and not too far from the corner.
             let digits = at.to_string();
-            let off = (10.0 + 3.5 * digits.len() as f64) / (2.0 * half * half);
+            let wide = if ground == "pale" { 4.5 } else { 3.5 };
+            let off = (10.0 + wide * digits.len() as f64) / (2.0 * half * half);
             let place = (to.from.0 + x * off, to.from.1 + y * off);
             if !self.arrows.iter().any(|&arrow| apart(place, arrow) < 9.0) {
                 self.label(place, &digits, &format!("number {ground}"));
@@ -250,7 +251,12 @@ impl Picture {
 
     /// Words about a place of the picture, unless another label is too near.
     fn label(&mut self, place: Point, words: &str, class: &str) {
-        let half = words.chars().count() as f64 * if class == "name" { 5.5 } else { 4.8 };
+        let wide = match class {
+            class if class.ends_with("pale") => 6.2,
+            "name" => 5.5,
+            _ => 4.8,
+        };
+        let half = words.chars().count() as f64 * wide;
         let near = |&((x, y), other): &Label| {
             (x - place.0).abs() < half + other + 3.0 && (y - place.1).abs() < 16.0
         };

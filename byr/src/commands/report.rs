@@ -131,10 +131,7 @@ impl Report {
         let point = |(at, p): (usize, &Point)| format!("{at:>4}  {}", plain::point(*p));
         let points: Vec<String> = slide.path().iter().enumerate().map(point).collect();
         self.page.columns(&points.join("\n"));
-        if slide.warnings.is_empty() {
-            self.findings.push("The slide comes round, and nothing lies in between.".into());
-        }
-        self.findings.extend(slide.warnings.iter().cloned());
+        self.findings.extend(slide.findings());
         Ok(slide.path().to_vec())
     }
 

@@ -81,6 +81,15 @@ impl Slide {
         self.nfp.stop == StopReason::Closed
     }
 
+    /// What was found, in sentences: the warnings, or that there is none.
+    pub fn findings(&self) -> Vec<String> {
+        if !self.warnings.is_empty() {
+            return self.warnings.clone();
+        }
+        let but = if self.judged.rounded { " but for the rounding of the grid" } else { "" };
+        vec![format!("The slide comes round, and nothing lies in between{but}.")]
+    }
+
     /// What is said of it.
     pub fn words(&self) -> String {
         let warnings: String = self.warnings.iter().map(|line| format!("{line}\n")).collect();
@@ -182,6 +191,8 @@ pub struct Judged {
     pub warning: Option<String>,
     /// That leg, and the edge in its way if there is one.
     pub blocked: Option<(usize, Option<usize>)>,
+    /// Whether a leg is clear only once it is set off for the rounding.
+    pub rounded: bool,
 }
 
 impl Judged {
@@ -199,7 +210,8 @@ impl Judged {
         match (Self::on(grid, asked, [carrier, disc, path], closed), unit) {
             (Err(fault), None) => {
                 let words = format!("WARNING: whether the way is clear is not known: {fault}");
-                Ok(Self { words: String::new(), warning: Some(words), blocked: None })
+                let words = Some(words);
+                Ok(Self { words: String::new(), warning: words, blocked: None, rounded: false })
             }
             (judged, _) => judged,
         }
@@ -225,7 +237,8 @@ impl Judged {
                       clear proves nothing\n";
         }
         let legs = walk.legs(closed)?;
-        let mut judged = Self { words, warning: None, blocked: None };
+        let rounded = legs.iter().any(|leg| matches!(leg, Leg::Aside(_)));
+        let mut judged = Self { words, warning: None, blocked: None, rounded };
         let leads = if convex { "leads" } else { "may lead" };
         judged.tell(grid, carrier, path.len(), &legs, leads);
         Ok(judged)
