@@ -42,7 +42,9 @@ pub fn spoken(error: &io::Error) -> String {
         ErrorKind::IsADirectory => "is a folder: name a file in it".into(),
         ErrorKind::InvalidFilename => "is no name that a file can have: take a shorter one".into(),
         ErrorKind::BrokenPipe => "nobody reads it any more: run it again".into(),
-        ErrorKind::StorageFull => "there is no room left: make some".into(),
+        ErrorKind::StorageFull | ErrorKind::QuotaExceeded | ErrorKind::FileTooLarge => {
+            "there is no room left: make some".into()
+        }
         ErrorKind::ReadOnlyFilesystem => "nothing can be written there: name another place".into(),
         _ => error.to_string(),
     }

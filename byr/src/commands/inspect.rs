@@ -8,6 +8,7 @@ use crate::{files, plain, print, Fault, Result, Said};
 use byrlygent::inspection::next_places;
 use byrlygent::Point;
 use std::fs::{File, OpenOptions, TryLockError};
+use std::io::ErrorKind;
 use std::path::Path;
 use std::time::{Duration, Instant};
 
@@ -218,7 +219,12 @@ fn lock(state: &str) -> Result<File> {
     let place = std::fs::canonicalize(state).unwrap_or_else(|_| state.into());
     let name = format!("{}.lock", place.display());
     let wrong = |error: std::io::Error| Fault::of(&name, files::spoken(&error));
-    let file = OpenOptions::new().create(true).append(true).open(&name).map_err(wrong)?;
+    let file = match OpenOptions::new().create(true).append(true).open(&name) {
+        // A lock that someone else made need only be read to be held.
+        Err(error) if error.kind() == ErrorKind::PermissionDenied => File::open(&name),
+        opened => opened,
+    };
+    let file = file.map_err(wrong)?;
     let begun = Instant::now();
     loop {
         match file.try_lock() {
