@@ -81,7 +81,7 @@ fn told(after: &State, path: &[Point], places: &[u64], opened: bool) -> String {
     }
     let covered = (shift.saturating_mul(per_shift)).min(after.points);
     words += &match covered == after.points {
-        true => format!("so far all {all} have been given out\n"),
+        true => format!("so far all have been given out, {all}\n"),
         false => {
             let wanted = after.points.div_ceil(per_shift);
             format!(
