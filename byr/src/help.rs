@@ -97,10 +97,10 @@ const JOBS: [[&str; 5]; 10] = [
          \x20      [--least-move L]",
         "write the auditor's file",
         "One page that prints, with nothing loaded from outside: the outlines, whether the carrier is\n\
-         the same as OTHER, the slide, why the move is clear or not with every line and how to check\n\
-         it by hand, the inspection plan and what was given out so far, versions and refusals. Each\n\
-         corner that moved to the grid is told, with --moved each point of the path too. Status 1:\n\
-         there is a WARNING in it.",
+         the same as OTHER, and else OTHER's outline, the slide, why the move is clear or not with\n\
+         every line and how to check it by hand, the inspection plan and what was given out so far,\n\
+         versions and refusals. Each corner that moved to the grid is told, with --moved each point\n\
+         of the path too. Status 1: there is a WARNING in it.",
         "byr report audit.html carrier.wkt disc.wkb --same thursday.txt --at 20,38 --by 10,0 --per-shift 5",
     ],
 ];

@@ -84,19 +84,22 @@ struct Report {
 }
 
 impl Report {
-    /// The outlines, each with its table and its picture.
+    /// The outlines of the carrier and the disc.
     fn outlines(&mut self, names: &[&str]) -> Result<()> {
         self.page.heading("The outlines");
         self.page.paragraph("The decimals read back to the same bits. Corners count from 0.");
-        for name in names {
-            let drawing = read(name)?;
-            let words = show::shown(&drawing)?;
-            let (head, table): (Vec<&str>, Vec<&str>) =
-                words.lines().partition(|line| !line.starts_with(' '));
-            self.page.smaller_heading(name);
-            self.page.lines(&head.join("\n"));
-            self.page.small_picture(&show::picture(&drawing, false)?);
-            self.page.columns(&table.join("\n"));
+        names.iter().try_for_each(|name| self.outline(name))
+    }
+
+    /// A drawing with its picture, and of each ring the table.
+    fn outline(&mut self, name: &str) -> Result<()> {
+        let drawing = read(name)?;
+        self.page.smaller_heading(name);
+        self.page.lines(&show::kind(&drawing));
+        self.page.small_picture(&show::picture(&drawing, false)?);
+        for (at, ring) in &drawing.rings {
+            self.page.lines(&show::told(*at, ring)?);
+            self.page.columns(&show::table(&ring.points));
         }
         Ok(())
     }
@@ -110,11 +113,12 @@ impl Report {
             "{carrier} and {other}, wherever they were begun and whichever way round they go."
         ));
         self.page.lines(&said.words);
-        self.findings.push(match said.yes {
-            true => format!("{carrier} and {other} are the same outline."),
-            false => format!("WARNING: {carrier} and {other} are not the same outline."),
-        });
-        Ok(())
+        if said.yes {
+            self.findings.push(format!("{carrier} and {other} are the same outline."));
+            return Ok(());
+        }
+        self.findings.push(format!("WARNING: {carrier} and {other} are not the same outline."));
+        self.outline(other)
     }
 
     /// The slide, with its path, which is handed out.

@@ -25,10 +25,15 @@ pub fn called(words: &[String]) -> Result<Said> {
     Ok(Said::well(words))
 }
 
-/// What is said of a drawing.
-pub fn shown(drawing: &Drawing) -> Result<String> {
+/// What a drawing is.
+pub fn kind(drawing: &Drawing) -> String {
     let count = plain::count(drawing.rings.len(), "ring", "rings");
-    let mut words = format!("{}: {}, {count}\n", drawing.name, drawing.kind);
+    format!("{}: {}, {count}\n", drawing.name, drawing.kind)
+}
+
+/// What is said of a drawing.
+fn shown(drawing: &Drawing) -> Result<String> {
+    let mut words = kind(drawing);
     for (at, ring) in &drawing.rings {
         words += &format!("{}\n", told(*at, ring)?);
         words += &table(&ring.points);
@@ -37,7 +42,7 @@ pub fn shown(drawing: &Drawing) -> Result<String> {
 }
 
 /// What is said of a ring before its table.
-fn told(at: usize, ring: &Ring) -> Result<String> {
+pub fn told(at: usize, ring: &Ring) -> Result<String> {
     let area = signed_area_robust(&ring.points)?;
     let way = match area {
         area if area > 0.0 => "counter-clockwise",
@@ -56,7 +61,7 @@ fn told(at: usize, ring: &Ring) -> Result<String> {
 }
 
 /// The corners, one a line, the numbers below each other.
-fn table(points: &[Point]) -> String {
+pub fn table(points: &[Point]) -> String {
     let rows: Vec<[String; 3]> = points
         .iter()
         .enumerate()
