@@ -17,7 +17,8 @@ const STYLE: &str = "\
     figure { margin: 1rem 0; break-inside: avoid } svg { max-width: 100%; \
     max-height: 13.5cm; width: auto; height: auto; border: 1px solid #ccc }\n\
     figure.small svg { max-height: 9.4cm }\n\
-    h2, h3, h2 + p, h3 + pre, figure + pre { break-after: avoid } tr, .whole { break-inside: avoid }\n\
+    h2, h3, h2 + p, pre:has(+ figure), figure + pre { break-after: avoid }\n\
+    p, tr, .whole { break-inside: avoid }\n\
     @page { size: A4; margin: 16mm }\n\
     @media print { body { font-size: 10.5pt; max-width: none; margin: 0; padding: 0 } \
     pre { font-size: 8pt } pre.columns { font-size: 7.2pt } }\n";

@@ -121,6 +121,19 @@ impl Report {
         self.outline(other)
     }
 
+    /// Words with their picture, and behind it how far each corner moved to the grid.
+    fn pictured(&mut self, words: &str, picture: &str) {
+        let words = without_hint(words);
+        let (moved, said): (Vec<&str>, Vec<&str>) =
+            words.lines().partition(|line| line.starts_with(' '));
+        self.page.lines(&said.join("\n"));
+        self.page.picture(picture);
+        if !moved.is_empty() {
+            self.page.smaller_heading("How far each corner moved to the grid");
+            self.page.lines(&moved.join("\n"));
+        }
+    }
+
     /// The slide, with its path, which is handed out.
     fn slide(&mut self, asked: &Words, carrier: &str, disc: &str) -> Result<Vec<Point>> {
         let slide = Slide::of(asked, read_ring(carrier)?.points, read_ring(disc)?.points)?;
@@ -129,8 +142,7 @@ impl Report {
             "What the given rule traces, and then what is so: each leg of the path is asked on a \
              grid whether nothing lies in between.",
         );
-        self.page.lines(&without_hint(&slide.words()));
-        self.page.picture(&slide.picture(false));
+        self.pictured(&slide.words(), &slide.picture(false));
         self.page.smaller_heading("The points of the path");
         let point = |(at, p): (usize, &Point)| format!("{at:>4}  {}", plain::point(*p));
         let points: Vec<String> = slide.path().iter().enumerate().map(point).collect();
@@ -146,8 +158,7 @@ impl Report {
         }
         let why = Why::of(asked, read_ring(carrier)?.points, &read_ring(disc)?.points)?;
         self.page.heading("Why is the move clear, or not?");
-        self.page.lines(&without_hint(&why.words_without_lines()));
-        self.page.picture(&why.picture(false));
+        self.pictured(&why.words_without_lines(), &why.picture(false));
         self.findings.push(why.finding());
         if let Some(hand) = why.by_hand() {
             self.page.smaller_heading("How to check it by hand");
