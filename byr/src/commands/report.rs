@@ -181,8 +181,10 @@ impl Report {
             .map_err(|refusal| asked.fault(refusal.to_string()))?;
         self.page.heading("The inspection");
         let (given, so_far) = match asked.value("state") {
-            Some(file) => inspect::so_far(file, path, per_shift)?,
-            None => (0, "nothing is known to be given out, since no --state is named".to_string()),
+            Some(file) => {
+                inspect::so_far(file, path, per_shift).map(|(n, told)| (Some(n), told))?
+            }
+            None => (None, "what was given out is not known, since no --state is named".into()),
         };
         self.page.paragraph(&format!(
             "The path has {}, and {per_shift} are inspected a shift: after {} every place has \
@@ -190,13 +192,15 @@ impl Report {
             plain::count(path.len(), "place", "places"),
             plain::count(plan.len(), "shift", "shifts"),
         ));
+        let is_given = |at, given| if at < given { "given out" } else { "not yet" };
         let row = |(at, places): (usize, &Vec<u64>)| {
             let places: Vec<String> = places.iter().map(u64::to_string).collect();
-            let is_given = if (at as u64) < given { "given out" } else { "not yet" };
-            vec![(at + 1).to_string(), places.join(", "), is_given.to_string()]
+            let row = [(at + 1).to_string(), places.join(", ")];
+            row.into_iter().chain(given.map(|given| is_given(at as u64, given).into())).collect()
         };
         let rows: Vec<Vec<String>> = plan.iter().enumerate().map(row).collect();
-        self.page.table(&["shift", "places of the path", "so far"], &rows);
+        let headings = ["shift", "places of the path", "so far"];
+        self.page.table(&headings[..if given.is_some() { 3 } else { 2 }], &rows);
         self.findings.push(format!("Inspection: {so_far}."));
         Ok(())
     }
