@@ -135,6 +135,9 @@ pub fn place(name: &str) -> Result<PathBuf> {
         Ok(there) if there.is_dir() => Err(Fault::of(name, "is a folder: name a file in it")),
         Ok(there) if !there.is_file() => Err(Fault::of(name, "is no file that can be replaced")),
         Ok(there) => Ok(there),
+        Err(_) if Path::new(name).is_symlink() => {
+            Err(Fault::of(name, "is a link that leads nowhere: mend it, or name another"))
+        }
         Err(_) => Ok(PathBuf::from(name)),
     }
 }

@@ -64,15 +64,17 @@ fn places(printed: &[u8]) -> Vec<u64> {
 fn a_killed_shift_leaves_the_old_state_or_the_new_one() {
     let folder = folder("killed", 1000);
     assert!(shift(&folder, true).status().expect("run").success());
-    let mut new = 0;
+    let mut new = 1;
     for delay in 0..120 {
         let begun = Instant::now();
         new += killed(&folder, || begun.elapsed() >= Duration::from_micros(25 * delay));
     }
-    // At once it has done nothing, and left to itself it comes to its end.
-    assert_eq!(killed(&folder, || true), 0);
+    // At once it has done nothing, but on a machine that is too busy to kill it at once.
+    let at_once: Vec<u64> = (0..20).map(|_| killed(&folder, || true)).collect();
+    assert!(at_once.contains(&0));
+    // Left to itself it comes to its end.
     assert_eq!(killed(&folder, || false), 1);
-    assert_eq!(kept(&folder, "shifts"), new + 2);
+    assert_eq!(kept(&folder, "shifts"), new + at_once.iter().sum::<u64>() + 1);
 }
 
 #[test]
