@@ -38,15 +38,21 @@ pub fn called(words: &[String]) -> Result<Said> {
     };
     match first.as_str() {
         "help" | "--help" | "-h" => helped(rest),
-        "version" | "--version" => Ok(Said::well(help::version())),
+        "version" | "--version" if rest.is_empty() => Ok(Said::well(help::version())),
+        "version" | "--version" => Err(Fault::new("version: takes nothing behind it (byr help)")),
         name => {
             let (name, call) = find(name)?;
-            if rest.iter().take_while(|word| *word != "--").any(|word| word == "--help") {
+            if rest.iter().take_while(|word| *word != "--").any(|word| asks_help(word)) {
                 return Ok(Said::well(help::of(name)));
             }
             call(rest)
         }
     }
+}
+
+/// Whether a word asks for help.
+fn asks_help(word: &str) -> bool {
+    word == "--help" || word == "-h"
 }
 
 /// The subcommand of this name.
@@ -61,9 +67,10 @@ fn find(name: &str) -> Result<Command> {
 
 /// The help for all, or for one.
 fn helped(words: &[String]) -> Result<Said> {
-    Ok(Said::well(match words.first() {
-        None => help::all(),
-        Some(name) if name == "help" => help::all(),
-        Some(name) => help::of(find(name)?.0),
+    Ok(Said::well(match words {
+        [] => help::all(),
+        [name] if name == "help" || asks_help(name) => help::all(),
+        [name] => help::of(find(name)?.0),
+        _ => return Err(Fault::new("help: takes one job at most (byr help)")),
     }))
 }

@@ -7,6 +7,7 @@ use byrlygent::wkb::{read_wkb, write_wkb};
 use byrlygent::{Point, Refusal};
 use std::fmt;
 use std::ops::RangeInclusive;
+use std::path::Path;
 
 /// How many corners a ring may have, and how many points a path.
 const CORNERS: RangeInclusive<usize> = 3..=256;
@@ -83,7 +84,7 @@ enum Held {
 
 /// The rings of a file, or the one that `#N` behind its name asks for.
 pub fn read(name: &str) -> Result<Drawing> {
-    let (file, wanted) = asked(name);
+    let (file, wanted) = asked(name)?;
     let (kind, rings) = rings(&files::read(file)?).map_err(|words| Fault::of(file, words))?;
     let all = rings.len();
     let mut rings: Vec<(usize, Ring)> = rings.into_iter().enumerate().collect();
@@ -111,7 +112,7 @@ pub fn read_ring(name: &str) -> Result<Ring> {
 /// The rings of a file with the repeated points that it has, for mending; of a text the
 /// closing one too.
 pub fn read_as_drawn(name: &str) -> Result<(Kind, Vec<Ring>)> {
-    let (file, wanted) = asked(name);
+    let (file, wanted) = asked(name)?;
     if wanted.is_some() {
         let drawing = read(name)?;
         return Ok((drawing.kind, drawing.rings.into_iter().map(|(_, ring)| ring).collect()));
@@ -133,7 +134,7 @@ pub fn read_as_drawn(name: &str) -> Result<(Kind, Vec<Ring>)> {
 
 /// The points of a path, and whether a closing repeat was left off.
 pub fn read_path(name: &str) -> Result<(Vec<Point>, bool)> {
-    let (file, wanted) = asked(name);
+    let (file, wanted) = asked(name)?;
     if wanted.is_some() {
         return read_ring(name).map(|ring| (ring.points, ring.opened));
     }
@@ -142,17 +143,25 @@ pub fn read_path(name: &str) -> Result<(Vec<Point>, bool)> {
 
 /// The name of a file, and the ring that is asked for behind a `#`; a file that has such
 /// a name itself is taken whole.
-fn asked(name: &str) -> (&str, Option<usize>) {
-    if std::path::Path::new(name).exists() {
-        return (name, None);
-    }
+fn asked(name: &str) -> Result<(&str, Option<usize>)> {
+    let there = |file: &str| Path::new(file).exists();
     match name.rsplit_once('#') {
-        Some((file, ring)) if !file.is_empty() => match ring.parse() {
-            Ok(ring) => (file, Some(ring)),
-            Err(_) => (name, None),
+        Some((file, ring)) if !file.is_empty() && !there(name) => match ring.parse() {
+            Ok(ring) => Ok((file, Some(ring))),
+            Err(_) if file == "-" || there(file) => {
+                let ring = text::shortened(ring);
+                let words = format!("#{ring} is no ring: rings are counted, {file}#0 on");
+                Err(Fault::of(file, words))
+            }
+            Err(_) => Ok((name, None)),
         },
-        _ => (name, None),
+        _ => Ok((name, None)),
     }
+}
+
+/// The file that a name is of, without the ring that is asked for.
+pub fn file_of(name: &str) -> &str {
+    asked(name).map_or(name, |(file, _)| file)
 }
 
 /// The rings that these bytes hold, or what is wrong with them and what to do.
@@ -225,7 +234,7 @@ fn of_book((part, points): (u32, Vec<Point>)) -> Ring {
 fn words(bytes: &[u8]) -> Option<&str> {
     let text = std::str::from_utf8(bytes).ok()?;
     let text = text.strip_prefix('\u{feff}').unwrap_or(text);
-    text.chars().all(|c| !c.is_control() || "\t\r\n".contains(c)).then_some(text)
+    (!text.contains(hidden)).then_some(text)
 }
 
 /// What a text holds.
@@ -238,7 +247,9 @@ fn of_text(text: &str) -> std::result::Result<Held, Wrong> {
             "is well-known binary in hex digits: write it as bytes, by xxd -r -p".into(),
         ));
     }
-    if trimmed.starts_with(|c: char| c.is_alphabetic()) {
+    let uncommented = text.lines().map(|line| line.split('#').next().unwrap_or_default().trim());
+    let first = uncommented.into_iter().find(|line| !line.is_empty()).unwrap_or_default();
+    if first.starts_with(|c: char| c.is_alphabetic()) {
         return Ok(Held::Points(Kind::Wkt, wkt::points(text)?));
     }
     Ok(Held::Points(Kind::Text, text::points(text)?))
@@ -252,7 +263,35 @@ fn unlike(bytes: &[u8], book: Refusal, wkb: Refusal) -> String {
     if like_wkb(bytes) {
         return wkb.to_string();
     }
-    "is neither a book nor well-known binary, and no text: nothing else is read".into()
+    if bytes.starts_with(b"\xff\xfe") || bytes.starts_with(b"\xfe\xff") {
+        return "byte 0: is text in UTF-16: save it in UTF-8".into();
+    }
+    let fault = |refusal: Refusal| match refusal {
+        Refusal::Book { place } | Refusal::Wkb { place, .. } => format!("at byte {place}"),
+        other => other.to_string(),
+    };
+    let (book, wkb, sign) = (fault(book), fault(wkb), unseen(bytes));
+    format!(
+        "is nothing that is read: as a book it is wrong {book}, as well-known binary {wkb}, as \
+         text at byte {sign}: look where it came from"
+    )
+}
+
+/// The first byte that cannot stand in a text.
+fn unseen(bytes: &[u8]) -> usize {
+    let (text, rest) = match std::str::from_utf8(bytes) {
+        Ok(text) => (text, bytes.len()),
+        Err(error) => {
+            let (text, _) = bytes.split_at(error.valid_up_to());
+            (std::str::from_utf8(text).unwrap_or_default(), error.valid_up_to())
+        }
+    };
+    text.find(hidden).unwrap_or(rest)
+}
+
+/// Whether a sign cannot be seen, and is no blank or end of a line.
+fn hidden(c: char) -> bool {
+    c.is_control() && !"\t\r\n".contains(c)
 }
 
 /// The whole number at this byte.
@@ -266,7 +305,7 @@ fn like_a_book(bytes: &[u8]) -> bool {
     let number = |at| word(bytes, at).map(|word| u32::from_le_bytes(word) as usize);
     let (Some(rings), Some(entries)) = (number(tail), number(tail + 4)) else { return false };
     let begins = |entry: usize| Some(entries) == tail.checked_sub(rings.saturating_mul(entry));
-    rings > 0 && (begins(12) || begins(8))
+    begins(12) || begins(8)
 }
 
 /// Whether the bytes begin as well-known binary of any geometry does.

@@ -1,9 +1,13 @@
 //! The grid on which the true answer is asked: coordinates as whole multiples of a unit,
 //! and how far corners moved to get there.
 
+use crate::words::Words;
 use crate::{plain, Fault, Result};
-use byrlygent::whole::{is_simple_polygon, signed_area2, turn};
+use byrlygent::whole::{is_simple_polygon, turn};
 use byrlygent::{whole, Point};
+
+/// How wide a line of moved corners is at most.
+const WIDE: usize = 92;
 
 /// Most units of a coordinate.
 const MOST: f64 = 1e6;
@@ -15,6 +19,8 @@ pub struct Grid {
     /// How many units make 1, where that is a whole number: then a multiple is worked out
     /// by a quotient, which is the float nearest to the decimal.
     in_one: Option<f64>,
+    /// Whether it is the finest that fits, and was not asked for.
+    fitted: bool,
 }
 
 impl Grid {
@@ -25,7 +31,7 @@ impl Grid {
         }
         let in_one = (1.0 / unit).round();
         let in_one = (in_one >= 1.0 && 1.0 / in_one == unit).then_some(in_one);
-        Ok(Self { unit, in_one })
+        Ok(Self { unit, in_one, fitted: false })
     }
 
     /// The grid of this unit, or if none is given the one of 1 where all these points are
@@ -36,11 +42,36 @@ impl Grid {
         }
         let numbers = || points.iter().flat_map(|&(x, y)| [x, y]);
         let most = numbers().fold(0.0, |most: f64, x| most.max(x.abs()));
-        if most <= MOST && numbers().all(|x| x == x.trunc()) {
-            return Self::of(1.0);
-        }
         let units = (0..=9).rev().map(|digits| 1.0 / 10_f64.powi(digits));
-        Self::of(units.into_iter().find(|unit| most / unit <= MOST).unwrap_or(10.0))
+        let unit = match most <= MOST && numbers().all(|x| x == x.trunc()) {
+            true => 1.0,
+            false => units.into_iter().find(|unit| most / unit <= MOST).unwrap_or(10.0),
+        };
+        Ok(Self { fitted: true, ..Self::of(unit)? })
+    }
+
+    /// The unit as it is told.
+    pub fn told(self) -> String {
+        plain::number(self.unit)
+    }
+
+    /// That a coordinate is too large for the grid.
+    fn too_large(self, x: f64) -> Fault {
+        let (unit, x) = (self.told(), plain::number(x));
+        let what = match self.fitted {
+            true => "bring all nearer to (0, 0), or give a larger --unit",
+            false => "give a larger --unit",
+        };
+        Fault::new(format!("on the grid of {unit} the coordinate {x} is past {MOST} units: {what}"))
+    }
+
+    /// That the disc has no inside on the grid.
+    fn too_flat(self) -> Fault {
+        let what = match self.fitted {
+            true => "it is a line or a point, or too small for coordinates so large",
+            false => "give a smaller --unit, or a disc that is more than a line",
+        };
+        Fault::new(format!("on the grid of {} the disc has no area: {what}", self.told()))
     }
 
     /// The unit.
@@ -68,10 +99,7 @@ impl Grid {
             None => (x / self.unit).round(),
         };
         if units.abs() > MOST {
-            let unit = self.unit;
-            return Err(Fault::new(format!(
-                "on the grid of {unit} the coordinate {x} is past {MOST} units: give a larger --unit"
-            )));
+            return Err(self.too_large(x));
         }
         Ok((units as i32, (x - self.multiple(units)).abs()))
     }
@@ -85,6 +113,48 @@ impl Grid {
             moved.push(by_x.hypot(by_y));
         }
         Ok(OnGrid { spots, moved })
+    }
+}
+
+/// What is said where not all is told.
+const HINT: &str = " (--moved tells each)";
+
+/// A line as a picture says it, which can be asked for no more.
+pub fn without_hint(line: &str) -> String {
+    line.replace(HINT, "")
+}
+
+/// How much is told of what moved to a grid: each corner of rings that have no more than
+/// so many, and whether each point of a path; of all others the farthest alone.
+#[derive(Debug, Clone, Copy, PartialEq, Eq)]
+pub struct Telling {
+    corners: usize,
+    path: bool,
+}
+
+impl Telling {
+    /// What these words ask for: all with --moved; each corner of a ring of up to 64 with
+    /// --unit, and in a report of every ring.
+    pub fn asked(words: &Words) -> Self {
+        let corners = match (words.has("moved"), words.command(), words.has("unit")) {
+            (true, ..) | (_, "report", _) => 256,
+            (_, _, true) => 64,
+            _ => 0,
+        };
+        Self { corners, path: words.has("moved") }
+    }
+
+    /// What is said of these, each with its name and whether it is a ring, behind a summary.
+    pub fn told(self, all: &[(&str, &OnGrid, bool)]) -> String {
+        let (mut lines, mut left) = (String::new(), false);
+        for (several, on, ring) in all {
+            match if *ring { on.moved.len() <= self.corners } else { self.path } {
+                true => lines += &on.each(several),
+                false => left |= on.is_moved(),
+            }
+        }
+        let more = if left { HINT } else { "" };
+        format!("{more}\n{lines}")
     }
 }
 
@@ -120,24 +190,32 @@ impl OnGrid {
         format!("{moved} of {all} moved, {one} {at} farthest, by {}", plain::size(most))
     }
 
-    /// A line for each point that moved.
-    pub fn each(&self, one: &str) -> String {
-        let lines = self.moved.iter().enumerate().filter(|(_, by)| **by > 0.0);
-        lines.map(|(at, by)| format!("  {one} {at} moved by {}\n", plain::size(*by))).collect()
+    /// How far each that moved did, some on a line.
+    pub fn each(&self, several: &str) -> String {
+        let moved = self.moved.iter().enumerate().filter(|(_, by)| **by > 0.0);
+        let each: Vec<String> =
+            moved.map(|(at, by)| format!("{at} by {}", plain::size(*by))).collect();
+        let mut lines: Vec<String> = Vec::new();
+        for one in each {
+            match lines.last_mut() {
+                Some(line) if line.len() + one.len() < WIDE => *line += &format!(", {one}"),
+                _ => lines.push(format!("  {several} {one}")),
+            }
+        }
+        lines.into_iter().map(|line| line + "\n").collect()
     }
 
-    /// Whether the ring of these points is convex, with an area; an error if it has none.
+    /// Whether the ring of these points is convex; an error if all lie on a line.
     pub fn is_convex(&self, grid: Grid) -> Result<bool> {
         let mut ring = self.spots.clone();
         ring.dedup();
         while ring.len() > 1 && ring.first() == ring.last() {
             ring.pop();
         }
-        if ring.len() < 3 || signed_area2(&ring)? == 0 {
-            let unit = grid.unit;
-            let words =
-                format!("on the grid of {unit} the disc has no area: give a smaller --unit");
-            return Err(Fault::new(words));
+        let off = |spot: &whole::Point| turn(ring[0], ring[1], *spot).map(|turn| turn != 0);
+        let off: Vec<bool> = ring.iter().skip(2).map(off).collect::<byrlygent::Result<_>>()?;
+        if !off.contains(&true) {
+            return Err(grid.too_flat());
         }
         let n = ring.len();
         let turns = (0..n).map(|i| turn(ring[i], ring[(i + 1) % n], ring[(i + 2) % n]));
@@ -175,5 +253,15 @@ mod tests {
     fn a_unit_is_above_nothing() {
         assert!(Grid::of(0.0).is_err());
         assert!(Grid::of(f64::NAN).is_err());
+    }
+
+    #[test]
+    fn a_disc_that_crosses_itself_is_not_flat() {
+        let grid = Grid::of(1.0).expect("a unit");
+        let is_convex = |ring: &[(f64, f64)]| grid.put(ring).and_then(|on| on.is_convex(grid));
+        assert_eq!(is_convex(&[(0.0, 0.0), (2.0, 2.0), (2.0, 0.0), (0.0, 2.0)]), Ok(false));
+        assert_eq!(is_convex(&[(0.0, 0.0), (2.0, 0.0), (2.0, 2.0), (0.0, 2.0)]), Ok(true));
+        assert!(is_convex(&[(0.0, 0.0), (1.0, 1.0), (2.0, 2.0), (1.0, 1.0)]).is_err());
+        assert!(is_convex(&[(1.0, 1.0), (1.0, 1.0), (1.0, 1.0)]).is_err());
     }
 }

@@ -56,8 +56,10 @@ const JOBS: [[&str; 5]; 10] = [
         "slide a disc round its carrier",
         "A point of the path is how far the disc, as drawn, is moved. Each leg is then asked on the\n\
          grid of U whether nothing lies in between; without --unit that is the grid of 1 if all is\n\
-         whole, and else the finest of a power of ten that fits. Status 1, and a WARNING: the path\n\
-         is not closed, or leads through the carrier. --moved tells each corner that moved to its grid.",
+         whole, and else the finest of a power of ten that fits. How far corners moved to get there\n\
+         is told: with --unit of each corner of a ring of up to 64, with --moved of all corners and\n\
+         points, and else of the farthest. Status 1, and a WARNING: the path is not closed, or leads\n\
+         through the carrier.",
         "byr slide carrier.wkt disc.wkb --path path.txt --svg slide.svg",
     ],
     [
@@ -67,15 +69,17 @@ const JOBS: [[&str; 5]; 10] = [
         "why is a move clear, or not?",
         "The disc, as drawn, is moved to X,Y and goes on from there by DX,DY. The rule's answer comes\n\
          with its ground and counts, the true one, on the grid of U, with its lines or the edge in\n\
-         the way. Status 0: both say clear, 1: not.",
+         the way. How far corners moved to the grid is told as for slide (byr help slide). Status 0:\n\
+         both say clear, 1: not.",
         "byr why carrier.wkt disc.wkb --at 10,12 --by 0,-2.5 --unit 0.001 --svg why.svg",
     ],
     [
         "check",
         "CARRIER DISC PATH [--unit U] [--moved] [--tolerance T]",
         "check a path that another program traced",
-        "Tells the first fault by the rule, and the first leg that is not clear on the grid of U.\n\
-         Status 0: accepted and clear, 1: not.",
+        "Tells the first fault by the rule, and the first leg that is not clear on the grid of U. How\n\
+         far corners moved to the grid is told as for slide (byr help slide). Status 0: accepted and\n\
+         clear, 1: not.",
         "byr check carrier.wkt disc.wkb path.txt --unit 0.001",
     ],
     [
@@ -93,9 +97,10 @@ const JOBS: [[&str; 5]; 10] = [
          \x20      [--least-move L]",
         "write the auditor's file",
         "One page that prints, with nothing loaded from outside: the outlines, whether the carrier is\n\
-         the same as OTHER, the slide, why the move is clear or not with every line and how to check\n\
-         it by hand, the inspection plan and what was given out so far, versions and refusals.\n\
-         Status 1: there is a WARNING in it.",
+         the same as OTHER, and else OTHER's outline, the slide, why the move is clear or not with\n\
+         every line and how to check it by hand, the inspection plan and what was given out so far,\n\
+         versions and refusals. Each corner that moved to the grid is told, with --moved each point\n\
+         of the path too. Status 1: there is a WARNING in it.",
         "byr report audit.html carrier.wkt disc.wkb --same thursday.txt --at 20,38 --by 10,0 --per-shift 5",
     ],
 ];
@@ -115,7 +120,17 @@ pub fn of(name: &str) -> String {
     format!("byr {name} {words}\n\n{what}\n\n{more}\n\n{FILES}\nExample: {example}\n")
 }
 
-/// The version.
+/// The header that the library is called by.
+const HEADER: &str = include_str!("../../include/byrlygent.h");
+
+/// The number of the library's interface: the wrapper calls no library of another one.
+fn interface() -> &'static str {
+    let number = |line: &'static str| line.strip_prefix("#define BYR_ABI_VERSION ");
+    HEADER.lines().find_map(number).map_or("unknown", |number| number.trim_end_matches('u'))
+}
+
+/// The versions of the command and of the library.
 pub fn version() -> String {
-    format!("byr {}, over the library byrlygent\n", env!("CARGO_PKG_VERSION"))
+    let (version, interface) = (env!("CARGO_PKG_VERSION"), interface());
+    format!("byr {version}, over the library byrlygent, interface {interface}\n")
 }

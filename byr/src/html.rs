@@ -9,14 +9,16 @@ const STYLE: &str = "\
     h1 { font-size: 1.7rem } h2 { font-size: 1.3rem; margin-top: 2.2rem; border-bottom: 2px solid }\n\
     h3 { font-size: 1.05rem }\n\
     p.warning, li.warning { font-weight: bold; border-left: .5rem solid; padding-left: .6rem }\n\
-    pre { font: 13px/1.35 monospace; white-space: pre-wrap; overflow-wrap: anywhere }\n\
+    pre { font: 13px/1.35 monospace; white-space: pre-wrap; overflow-wrap: anywhere; orphans: 4; \
+    widows: 4 }\n\
     pre.columns { columns: 2; column-gap: 1.5rem; white-space: pre; orphans: 3; widows: 3 }\n\
     table { border-collapse: collapse; font-size: .92rem } th, td { border: 1px solid #888; \
     padding: .2rem .6rem; text-align: left; vertical-align: top }\n\
     figure { margin: 1rem 0; break-inside: avoid } svg { max-width: 100%; \
     max-height: 13.5cm; width: auto; height: auto; border: 1px solid #ccc }\n\
-    figure.small svg { max-height: 8.4cm }\n\
-    h2, h3 { break-after: avoid } tr { break-inside: avoid }\n\
+    figure.small svg { max-height: 9.4cm }\n\
+    h2, h3, h2 + p, pre:has(+ figure), figure + pre { break-after: avoid }\n\
+    p, tr, .whole { break-inside: avoid }\n\
     @page { size: A4; margin: 16mm }\n\
     @media print { body { font-size: 10.5pt; max-width: none; margin: 0; padding: 0 } \
     pre { font-size: 8pt } pre.columns { font-size: 7.2pt } }\n";
@@ -50,7 +52,9 @@ impl Sections {
             true => format!("<b>{}</b>\n", escaped(line)),
             false => format!("{}\n", escaped(line)),
         };
-        self.body += &format!("<pre>{}</pre>\n", words.lines().map(line).collect::<String>());
+        let whole = whole(words.lines().count());
+        let words: String = words.lines().map(line).collect();
+        self.body += &format!("<pre{whole}>{words}</pre>\n");
     }
 
     /// Short lines, in columns.
@@ -76,8 +80,18 @@ impl Sections {
             format!("<tr>{}</tr>\n", cells.iter().map(cell).collect::<String>())
         };
         let head = cells("th", headings.iter().map(|word| word.to_string()).collect());
-        let rows: String = rows.iter().map(|row| cells("td", row.clone())).collect();
-        self.body += &format!("<table>\n<thead>{head}</thead>\n{rows}</table>\n");
+        let body: String = rows.iter().map(|row| cells("td", row.clone())).collect();
+        let whole = whole(rows.len());
+        self.body += &format!("<table{whole}>\n<thead>{head}</thead>\n{body}</table>\n");
+    }
+}
+
+/// The class of what has so many lines: what is short stands on one page.
+fn whole(lines: usize) -> &'static str {
+    if lines <= 9 {
+        " class=\"whole\""
+    } else {
+        ""
     }
 }
 

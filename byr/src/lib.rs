@@ -59,15 +59,21 @@ pub fn run(arguments: impl Iterator<Item = OsString>) -> ExitCode {
 
 /// The words of the arguments' subcommand, once they are on standard output.
 fn answered(arguments: impl Iterator<Item = OsString>) -> Result<Said> {
-    let text = |word: OsString| {
-        word.into_string().map_err(|word| Fault::new(format!("{word:?} is no text that byr reads")))
+    // A word with such a sign, the name of a file say, would spoil the lines that tell of it.
+    let unseen = |word: &str| word.contains(char::is_control);
+    let text = |word: OsString| match word.into_string() {
+        Ok(word) if unseen(&word) => {
+            Err(Fault::new(format!("{word:?} has a sign that cannot be seen: name it otherwise")))
+        }
+        Ok(word) => Ok(word),
+        Err(word) => Err(Fault::new(format!("{word:?} is no text: name it otherwise"))),
     };
     let arguments = arguments.map(text).collect::<Result<Vec<String>>>()?;
     let said = commands::called(&arguments)?;
     match print(&said.words) {
         // A reader that has seen enough, as `head`, is no fault.
         Err(error) if error.kind() == ErrorKind::BrokenPipe => Ok(said),
-        Err(error) => Err(Fault::new(format!("standard output: {error}"))),
+        Err(error) => Err(Fault::of("standard output", files::spoken(&error))),
         Ok(()) => Ok(said),
     }
 }

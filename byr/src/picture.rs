@@ -1,7 +1,7 @@
 //! Pictures as SVG, all in one style that needs no colour: rings that stay are grey, the
 //! moved one is drawn heavy where it starts and dashed where it ends, paths are thin with
 //! arrows, parting lines thin and dashed, and what is told is heaviest. Each picture says
-//! its captions in text as well.
+//! its captions in text as well, and below itself what is drawn how.
 
 use byrlygent::Point;
 
@@ -13,9 +13,13 @@ const MARGIN: f64 = 44.0;
 /// The height of a line of the captions.
 const LINE: f64 = 27.0;
 
-/// The most letters of a line of the captions, and of one that is heavy.
+/// The least distance of two corners that both have their numbers.
+const APART: f64 = 27.0;
+
+/// The most letters of a line of the captions, of one that is heavy, and of the legend.
 const LETTERS: usize = 98;
 const HEAVY_LETTERS: usize = 82;
+const SMALL_LETTERS: usize = 116;
 
 /// How the parts of a picture are drawn.
 const STYLE: &str = "<style>\
@@ -29,18 +33,39 @@ const STYLE: &str = "<style>\
     .head { fill: #000; stroke-width: 1 }\
     .line { stroke-width: .9; stroke-dasharray: 5 3.5 }\
     .told { stroke: #777; stroke-width: 11; stroke-linecap: round }\
-    .dot { fill: #000; stroke: #fff; stroke-width: 1 }\
+    .dot { fill: #000; stroke: none }\
     .touch { fill: #fff; stroke-width: 2.5 }\
     text { font: 19px sans-serif; paint-order: stroke; stroke: #fff; stroke-width: 5 }\
-    .number { font-size: 14px }\
+    .number { font-size: 16px; stroke-width: 3 }\
+    .grey { stroke: #ccc }\
+    .pale { stroke: #ddd; font-size: 21px }\
     .warning { font-weight: bold }\
     </style>\n";
+
+/// What a picture says in words.
+pub struct Captions<'a> {
+    /// What it is of.
+    pub title: &'a str,
+    /// What it shows.
+    pub lines: Vec<String>,
+    /// What is drawn how.
+    pub legend: String,
+    /// Whether title and lines stand above it; else they stand beside it already.
+    pub above: bool,
+}
+
+/// A label: where its middle is, and half its width.
+type Label = (Point, f64);
 
 /// A picture in the making.
 pub struct Picture {
     title: String,
+    /// What is said of it, in one line.
+    told: String,
     /// The lines above, and whether each is heavy.
     captions: Vec<(bool, String)>,
+    /// The lines below.
+    legend: Vec<String>,
     low: Point,
     scale: f64,
     left: f64,
@@ -49,25 +74,38 @@ pub struct Picture {
     parts: String,
     /// The words, which lie over all parts, and where they are.
     words: String,
-    labels: Vec<Point>,
+    labels: Vec<Label>,
+    /// Lines that no number of a corner may hide.
+    arrows: Vec<(Point, Point)>,
 }
 
 impl Picture {
-    /// A picture in which all these points can be seen, with these captions above.
-    pub fn over(points: &[Point], title: &str, captions: &[String]) -> Self {
+    /// A picture in which all these points can be seen, with these captions.
+    pub fn over(points: &[Point], said: &Captions) -> Self {
         let least = |of: fn(&Point) -> f64| points.iter().map(of).fold(f64::INFINITY, f64::min);
         let most = |of: fn(&Point) -> f64| points.iter().map(of).fold(f64::NEG_INFINITY, f64::max);
         let (low, high) = ((least(|p| p.0), least(|p| p.1)), (most(|p| p.0), most(|p| p.1)));
         let [wide, tall] = [high.0 - low.0, high.1 - low.1].map(|side| side.max(1e-300));
         let room = WIDTH - 2.0 * MARGIN;
         let scale = (room / wide).min(MOST_HEIGHT / tall);
-        let captions: Vec<(bool, String)> = captions.iter().flat_map(|text| broken(text)).collect();
-        let top = 18.0 + LINE * (captions.len() + 1) as f64 + MARGIN;
-        let height = top + (high.1 - low.1) * scale + MARGIN;
-        let left = MARGIN + (room - (high.0 - low.0) * scale) / 2.0;
-        let (parts, words) = (String::new(), String::new());
-        let title = title.to_string();
-        Self { title, captions, low, scale, left, top, height, parts, words, labels: Vec::new() }
+        let captions = said.shown();
+        let above = if captions.is_empty() { 0.0 } else { 18.0 + LINE * captions.len() as f64 };
+        let height = above + MARGIN + (high.1 - low.1) * scale + MARGIN;
+        Self {
+            title: said.title.to_string(),
+            told: said.lines.join(" "),
+            captions,
+            legend: broken(&said.legend, SMALL_LETTERS),
+            low,
+            scale,
+            left: MARGIN + (room - (high.0 - low.0) * scale) / 2.0,
+            top: above + MARGIN,
+            height,
+            parts: String::new(),
+            words: String::new(),
+            labels: Vec::new(),
+            arrows: Vec::new(),
+        }
     }
 
     /// Where a point lies in the picture, whose heights grow downwards.
@@ -125,6 +163,7 @@ impl Picture {
         self.segment(from, to, "path");
         let (from, to) = (self.shown(from), self.shown(to));
         self.head(from, to, 1.0);
+        self.arrows.push((from, to));
     }
 
     /// The head of an arrow so far along a leg, if the leg is long enough to carry it.
@@ -154,55 +193,78 @@ impl Picture {
         self.circle(point, 6.0, "touch");
     }
 
-    /// The numbers of a ring's corners, each where it is clear of all labels so far.
-    pub fn corner_numbers(&mut self, ring: &[Point]) {
-        let shown: Vec<Point> = ring.iter().map(|&p| self.shown(p)).collect();
-        let n = shown.len() as f64;
-        let middle = shown.iter().fold((0.0, 0.0), |m, p| (m.0 + p.0 / n, m.1 + p.1 / n));
-        for (at, &(x, y)) in shown.iter().enumerate() {
-            let (dx, dy) = (x - middle.0, y - middle.1);
-            let length = dx.hypot(dy).max(1.0);
-            let place = (x + 15.0 * dx / length, y + 15.0 * dy / length);
-            self.label(place, &at.to_string(), "number", 24.0);
+    /// The numbers of a ring's corners, inside of it, each where it is clear of all labels so
+    /// far: where corners are near each other, of every second or fourth alone, and so on.
+    pub fn corner_numbers(&mut self, ring: &[Point], ground: &str) {
+        let edges = self.edges(ring);
+        let n = edges.len();
+        let mean = edges.iter().map(|edge| edge.length).sum::<f64>() / n as f64;
+        let Some(step) = (0..9).map(|k| 1 << k).find(|&step| step as f64 * mean >= APART) else {
+            return;
+        };
+        for at in (0..n).step_by(step) {
+            let (from, to) = (&edges[(at + n - 1) % n], &edges[at]);
+            let (x, y) = (from.inside.0 + to.inside.0, from.inside.1 + to.inside.1);
+            let half = (x.hypot(y) / 2.0).max(0.4);
+            // So far from both edges that the digits fit, and not too far from the corner.
+            let digits = at.to_string();
+            let wide = if ground == "pale" { 4.5 } else { 3.5 };
+            let off = (10.0 + wide * digits.len() as f64) / (2.0 * half * half);
+            let place = (to.from.0 + x * off, to.from.1 + y * off);
+            if !self.arrows.iter().any(|&arrow| apart(place, arrow) < 9.0) {
+                self.label(place, &digits, &format!("number {ground}"));
+            }
         }
     }
 
     /// The name of a ring, inside of its longest edge.
     pub fn name_ring(&mut self, ring: &[Point], name: &str) {
-        let shown: Vec<Point> = ring.iter().map(|&p| self.shown(p)).collect();
-        let n = shown.len();
-        let edge = |at: usize| (shown[at], shown[(at + 1) % n]);
-        let length = |(a, b): (Point, Point)| (b.0 - a.0).hypot(b.1 - a.1);
-        let longest = (0..n).max_by(|&i, &j| length(edge(i)).total_cmp(&length(edge(j))));
-        let (a, b) = edge(longest.unwrap_or(0));
-        let area: f64 = (0..n).map(edge).map(|(a, b)| a.0 * b.1 - b.0 * a.1).sum();
-        let off = 26.0 * area.signum() / length((a, b)).max(1.0);
-        let inside = (-(b.1 - a.1) * off, (b.0 - a.0) * off);
-        let place = ((a.0 + b.0) / 2.0 + inside.0, (a.1 + b.1) / 2.0 + inside.1);
-        self.label(place, name, "name", 24.0);
+        let edges = self.edges(ring);
+        let longest = edges.iter().max_by(|a, b| a.length.total_cmp(&b.length));
+        if let Some(edge) = longest {
+            let place = edge.beside(26.0, 26.0);
+            self.label(place, name, "name pale");
+        }
     }
 
-    /// An edge that is told, with its number.
+    /// The edges of a ring as they are shown.
+    fn edges(&self, ring: &[Point]) -> Vec<Edge> {
+        let shown: Vec<Point> = ring.iter().map(|&p| self.shown(p)).collect();
+        let n = shown.len();
+        let ends: Vec<(Point, Point)> = (0..n).map(|at| (shown[at], shown[(at + 1) % n])).collect();
+        let area: f64 = ends.iter().map(|(a, b)| a.0 * b.1 - b.0 * a.1).sum();
+        ends.into_iter().map(|(a, b)| Edge::between(a, b, area.signum())).collect()
+    }
+
+    /// An edge that is told, with its number outside of the ring.
     pub fn told(&mut self, ring: &[Point], edge: usize) {
-        let (a, b) = (ring[edge], ring[(edge + 1) % ring.len()]);
-        self.segment(a, b, "told");
-        self.name(((a.0 + b.0) / 2.0, (a.1 + b.1) / 2.0), (44.0, 18.0), &format!("edge {edge}"));
+        self.segment(ring[edge], ring[(edge + 1) % ring.len()], "told");
+        let place = self.edges(ring)[edge].beside(-48.0, -26.0);
+        self.label(place, &format!("edge {edge}"), "name");
     }
 
     /// A name beside a point, where it is clear of all labels so far.
     pub fn name(&mut self, at: Point, off: Point, name: &str) {
         let (x, y) = self.shown(at);
-        self.label((x + off.0, y + off.1), name, "name", 24.0);
+        self.label((x + off.0, y + off.1), name, "name");
     }
 
     /// Words about a place of the picture, unless another label is too near.
-    fn label(&mut self, place: Point, words: &str, class: &str, room: f64) {
-        let near = |p: &Point| (p.0 - place.0).abs() < room && (p.1 - place.1).abs() < room * 0.7;
+    fn label(&mut self, place: Point, words: &str, class: &str) {
+        let wide = match class {
+            class if class.ends_with("pale") => 6.2,
+            "name" => 5.5,
+            _ => 4.8,
+        };
+        let half = words.chars().count() as f64 * wide;
+        let near = |&((x, y), other): &Label| {
+            (x - place.0).abs() < half + other + 3.0 && (y - place.1).abs() < 16.0
+        };
         if self.labels.iter().any(near) {
             return;
         }
-        self.labels.push(place);
-        let (x, y) = (digits(place.0), digits(place.1 + 5.0));
+        self.labels.push((place, half));
+        let (x, y) = (digits(place.0), digits(place.1 + 5.5));
         let words = escaped(words);
         self.words += &format!(
             "<text class=\"{class}\" x=\"{x}\" y=\"{y}\" text-anchor=\"middle\">{words}</text>\n"
@@ -211,17 +273,20 @@ impl Picture {
 
     /// The whole file.
     pub fn finished(&self) -> String {
-        let (width, height) = (WIDTH, digits(self.height));
-        let title = escaped(&self.title);
-        let told: Vec<&str> = self.captions.iter().map(|(_, text)| text.as_str()).collect();
-        let told = escaped(&told.join(" "));
+        let (title, told) = (escaped(&self.title), escaped(&self.told));
         let mut captions = String::new();
-        let head = (true, self.title.clone());
-        for (at, (heavy, text)) in [&head].into_iter().chain(&self.captions).enumerate() {
+        for (at, (heavy, text)) in self.captions.iter().enumerate() {
             let class = if *heavy { " class=\"warning\"" } else { "" };
             let (y, text) = (digits(18.0 + LINE * (at as f64 + 0.5)), escaped(text));
             captions += &format!("<text{class} x=\"24\" y=\"{y}\">{text}</text>\n");
         }
+        for (at, text) in self.legend.iter().enumerate() {
+            let (y, text) = (digits(self.height + 22.0 * (at as f64 + 0.5)), escaped(text));
+            captions += &format!("<text class=\"number\" x=\"24\" y=\"{y}\">{text}</text>\n");
+        }
+        let below =
+            if self.legend.is_empty() { 0.0 } else { 22.0 * self.legend.len() as f64 + 8.0 };
+        let (width, height) = (WIDTH, digits(self.height + below));
         format!(
             "<svg xmlns=\"http://www.w3.org/2000/svg\" viewBox=\"0 0 {width} {height}\" \
              width=\"{width}\" height=\"{height}\" role=\"img\">\n<title>{title}</title>\n\
@@ -229,6 +294,49 @@ impl Picture {
              fill=\"#fff\"/>\n{}{}{captions}</svg>\n",
             self.parts, self.words
         )
+    }
+}
+
+impl Captions<'_> {
+    /// The lines above a picture, and whether each is heavy, as the title is.
+    fn shown(&self) -> Vec<(bool, String)> {
+        if !self.above {
+            return Vec::new();
+        }
+        let heavy = |text: &str| broken(text, HEAVY_LETTERS).into_iter().map(|line| (true, line));
+        let plain = |text: &str| broken(text, LETTERS).into_iter().map(|line| (false, line));
+        let line = |text: &String| -> Vec<(bool, String)> {
+            match text.contains("WARNING") {
+                true => heavy(text).collect(),
+                false => plain(text).collect(),
+            }
+        };
+        heavy(self.title).chain(self.lines.iter().flat_map(line)).collect()
+    }
+}
+
+/// An edge of a ring as it is shown.
+struct Edge {
+    from: Point,
+    to: Point,
+    length: f64,
+    /// The way from it into the ring, of length 1.
+    inside: Point,
+}
+
+impl Edge {
+    /// The edge between two points, of a ring that goes this way round.
+    fn between(from: Point, to: Point, way: f64) -> Self {
+        let (dx, dy) = (to.0 - from.0, to.1 - from.1);
+        let length = dx.hypot(dy);
+        let unit = way / length.max(1e-9);
+        Self { from, to, length, inside: (-dy * unit, dx * unit) }
+    }
+
+    /// The place so far inside of its middle, across and along the heights.
+    fn beside(&self, across: f64, along: f64) -> Point {
+        let middle = ((self.from.0 + self.to.0) / 2.0, (self.from.1 + self.to.1) / 2.0);
+        (middle.0 + self.inside.0 * across, middle.1 + self.inside.1 * along)
     }
 }
 
@@ -246,6 +354,14 @@ fn digits(x: f64) -> String {
 /// A point of the picture.
 fn pair((x, y): Point) -> String {
     format!("{},{}", digits(x), digits(y))
+}
+
+/// How far a point of the picture is from a segment.
+fn apart((x, y): Point, (a, b): (Point, Point)) -> f64 {
+    let (dx, dy) = (b.0 - a.0, b.1 - a.1);
+    let along = ((x - a.0) * dx + (y - a.1) * dy) / (dx * dx + dy * dy).max(1e-9);
+    let along = along.clamp(0.0, 1.0);
+    (x - a.0 - along * dx).hypot(y - a.1 - along * dy)
 }
 
 /// The part of the line through two points that lies in a frame, its ranges of x and y.
@@ -267,24 +383,23 @@ fn clipped(p: Point, q: Point, frame: [(f64, f64); 2]) -> Option<(Point, Point)>
     (first < last && first.is_finite() && last.is_finite()).then(|| (at(first), at(last)))
 }
 
-/// A text in lines that are short enough for a picture, and whether they are heavy: those
-/// of a warning are.
-fn broken(text: &str) -> Vec<(bool, String)> {
-    let heavy = text.contains("WARNING");
-    let most = if heavy { HEAVY_LETTERS } else { LETTERS };
-    let mut lines = vec![String::new()];
+/// A text in lines that have no more letters than fit: of no text there is no line, and a
+/// word that is too long is broken.
+fn broken(text: &str, most: usize) -> Vec<String> {
+    let mut lines: Vec<String> = Vec::new();
     for word in text.split_whitespace() {
-        let line = lines.last_mut().expect("one at least");
-        if !line.is_empty() && line.chars().count() + word.chars().count() >= most {
-            lines.push(word.to_string());
-        } else {
-            if !line.is_empty() {
-                line.push(' ');
+        let letters: Vec<char> = word.chars().collect();
+        for part in letters.chunks(most).map(|part| part.iter().collect::<String>()) {
+            match lines.last_mut() {
+                Some(line) if line.chars().count() + part.chars().count() < most => {
+                    line.push(' ');
+                    line.push_str(&part);
+                }
+                _ => lines.push(part),
             }
-            line.push_str(word);
         }
     }
-    lines.into_iter().map(|line| (heavy, line)).collect()
+    lines
 }
 
 /// Words as XML holds them.

@@ -23,14 +23,18 @@ fn point(line: &str) -> Result<Point, String> {
         true => line.split(',').map(str::trim).collect(),
         false => line.split_whitespace().collect(),
     };
-    let [x, y] = parts[..] else {
-        let has = parts.len();
-        let hint = if line.contains(',') { ", a decimal comma as a point" } else { "" };
-        return Err(format!(
-            "it has {}: write two{hint}",
-            crate::plain::count(has, "number", "numbers")
-        ));
+    let how = match line.contains(',') {
+        true => "write two, a decimal comma as a point",
+        false => "write two, blanks or a comma between",
     };
+    let [x, y] = parts[..] else {
+        let has = crate::plain::count(parts.len(), "number", "numbers");
+        return Err(format!("it has {has}: {how}"));
+    };
+    if let Some(part) = [x, y].into_iter().find(|part| part.contains(char::is_whitespace)) {
+        let part = shortened(part);
+        return Err(format!("\"{part}\" is more than a number: {how}"));
+    }
     Ok((number(x)?, number(y)?))
 }
 

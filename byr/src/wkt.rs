@@ -24,9 +24,13 @@ impl<'a> Rest<'a> {
         front
     }
 
-    /// Goes on past blanks.
+    /// Goes on past blanks and comments.
     fn blanks(&mut self) {
         self.skip(self.text.len() - self.text.trim_start().len());
+        while self.text.starts_with('#') {
+            self.skip(self.text.find('\n').unwrap_or(self.text.len()));
+            self.skip(self.text.len() - self.text.trim_start().len());
+        }
     }
 
     /// The letters here, which may be none.
@@ -48,19 +52,27 @@ impl<'a> Rest<'a> {
 
     /// This sign must stand here.
     fn expect(&mut self, sign: char) -> Result<(), Wrong> {
-        if self.sign(sign) {
-            return Ok(());
+        match self.sign(sign) {
+            true => Ok(()),
+            false => self.missing(&format!("'{sign}'")),
         }
+    }
+
+    /// That something else stands here than is expected.
+    fn missing<T>(&self, expected: &str) -> Result<T, Wrong> {
         match self.text.chars().next() {
-            Some(other) => self.wrong(format!("'{sign}' is expected where '{other}' stands")),
-            None => self.wrong(format!("'{sign}' is expected where the text ends")),
+            Some(other) => self.wrong(format!("{expected} is expected where '{other}' stands")),
+            None => self.wrong(format!("{expected} is expected where the text ends")),
         }
     }
 
     /// The number here.
     fn number(&mut self) -> Result<f64, Wrong> {
         self.blanks();
-        let end = self.text.find(|c: char| c.is_whitespace() || "(),".contains(c));
+        let end = self.text.find(|c: char| c.is_whitespace() || "(),#".contains(c));
+        if end == Some(0) || self.text.is_empty() {
+            return self.missing("a number");
+        }
         let line = self.line;
         let word = self.skip(end.unwrap_or(self.text.len()));
         number(word).map_err(|words| (line, words))
@@ -99,13 +111,19 @@ fn opening(rest: &mut Rest) -> Result<(), Wrong> {
     if word.eq_ignore_ascii_case("SRID") {
         return rest.wrong("it has a reference system: take SRID=..; away");
     }
-    if !word.eq_ignore_ascii_case("POLYGON") {
+    let with = |more: &str| word.eq_ignore_ascii_case(&format!("POLYGON{more}"));
+    if ["Z", "M", "ZM"].into_iter().any(with) {
+        return rest.wrong(format!("{word} is not known: take Z and M away"));
+    }
+    if !with("") {
         let word = shortened(word);
         return rest.wrong(format!("\"{word}\" is not known: POLYGON is, or two numbers a line"));
     }
     match rest.word() {
         "" => {}
-        word if word.eq_ignore_ascii_case("EMPTY") => return rest.wrong("the polygon is empty"),
+        word if word.eq_ignore_ascii_case("EMPTY") => {
+            return rest.wrong("the polygon is empty: look where it came from")
+        }
         word => {
             let word = shortened(word);
             return rest.wrong(format!("POLYGON {word} is not known: take Z and M away"));

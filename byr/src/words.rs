@@ -1,7 +1,7 @@
 //! The words behind a subcommand: files by their order, and options by their names.
 
 use crate::nearest::nearest;
-use crate::{Fault, Result};
+use crate::{drawing, files, Fault, Result};
 use byrlygent::Point;
 
 /// The words of one call.
@@ -36,6 +36,10 @@ impl Takes {
                     return Err(self.fault(format!("--{name} is given twice")));
                 }
                 options.push((name, value));
+            } else if word.starts_with('-') && !is_input(word) {
+                let like = self.like(word.trim_start_matches('-'));
+                let words = format!("no option {word}: the nearest is --{like}, a file ./{word}");
+                return Err(self.fault(words));
             } else {
                 files.push(word.clone());
             }
@@ -60,7 +64,8 @@ impl Takes {
             (true, Some(value)) => value,
             (true, None) => {
                 let missing = || self.fault(format!("--{name} needs a value behind it"));
-                rest.next().cloned().ok_or_else(missing)?
+                let value = rest.next().filter(|value| !value.starts_with("--"));
+                value.cloned().ok_or_else(missing)?
             }
         };
         Ok((name, value))
@@ -76,15 +81,25 @@ impl Takes {
         if let Some(known) = find(self.flags) {
             return Ok((known, false));
         }
-        let known = [self.valued, self.flags, &["help"]].concat();
-        let like = nearest(name, &known).unwrap_or("help");
+        let like = self.like(name);
         Err(self.fault(format!("no option --{name}: the nearest is --{like}")))
+    }
+
+    /// The option that is nearest to this word.
+    fn like(&self, word: &str) -> &'static str {
+        let known = [self.valued, self.flags, &["help"]].concat();
+        nearest(word, &known).unwrap_or("help")
     }
 
     /// A fault of the words of this subcommand.
     fn fault(&self, words: String) -> Fault {
         fault(self.command, &words)
     }
+}
+
+/// Whether a name is that of standard input, of which a ring may be asked for.
+fn is_input(name: &str) -> bool {
+    name == "-" || name.starts_with("-#")
 }
 
 /// A fault of a subcommand's words.
@@ -106,10 +121,36 @@ impl Words {
         let unlike =
             |_| self.fault(format!("takes {wanted}, {}, and was given {has}", called.join(" ")));
         let names: [&str; N] = names.try_into().map_err(unlike)?;
-        if names.iter().filter(|name| **name == "-").count() > 1 {
-            return Err(self.fault("standard input can be read once only"));
-        }
+        self.input_once(&names)?;
         Ok(names)
+    }
+
+    /// That standard input is not read more than once.
+    pub fn input_once(&self, names: &[&str]) -> Result<()> {
+        match names.iter().filter(|name| is_input(name)).count() {
+            0 | 1 => Ok(()),
+            _ => Err(self.fault("standard input can be read once only: name a file")),
+        }
+    }
+
+    /// That no file is both read and written, or written twice: each has its own name.
+    pub fn apart(&self, read: &[&str], written: &[&str]) -> Result<()> {
+        for (at, out) in written.iter().enumerate() {
+            if read.iter().any(|name| files::same_file(out, drawing::file_of(name))) {
+                return Err(
+                    self.fault(format!("\"{out}\" is read, and not written too: name another"))
+                );
+            }
+            if written[..at].iter().any(|other| files::same_file(out, other)) {
+                return Err(self.fault(format!("\"{out}\" is to be written twice: name two files")));
+            }
+        }
+        Ok(())
+    }
+
+    /// The subcommand that they are for.
+    pub fn command(&self) -> &'static str {
+        self.command
     }
 
     /// All files, in order.
@@ -179,7 +220,7 @@ impl Words {
 
     /// Two numbers with a comma between.
     fn pair(&self, name: &str, value: &str) -> Result<Point> {
-        let Some((x, y)) = value.split_once(',') else {
+        let [x, y] = value.split(',').collect::<Vec<&str>>()[..] else {
             let words = format!("--{name} \"{value}\" is no X,Y: two numbers, a comma between");
             return Err(self.fault(words));
         };

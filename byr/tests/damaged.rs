@@ -1,10 +1,14 @@
 //! Files of each kind, damaged and at random, are read without a panic, and what is wrong
-//! is told in one line. `BYR_FILES` sets how many of each kind there are.
+//! is told in one line, by the command too. `BYR_FILES` sets how many of each kind there are;
+//! of every hundred the command is given one.
 
 use byr::drawing::{path, rings, Kind, Ring};
 use byrlygent::outline_book::write_book;
 use byrlygent::wkb::write_wkb;
 use byrlygent::Point;
+use std::fs;
+use std::path::{Path, PathBuf};
+use std::process::Command;
 
 /// Numbers from a seed: splitmix64.
 struct Seeded(u64);
@@ -140,4 +144,69 @@ fn random_bytes_are_told_or_read() {
         let signs: Vec<u8> = (0..length).map(|_| SIGNS[seeded.below(SIGNS.len())]).collect();
         judge(rings(&signs).map(|(_, rings)| rings));
     }
+}
+
+/// The jobs that read a drawing or a path: each with what it reads called `F`, and what it
+/// writes called `x`.
+const JOBS: [&str; 9] = [
+    "show F --svg x.svg",
+    "same F disc.wkb",
+    "book x.book F disc.wkb",
+    "mend F x.txt",
+    "slide F disc.wkb --passes 200 --svg x.svg",
+    "slide carrier.wkt F --passes 200 --path x.txt",
+    "why carrier.wkt F --at 60,0 --by 3,4 --svg x.svg",
+    "check carrier.wkt disc.wkb F",
+    "report x.html carrier.wkt disc.wkb --same F",
+];
+
+/// A new folder with the shop's carrier and disc.
+fn folder() -> PathBuf {
+    let folder = Path::new(env!("CARGO_TARGET_TMPDIR")).join("damaged");
+    let _ = fs::remove_dir_all(&folder);
+    fs::create_dir_all(&folder).expect("a folder");
+    for name in ["carrier.wkt", "disc.wkb"] {
+        let shop = Path::new(env!("CARGO_MANIFEST_DIR")).join("shop");
+        fs::copy(shop.join(name), folder.join(name)).expect("a copy");
+    }
+    folder
+}
+
+/// The status of a job, which has left its file whole or none, and said why in one line.
+fn ended(job: &str, folder: &Path) -> i32 {
+    let words = job.split(' ');
+    let output = Command::new(env!("CARGO_BIN_EXE_byr")).args(words).current_dir(folder).output();
+    let output = output.expect("run");
+    // A panic ends in a signal, which has no status.
+    let status = output.status.code().expect("no signal");
+    let lines = String::from_utf8(output.stderr).expect("text").lines().count();
+    assert_eq!(lines, usize::from(status == 2), "{job}: status {status}");
+    let mut left = 0;
+    for entry in fs::read_dir(folder).expect("a folder") {
+        let name = entry.expect("an entry").file_name().into_string().expect("text");
+        assert!(!name.starts_with('.'), "{job}: left {name}");
+        if name.starts_with('x') {
+            fs::remove_file(folder.join(name)).expect("removed");
+            left += 1;
+        }
+    }
+    assert_eq!(left, usize::from(status < 2 && job.contains('x')), "{job}: status {status}");
+    status
+}
+
+#[test]
+fn the_command_tells_damaged_files_in_one_line() {
+    let folder = folder();
+    let mut ends = [0; 3];
+    for (seed, kind) in [Kind::Book, Kind::Wkb, Kind::Wkt, Kind::Text].into_iter().enumerate() {
+        let mut seeded = Seeded(200 + seed as u64);
+        for at in 0..count() / 100 {
+            let file = whole(kind, &mut seeded);
+            // Every fourth is whole, so that there is something to do.
+            let file = if at % 4 == 0 { file } else { seeded.damaged(file) };
+            fs::write(folder.join("F"), file).expect("written");
+            JOBS.iter().for_each(|job| ends[ended(job, &folder) as usize] += 1);
+        }
+    }
+    assert!(ends.iter().all(|&end| end > count() / 100), "{ends:?}");
 }

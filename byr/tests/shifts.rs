@@ -4,7 +4,7 @@
 use std::fs;
 use std::path::{Path, PathBuf};
 use std::process::{Command, Stdio};
-use std::time::Duration;
+use std::time::{Duration, Instant};
 
 /// A new folder with a path of so many points.
 fn folder(name: &str, points: usize) -> PathBuf {
@@ -32,6 +32,27 @@ fn kept(folder: &Path, word: &str) -> u64 {
     line.trim().parse().expect("a number")
 }
 
+/// What stands beside the state while a new one is written.
+fn beside(folder: &Path) -> PathBuf {
+    folder.join(".places.state.new")
+}
+
+/// Kills a shift as soon as its moment has come, or it has ended; how many shifts the state
+/// has more, which is none or one.
+fn killed(folder: &Path, mut moment: impl FnMut() -> bool) -> u64 {
+    let before = kept(folder, "shifts");
+    let mut child = shift(folder, false).spawn().expect("begun");
+    while !moment() && child.try_wait().expect("asked").is_none() {
+        std::hint::spin_loop();
+    }
+    let _ = child.kill();
+    child.wait().expect("ended");
+    let more = kept(folder, "shifts") - before;
+    assert!(more <= 1, "{more} shifts at once");
+    assert_eq!(kept(folder, "start"), 5 * kept(folder, "shifts") % 1000);
+    more
+}
+
 /// The places that a shift printed.
 fn places(printed: &[u8]) -> Vec<u64> {
     let text = String::from_utf8_lossy(printed);
@@ -43,22 +64,40 @@ fn places(printed: &[u8]) -> Vec<u64> {
 fn a_killed_shift_leaves_the_old_state_or_the_new_one() {
     let folder = folder("killed", 1000);
     assert!(shift(&folder, true).status().expect("run").success());
-    let (mut old, mut new) = (0, 0);
+    let mut new = 1;
     for delay in 0..120 {
-        let before = kept(&folder, "shifts");
-        let mut child = shift(&folder, false).spawn().expect("begun");
-        std::thread::sleep(Duration::from_micros(25 * delay));
-        let _ = child.kill();
-        child.wait().expect("ended");
-        match kept(&folder, "shifts") - before {
-            0 => old += 1,
-            1 => new += 1,
-            more => panic!("{more} shifts at once"),
-        }
-        assert_eq!(kept(&folder, "start"), 5 * kept(&folder, "shifts") % 1000);
+        let begun = Instant::now();
+        new += killed(&folder, || begun.elapsed() >= Duration::from_micros(25 * delay));
     }
-    let next = shift(&folder, false).output().expect("run");
-    assert!(next.status.success(), "after {old} old and {new} new states");
+    // At once it has done nothing, but on a machine that is too busy to kill it at once.
+    let at_once: Vec<u64> = (0..20).map(|_| killed(&folder, || true)).collect();
+    assert!(at_once.contains(&0));
+    // Left to itself it comes to its end.
+    assert_eq!(killed(&folder, || false), 1);
+    assert_eq!(kept(&folder, "shifts"), new + at_once.iter().sum::<u64>() + 1);
+}
+
+#[test]
+fn a_shift_that_is_killed_between_its_steps_leaves_nothing_that_stays() {
+    let folder = folder("between", 1000);
+    assert!(shift(&folder, true).status().expect("run").success());
+    let old = fs::read(folder.join("places.state")).expect("a state");
+    let mut left = 0;
+    for _ in 0..100 {
+        // The new state is begun, and may be renamed before it is seen.
+        killed(&folder, || beside(&folder).exists());
+        left += u32::from(beside(&folder).exists());
+    }
+    assert!(left > 0, "none was killed between its steps");
+    // The next shift takes away what was left, and were it half a state.
+    fs::write(beside(&folder), &old[..old.len() / 2]).expect("written");
+    let before = kept(&folder, "shifts");
+    assert!(shift(&folder, false).status().expect("run").success());
+    assert_eq!(kept(&folder, "shifts"), before + 1);
+    let mut names: Vec<_> = fs::read_dir(&folder).expect("a folder").flatten().collect();
+    names.sort_by_key(|entry| entry.file_name());
+    let names: Vec<_> = names.iter().map(|entry| entry.file_name()).collect();
+    assert_eq!(names, ["path.txt", "places.state", "places.state.lock"]);
 }
 
 #[test]

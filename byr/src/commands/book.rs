@@ -21,12 +21,12 @@ pub fn called(words: &[String]) -> Result<Said> {
     if Kind::named(out) != Kind::Book {
         return Err(words.fault(format!("a book is called .book, and \"{out}\" is not")));
     }
-    if drawings.iter().filter(|name| *name == "-").count() > 1 {
-        return Err(words.fault("standard input can be read once only"));
-    }
+    let names: Vec<&str> = drawings.iter().map(String::as_str).collect();
+    words.input_once(&names)?;
+    words.apart(&names, &[out])?;
     let mut rings = Vec::new();
     for name in drawings {
-        rings.extend(of_file(&words, out, name)?);
+        rings.extend(of_file(name)?);
     }
     with_parts(&words, &mut rings)?;
     let all: Vec<Ring> = rings.iter().map(|(_, ring)| ring.clone()).collect();
@@ -38,11 +38,8 @@ pub fn called(words: &[String]) -> Result<Said> {
     Ok(Said::well(format!("{lines}{out}: a book of {count}, {} bytes\n", book.len())))
 }
 
-/// The rings of a drawing, which may not be the book to write.
-fn of_file(words: &Words, out: &str, name: &str) -> Result<Vec<Named>> {
-    if files::same_file(out, name) {
-        return Err(words.fault(format!("\"{name}\" is both a drawing and the book to write")));
-    }
+/// The rings of a drawing.
+fn of_file(name: &str) -> Result<Vec<Named>> {
     let drawing = read(name)?;
     let several = drawing.rings.len() > 1;
     let named = |(at, ring)| (if several { format!("{name}#{at}") } else { name.into() }, ring);

@@ -18,6 +18,9 @@ pub fn called(words: &[String]) -> Result<Said> {
         let may = "4, 8, 16, 32, 64, 128 or 256";
         return Err(words.fault(format!("a disc cannot have {corners} corners: it may have {may}")));
     }
+    if radius <= 0.0 {
+        return Err(words.fault(format!("--radius {radius}: a radius is above 0, as 4.5 is")));
+    }
     let points = make_disc(centre, radius, corners / 4)
         .map_err(|refusal| words.fault(refusal.to_string()))?;
     if words.has("part") && Kind::named(out) != Kind::Book {
@@ -30,7 +33,7 @@ pub fn called(words: &[String]) -> Result<Said> {
     let bytes = written(out, &[Ring { points, part, opened: false }])?;
     files::write(out, &bytes)?;
     let (kind, length) = (Kind::named(out), bytes.len());
-    let centre = plain::point(centre);
+    let (centre, radius) = (plain::point(centre), plain::number(radius));
     Ok(Said::well(format!(
         "a disc of {corners} corners, radius {radius} about {centre}, its second corner at \
          {second}\n{out}: {kind}, {length} bytes\n"

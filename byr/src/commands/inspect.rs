@@ -8,6 +8,7 @@ use crate::{files, plain, print, Fault, Result, Said};
 use byrlygent::inspection::next_places;
 use byrlygent::Point;
 use std::fs::{File, OpenOptions, TryLockError};
+use std::io::ErrorKind;
 use std::path::Path;
 use std::time::{Duration, Instant};
 
@@ -45,16 +46,25 @@ pub fn called(words: &[String]) -> Result<Said> {
     if file == "-" {
         return Err(asked.fault("--state is a file's name, and standard output is none"));
     }
+    asked.apart(&[name], &[file])?;
+    files::place(file)?;
     let (path, opened) = read_path(name)?;
+    // What is no inspection is told before anything is left beside the state.
+    let asked_for = |state: State| {
+        next_places(state.points, per_shift, state.start)
+            .map_err(|refusal| asked.fault(refusal.to_string()))
+    };
+    asked_for(state(&asked, file, &path, per_shift)?)?;
     let _lock = lock(file)?;
     let state = state(&asked, file, &path, per_shift)?;
-    let shift = next_places(state.points, per_shift, state.start)
-        .map_err(|refusal| asked.fault(refusal.to_string()))?;
+    let shift = asked_for(state.clone())?;
     let after = State { shifts: state.shifts + 1, start: shift.following, ..state };
     let told = told(&after, &path, &shift.places, opened);
-    print(&told)
-        .map_err(|error| Fault::new(format!("standard output: {error}: the state is as it was")))?;
-    files::write(file, after.written().as_bytes())
+    print(&told).map_err(|error| {
+        let words = files::spoken(&error);
+        Fault::of("standard output", format!("{words}: the state is as it was"))
+    })?;
+    files::write_held(file, after.written().as_bytes())
         .map_err(|fault| Fault::new(format!("{fault}: the places above count as not given out")))?;
     Ok(Said::well(String::new()))
 }
@@ -71,7 +81,7 @@ fn told(after: &State, path: &[Point], places: &[u64], opened: bool) -> String {
     }
     let covered = (shift.saturating_mul(per_shift)).min(after.points);
     words += &match covered == after.points {
-        true => format!("so far all {all} have been given out\n"),
+        true => format!("so far all have been given out, {all}\n"),
         false => {
             let wanted = after.points.div_ceil(per_shift);
             format!(
@@ -95,15 +105,16 @@ pub fn plan(points: u64, per_shift: u64) -> byrlygent::Result<Vec<Vec<u64>>> {
     }
 }
 
-/// What a state says of this path.
-pub fn so_far(file: &str, path: &[Point], per_shift: u64) -> Result<String> {
+/// How many shifts a state of this path has given out, and what it says in words.
+pub fn so_far(file: &str, path: &[Point], per_shift: u64) -> Result<(u64, String)> {
     let state = kept(file, path, per_shift)?;
     let each = per_shift.min(state.points);
     let covered = state.shifts.saturating_mul(each).min(state.points);
     let shifts = plain::count(state.shifts as usize, "shift", "shifts");
     let all = plain::count(path.len(), "place", "places");
     let start = state.start;
-    Ok(format!("{shifts}, {covered} of {all} given out, the next shift starts at place {start}"))
+    let words = format!("{shifts}, {covered} of {all} given out, the next starts at place {start}");
+    Ok((state.shifts, words))
 }
 
 /// The state in a file, which must be of this path; with --new the first one, where there
@@ -207,8 +218,13 @@ fn sum_of(path: &[Point]) -> u64 {
 fn lock(state: &str) -> Result<File> {
     let place = std::fs::canonicalize(state).unwrap_or_else(|_| state.into());
     let name = format!("{}.lock", place.display());
-    let wrong = |error: std::io::Error| Fault::of(&name, error);
-    let file = OpenOptions::new().create(true).append(true).open(&name).map_err(wrong)?;
+    let wrong = |error: std::io::Error| Fault::of(&name, files::spoken(&error));
+    let file = match OpenOptions::new().create(true).append(true).open(&name) {
+        // A lock that someone else made need only be read to be held.
+        Err(error) if error.kind() == ErrorKind::PermissionDenied => File::open(&name),
+        opened => opened,
+    };
+    let file = file.map_err(wrong)?;
     let begun = Instant::now();
     loop {
         match file.try_lock() {

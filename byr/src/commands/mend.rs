@@ -11,9 +11,7 @@ const TAKES: Takes = Takes { command: "mend", valued: &[], flags: &[] };
 pub fn called(words: &[String]) -> Result<Said> {
     let asked = TAKES.read(words)?;
     let [name, out] = asked.files(["IN", "OUT"])?;
-    if files::same_file(name, out) {
-        return Err(asked.fault("OUT is IN: the drawing stays as it is, name another file"));
-    }
+    asked.apart(&[name], &[out])?;
     let (_, rings) = read_as_drawn(name)?;
     let several = rings.len() > 1;
     let (mut words, mut mended) = (String::new(), Vec::new());

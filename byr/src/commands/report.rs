@@ -2,7 +2,8 @@
 //! inspection plan, versions and refusals, in one page that prints.
 
 use super::{inspect, same, show, slide::Slide, why::Why};
-use crate::drawing::{read, read_ring};
+use crate::drawing::{file_of, read, read_ring};
+use crate::grid::without_hint;
 use crate::html::{page, Sections};
 use crate::words::{Takes, Words};
 use crate::{files, help, plain, Result, Said};
@@ -33,9 +34,13 @@ pub fn called(words: &[String]) -> Result<Said> {
     if !out.ends_with(".html") {
         return Err(asked.fault(format!("a report is called .html, and \"{out}\" is not")));
     }
-    if [carrier, disc].contains(&"-") || asked.value("same") == Some("-") {
+    let (same, state) = (asked.value("same"), asked.value("state"));
+    let read: Vec<&str> = [carrier, disc].into_iter().chain(same).collect();
+    if read.iter().any(|name| file_of(name) == "-") {
         return Err(asked.fault("files are read more than once: standard input cannot be"));
     }
+    let read: Vec<&str> = read.into_iter().chain(state).collect();
+    asked.apart(&read, &[out])?;
     if asked.has("at") && !asked.has("by") {
         return Err(asked.fault("--at is for a move, and --by is missing"));
     }
@@ -79,19 +84,22 @@ struct Report {
 }
 
 impl Report {
-    /// The outlines, each with its table and its picture.
+    /// The outlines of the carrier and the disc.
     fn outlines(&mut self, names: &[&str]) -> Result<()> {
         self.page.heading("The outlines");
         self.page.paragraph("The decimals read back to the same bits. Corners count from 0.");
-        for name in names {
-            let drawing = read(name)?;
-            let words = show::shown(&drawing)?;
-            let (head, table): (Vec<&str>, Vec<&str>) =
-                words.lines().partition(|line| !line.starts_with(' '));
-            self.page.smaller_heading(name);
-            self.page.lines(&head.join("\n"));
-            self.page.small_picture(&show::picture(&drawing)?);
-            self.page.columns(&table.join("\n"));
+        names.iter().try_for_each(|name| self.outline(name))
+    }
+
+    /// A drawing with its picture, and of each ring the table.
+    fn outline(&mut self, name: &str) -> Result<()> {
+        let drawing = read(name)?;
+        self.page.smaller_heading(name);
+        self.page.lines(&show::kind(&drawing));
+        self.page.small_picture(&show::picture(&drawing, false)?);
+        for (at, ring) in &drawing.rings {
+            self.page.lines(&show::told(*at, ring)?);
+            self.page.columns(&show::table(&ring.points));
         }
         Ok(())
     }
@@ -105,11 +113,25 @@ impl Report {
             "{carrier} and {other}, wherever they were begun and whichever way round they go."
         ));
         self.page.lines(&said.words);
-        self.findings.push(match said.yes {
-            true => format!("{carrier} and {other} are the same outline."),
-            false => format!("WARNING: {carrier} and {other} are not the same outline."),
-        });
-        Ok(())
+        if said.yes {
+            self.findings.push(format!("{carrier} and {other} are the same outline."));
+            return Ok(());
+        }
+        self.findings.push(format!("WARNING: {carrier} and {other} are not the same outline."));
+        self.outline(other)
+    }
+
+    /// Words with their picture, and behind it how far each corner moved to the grid.
+    fn pictured(&mut self, words: &str, picture: &str) {
+        let words = without_hint(words);
+        let (moved, said): (Vec<&str>, Vec<&str>) =
+            words.lines().partition(|line| line.starts_with(' '));
+        self.page.lines(&said.join("\n"));
+        self.page.picture(picture);
+        if !moved.is_empty() {
+            self.page.smaller_heading("How far each corner moved to the grid");
+            self.page.lines(&moved.join("\n"));
+        }
     }
 
     /// The slide, with its path, which is handed out.
@@ -120,16 +142,12 @@ impl Report {
             "What the given rule traces, and then what is so: each leg of the path is asked on a \
              grid whether nothing lies in between.",
         );
-        self.page.lines(&slide.words());
-        self.page.picture(&slide.picture());
+        self.pictured(&slide.words(), &slide.picture(false));
         self.page.smaller_heading("The points of the path");
         let point = |(at, p): (usize, &Point)| format!("{at:>4}  {}", plain::point(*p));
         let points: Vec<String> = slide.path().iter().enumerate().map(point).collect();
         self.page.columns(&points.join("\n"));
-        if slide.warnings.is_empty() {
-            self.findings.push("The slide comes round, and nothing lies in between.".into());
-        }
-        self.findings.extend(slide.warnings.iter().cloned());
+        self.findings.extend(slide.findings());
         Ok(slide.path().to_vec())
     }
 
@@ -140,8 +158,7 @@ impl Report {
         }
         let why = Why::of(asked, read_ring(carrier)?.points, &read_ring(disc)?.points)?;
         self.page.heading("Why is the move clear, or not?");
-        self.page.lines(&why.words());
-        self.page.picture(&why.picture());
+        self.pictured(&why.words_without_lines(), &why.picture(false));
         self.findings.push(why.finding());
         if let Some(hand) = why.by_hand() {
             self.page.smaller_heading("How to check it by hand");
@@ -163,9 +180,11 @@ impl Report {
         let plan = inspect::plan(path.len() as u64, per_shift)
             .map_err(|refusal| asked.fault(refusal.to_string()))?;
         self.page.heading("The inspection");
-        let so_far = match asked.value("state") {
-            Some(file) => inspect::so_far(file, path, per_shift)?,
-            None => "no shift has been given out yet, or no --state was named".to_string(),
+        let (given, so_far) = match asked.value("state") {
+            Some(file) => {
+                inspect::so_far(file, path, per_shift).map(|(n, told)| (Some(n), told))?
+            }
+            None => (None, "what was given out is not known, since no --state is named".into()),
         };
         self.page.paragraph(&format!(
             "The path has {}, and {per_shift} are inspected a shift: after {} every place has \
@@ -173,12 +192,15 @@ impl Report {
             plain::count(path.len(), "place", "places"),
             plain::count(plan.len(), "shift", "shifts"),
         ));
+        let is_given = |at, given| if at < given { "given out" } else { "not yet" };
         let row = |(at, places): (usize, &Vec<u64>)| {
             let places: Vec<String> = places.iter().map(u64::to_string).collect();
-            vec![(at + 1).to_string(), places.join(", ")]
+            let row = [(at + 1).to_string(), places.join(", ")];
+            row.into_iter().chain(given.map(|given| is_given(at as u64, given).into())).collect()
         };
         let rows: Vec<Vec<String>> = plan.iter().enumerate().map(row).collect();
-        self.page.table(&["shift", "places of the path"], &rows);
+        let headings = ["shift", "places of the path", "so far"];
+        self.page.table(&headings[..if given.is_some() { 3 } else { 2 }], &rows);
         self.findings.push(format!("Inspection: {so_far}."));
         Ok(())
     }

@@ -32,6 +32,12 @@ pub fn compared(a: &str, b: &str) -> Result<Said> {
     let counts = [a.rings.len(), b.rings.len()].map(|n| plain::count(n, "ring", "rings"));
     let [has, other] = &counts;
     if has != other {
+        let longer = if a.rings.len() > b.rings.len() { &a } else { &b };
+        let both = a.rings.len().min(b.rings.len());
+        for (at, (_, ring)) in longer.rings.iter().enumerate().skip(both) {
+            let corners = plain::corners(ring.points.len());
+            lines += &format!("ring {at} is in {} alone: {corners}\n", longer.name);
+        }
         lines += &format!("{} has {has}, {} has {other}\n", a.name, b.name);
         differ += 1;
     }

@@ -1,7 +1,7 @@
 //! Shows what a drawing holds: a table, and a picture.
 
 use crate::drawing::{read, Drawing, Kind, Ring};
-use crate::picture::Picture;
+use crate::picture::{Captions, Picture};
 use crate::words::Takes;
 use crate::{files, plain, Result, Said};
 use byrlygent::polygon_ops::is_simple_polygon;
@@ -14,19 +14,26 @@ const TAKES: Takes = Takes { command: "show", valued: &["svg"], flags: &[] };
 pub fn called(words: &[String]) -> Result<Said> {
     let asked = TAKES.read(words)?;
     let [name] = asked.files(["F"])?;
+    let svg: Vec<&str> = asked.value("svg").into_iter().collect();
+    asked.apart(&[name], &svg)?;
     let drawing = read(name)?;
     let mut words = shown(&drawing)?;
     if let Some(out) = asked.value("svg") {
-        files::write(out, picture(&drawing)?.as_bytes())?;
+        files::write(out, picture(&drawing, true)?.as_bytes())?;
         words += &format!("picture: {out}\n");
     }
     Ok(Said::well(words))
 }
 
-/// What is said of a drawing.
-pub fn shown(drawing: &Drawing) -> Result<String> {
+/// What a drawing is.
+pub fn kind(drawing: &Drawing) -> String {
     let count = plain::count(drawing.rings.len(), "ring", "rings");
-    let mut words = format!("{}: {}, {count}\n", drawing.name, drawing.kind);
+    format!("{}: {}, {count}\n", drawing.name, drawing.kind)
+}
+
+/// What is said of a drawing.
+fn shown(drawing: &Drawing) -> Result<String> {
+    let mut words = kind(drawing);
     for (at, ring) in &drawing.rings {
         words += &format!("{}\n", told(*at, ring)?);
         words += &table(&ring.points);
@@ -35,7 +42,7 @@ pub fn shown(drawing: &Drawing) -> Result<String> {
 }
 
 /// What is said of a ring before its table.
-fn told(at: usize, ring: &Ring) -> Result<String> {
+pub fn told(at: usize, ring: &Ring) -> Result<String> {
     let area = signed_area_robust(&ring.points)?;
     let way = match area {
         area if area > 0.0 => "counter-clockwise",
@@ -54,7 +61,7 @@ fn told(at: usize, ring: &Ring) -> Result<String> {
 }
 
 /// The corners, one a line, the numbers below each other.
-fn table(points: &[Point]) -> String {
+pub fn table(points: &[Point]) -> String {
     let rows: Vec<[String; 3]> = points
         .iter()
         .enumerate()
@@ -65,14 +72,15 @@ fn table(points: &[Point]) -> String {
     rows.iter().map(|[at, x, y]| format!("{at:>w$}  {x:>b$}  {y:>c$}\n", w = a.max(4))).collect()
 }
 
-/// The picture of all rings.
-pub fn picture(drawing: &Drawing) -> Result<String> {
+/// The picture of all rings; the captions stand above it where that is asked for.
+pub fn picture(drawing: &Drawing, above: bool) -> Result<String> {
     let all: Vec<Point> = drawing.rings.iter().flat_map(|(_, ring)| ring.points.clone()).collect();
-    let captions: Vec<String> =
-        drawing.rings.iter().map(|(at, ring)| told(*at, ring)).collect::<Result<_>>()?;
+    let rings = drawing.rings.iter().map(|(at, ring)| told(*at, ring));
+    let lines: Vec<String> = rings.collect::<Result<_>>()?;
     let name = if drawing.kind == Kind::Book { "Book" } else { "Drawing" };
     let title = format!("{name} {}", drawing.name);
-    let mut picture = Picture::over(&all, &title, &captions);
+    let captions = Captions { title: &title, lines, legend: String::new(), above };
+    let mut picture = Picture::over(&all, &captions);
     for (_, ring) in &drawing.rings {
         picture.ring(&ring.points, "drawn");
     }
@@ -81,6 +89,6 @@ pub fn picture(drawing: &Drawing) -> Result<String> {
             picture.name_ring(&ring.points, &format!("ring {at}"));
         }
     }
-    drawing.rings.iter().for_each(|(_, ring)| picture.corner_numbers(&ring.points));
+    drawing.rings.iter().for_each(|(_, ring)| picture.corner_numbers(&ring.points, "pale"));
     Ok(picture.finished())
 }

@@ -1,9 +1,9 @@
 //! Slides a disc round its carrier.
 
-use crate::drawing::read_ring;
-use crate::grid::Grid;
+use crate::drawing::{read_ring, Kind};
+use crate::grid::{without_hint, Grid, Telling};
 use crate::legs::{Leg, Walk};
-use crate::picture::Picture;
+use crate::picture::{Captions, Picture};
 use crate::words::{Takes, Words};
 use crate::{files, plain, Result, Said};
 use byrlygent::nfp_sliding::{
@@ -18,21 +18,32 @@ const TAKES: Takes = Takes {
     flags: &["moved"],
 };
 
+/// The title of its picture.
+const TITLE: &str = "A disc slides round its carrier";
+
 /// Slides the disc that the words name round its carrier.
 pub fn called(words: &[String]) -> Result<Said> {
     let asked = TAKES.read(words)?;
     let [carrier, disc] = asked.files(["CARRIER", "DISC"])?;
+    let (path, svg) = (asked.value("path"), asked.value("svg"));
+    let written: Vec<&str> = path.into_iter().chain(svg).collect();
+    asked.apart(&[carrier, disc], &written)?;
+    if let Some(name) = path.filter(|name| Kind::named(name) != Kind::Text) {
+        return Err(asked.fault(format!("a path is written as text: call \"{name}\" .txt")));
+    }
     let slide = Slide::of(&asked, read_ring(carrier)?.points, read_ring(disc)?.points)?;
     let mut words = slide.words();
-    if let Some(out) = asked.value("path") {
-        files::write(out, slide.path_file().as_bytes())?;
+    let mut files = Vec::new();
+    if let Some(out) = path {
+        files.push((out, slide.path_file().into_bytes()));
         let points = plain::count(slide.path().len(), "point", "points");
         words += &format!("path: {out}, {points}\n");
     }
-    if let Some(out) = asked.value("svg") {
-        files::write(out, slide.picture().as_bytes())?;
+    if let Some(out) = svg {
+        files.push((out, slide.picture(true).into_bytes()));
         words += &format!("picture: {out}\n");
     }
+    files::write_all(&files)?;
     Ok(Said { words, yes: slide.warnings.is_empty() })
 }
 
@@ -70,6 +81,15 @@ impl Slide {
         self.nfp.stop == StopReason::Closed
     }
 
+    /// What was found, in sentences: the warnings, or that there is none.
+    pub fn findings(&self) -> Vec<String> {
+        if !self.warnings.is_empty() {
+            return self.warnings.clone();
+        }
+        let but = if self.judged.rounded { " but for the rounding of the grid" } else { "" };
+        vec![format!("The slide comes round, and nothing lies in between{but}.")]
+    }
+
     /// What is said of it.
     pub fn words(&self) -> String {
         let warnings: String = self.warnings.iter().map(|line| format!("{line}\n")).collect();
@@ -98,18 +118,21 @@ impl Slide {
         format!("{head}{words}\n{}", plain::lines(self.path()))
     }
 
-    /// Carrier and path, with the disc where it starts and where it ends.
-    pub fn picture(&self) -> String {
+    /// Carrier and path, with the disc where it starts and where it ends; the captions
+    /// stand above it where that is asked for.
+    pub fn picture(&self, above: bool) -> String {
         let (path, carrier) = (self.path(), &self.carrier);
         let (first, last) = (path[0], path[path.len() - 1]);
         let [start, end] = [first, last].map(|at| moved(&self.disc, at));
         let swept = path.iter().flat_map(|&at| moved(&self.disc, at));
         let seen: Vec<Point> = carrier.iter().copied().chain(swept).collect();
-        let captions: Vec<String> = self.words().lines().map(String::from).collect();
-        let mut picture = Picture::over(&seen, "A disc slides round its carrier", &captions);
+        let captions =
+            Captions { lines: self.captions(), legend: self.legend(), title: TITLE, above };
+        let mut picture = Picture::over(&seen, &captions);
         picture.ring(carrier, "still");
-        if let Some((_, Some(edge))) = self.judged.blocked {
-            picture.told(carrier, edge);
+        if let Some((leg, edge)) = self.judged.blocked {
+            picture.segment(path[leg], path[(leg + 1) % path.len()], "told");
+            edge.into_iter().for_each(|edge| picture.told(carrier, edge));
         }
         picture.ring(&start, "start");
         if !self.is_closed() {
@@ -124,8 +147,28 @@ impl Slide {
         if !self.is_closed() {
             picture.name(last, (28.0, 4.0), "end");
         }
-        picture.corner_numbers(carrier);
+        picture.corner_numbers(carrier, "grey");
         picture.finished()
+    }
+
+    /// What is said of it, without how far each corner moved to the grid.
+    fn captions(&self) -> Vec<String> {
+        self.words().lines().filter(|line| !line.starts_with(' ')).map(without_hint).collect()
+    }
+
+    /// What is drawn how.
+    fn legend(&self) -> String {
+        let end = if self.is_closed() { "" } else { ", dashed: at the end" };
+        let touched = if self.is_closed() { "start" } else { "end" };
+        let blocked = match self.judged.blocked {
+            Some((_, Some(_))) => "; thick: the edge in the way, and the leg that leads through",
+            Some((_, None)) => "; thick: the leg that leads through",
+            None => "",
+        };
+        format!(
+            "grey: the carrier; heavy: the disc at the start{end}; arrows: the path; small rings: \
+             contacts at the {touched}{blocked}"
+        )
     }
 }
 
@@ -148,6 +191,8 @@ pub struct Judged {
     pub warning: Option<String>,
     /// That leg, and the edge in its way if there is one.
     pub blocked: Option<(usize, Option<usize>)>,
+    /// Whether a leg is clear only once it is set off for the rounding.
+    pub rounded: bool,
 }
 
 impl Judged {
@@ -165,7 +210,8 @@ impl Judged {
         match (Self::on(grid, asked, [carrier, disc, path], closed), unit) {
             (Err(fault), None) => {
                 let words = format!("WARNING: whether the way is clear is not known: {fault}");
-                Ok(Self { words: String::new(), warning: Some(words), blocked: None })
+                let words = Some(words);
+                Ok(Self { words: String::new(), warning: words, blocked: None, rounded: false })
             }
             (judged, _) => judged,
         }
@@ -185,13 +231,14 @@ impl Judged {
             path: grid.put(path)?,
         };
         let convex = walk.disc.is_convex(grid)?;
-        let mut words = on_grid(grid, &walk, asked.has("moved"));
+        let mut words = on_grid(grid, &walk, Telling::asked(asked));
         if !convex {
             words += "there the disc is not convex, and its hull is asked about: clear holds, not \
                       clear proves nothing\n";
         }
         let legs = walk.legs(closed)?;
-        let mut judged = Self { words, warning: None, blocked: None };
+        let rounded = legs.iter().any(|leg| matches!(leg, Leg::Aside(_)));
+        let mut judged = Self { words, warning: None, blocked: None, rounded };
         let leads = if convex { "leads" } else { "may lead" };
         judged.tell(grid, carrier, path.len(), &legs, leads);
         Ok(judged)
@@ -229,7 +276,7 @@ impl Judged {
             Some(edge) => edge_told(carrier, edge),
             None => "the disc lies within the carrier".to_string(),
         };
-        let unit = grid.unit();
+        let unit = grid.told();
         self.warning = Some(format!(
             "WARNING: the leg from point {at} to point {next} {leads} through the carrier on the \
              grid of {unit}: {in_way}"
@@ -251,23 +298,22 @@ fn places(carrier: &[Point], disc: &[Point], path: &[Point]) -> Vec<Point> {
 }
 
 /// What is said of the grid, and how far all moved to get there.
-fn on_grid(grid: Grid, walk: &Walk, each: bool) -> String {
-    let unit = grid.unit();
+fn on_grid(grid: Grid, walk: &Walk, telling: Telling) -> String {
+    let unit = grid.told();
     if walk.is_exact() {
-        return format!("all corners and points are on the grid of {unit} already\n");
+        return format!("all corners and points are on the grid of {unit} already: none moved\n");
     }
-    let mut words = format!(
-        "on the grid of {unit}: carrier, {}; disc, {}; path, {}\n",
+    let each = telling.told(&[
+        ("carrier's corners", &walk.carrier, true),
+        ("disc's corners", &walk.disc, true),
+        ("path's points", &walk.path, false),
+    ]);
+    format!(
+        "on the grid of {unit}: carrier, {}; disc, {}; path, {}{each}",
         walk.carrier.told("corner", "corners"),
         walk.disc.told("corner", "corners"),
         walk.path.told("point", "points"),
-    );
-    if each {
-        words += &walk.carrier.each("carrier's corner");
-        words += &walk.disc.each("disc's corner");
-        words += &walk.path.each("path's point");
-    }
-    words
+    )
 }
 
 /// The ring moved to a position.

@@ -3,9 +3,9 @@
 use super::slide::{edge_told, moved};
 use crate::by_hand::ByHand;
 use crate::drawing::read_ring;
-use crate::grid::{Grid, OnGrid};
+use crate::grid::{without_hint, Grid, OnGrid, Telling};
 use crate::legs::{asides, placed};
-use crate::picture::Picture;
+use crate::picture::{Captions, Picture};
 use crate::words::{Takes, Words};
 use crate::{files, plain, Result, Said};
 use byrlygent::nfp_sliding::{explain_collision, CollisionEvent, ContactType, Explanation, Ground};
@@ -38,10 +38,12 @@ struct Truth {
 pub fn called(words: &[String]) -> Result<Said> {
     let asked = TAKES.read(words)?;
     let [carrier, disc] = asked.files(["CARRIER", "DISC"])?;
+    let svg: Vec<&str> = asked.value("svg").into_iter().collect();
+    asked.apart(&[carrier, disc], &svg)?;
     let why = Why::of(&asked, read_ring(carrier)?.points, &read_ring(disc)?.points)?;
     let mut words = why.words();
     if let Some(out) = asked.value("svg") {
-        files::write(out, why.picture().as_bytes())?;
+        files::write(out, why.picture(true).as_bytes())?;
         words += &format!("picture: {out}\n");
     }
     Ok(Said { words, yes: why.is_clear() })
@@ -88,13 +90,22 @@ impl Why {
         words
     }
 
+    /// What is said of it where the lines stand elsewhere.
+    pub fn words_without_lines(&self) -> String {
+        let kept =
+            |line: &&str| !line.starts_with("  edge ") && !line.starts_with("of each, from p");
+        let line =
+            |line: &str| line.replace("and these lines tell why", "and the lines below tell why");
+        self.words().lines().filter(kept).map(|kept| line(kept) + "\n").collect()
+    }
+
     /// What the rule says.
     fn ruled(&self) -> String {
         let Explanation { ground, too_near, between, too_far } = self.rule;
         let counts = format!("hits: {too_near} too near, {between} between, {too_far} too far");
         match ground {
             Ground::Hit { hit, others } => {
-                let (pair, distance) = (self.question.pair(&hit), hit.distance);
+                let (pair, distance) = (self.question.pair(&hit), plain::number(hit.distance));
                 let others = match others {
                     0 => "no other pair is hit there".to_string(),
                     1 => "1 other pair is hit there".to_string(),
@@ -132,17 +143,38 @@ impl Why {
         }
     }
 
-    /// The move with its lines, or with what is in the way.
-    pub fn picture(&self) -> String {
+    /// What is said of it but for the lines and how far each corner moved to the grid.
+    fn captions(&self) -> Vec<String> {
+        let begins =
+            ["by the rule", "on the grid", "all corners", "for the", "in truth", "WARNING"];
+        let told = |line: &&str| begins.iter().any(|begins| line.starts_with(begins));
+        self.words().lines().filter(told).map(|line| without_hint(shortened(line))).collect()
+    }
+
+    /// What is drawn how.
+    fn legend(&self) -> String {
+        let truth = match self.truth.answer {
+            Move::Clear(_) => "; thin dashes: the parting lines",
+            Move::Edge(_) => "; thick: the edge in the way",
+            Move::Enclosed => "",
+        };
+        let hit =
+            if self.is_clear_by_rule() { "" } else { "; small ring: the first hit by the rule" };
+        format!(
+            "grey: the carrier; heavy: the disc at the start, dashed: at the end; thin: its \
+             way{truth}{hit}"
+        )
+    }
+
+    /// The move with its lines, or with what is in the way; the captions stand above it where
+    /// that is asked for.
+    pub fn picture(&self, above: bool) -> String {
         let (question, truth) = (&self.question, &self.truth);
         let (carrier, start, end) = (&question.carrier, &question.start, question.end());
         let all = [&carrier[..], start, &end].concat();
-        let words = self.words();
-        let verdicts =
-            ["by the rule", "on the grid", "all corners", "for the", "in truth", "WARNING"];
-        let verdict = |line: &&str| verdicts.iter().any(|begins| line.starts_with(begins));
-        let captions: Vec<String> = words.lines().filter(verdict).map(shortened).collect();
-        let mut picture = Picture::over(&all, "Is the move clear?", &captions);
+        let title = "Is the move clear?";
+        let captions = Captions { lines: self.captions(), legend: self.legend(), title, above };
+        let mut picture = Picture::over(&all, &captions);
         picture.ring(&hull(&[&start[..], &end].concat()), "swept");
         picture.ring(carrier, "still");
         if let Move::Edge(edge) = truth.answer {
@@ -158,14 +190,15 @@ impl Why {
         picture.arrow(middle, question.by);
         picture.name(middle, (0.0, -14.0), "start");
         picture.name((middle.0 + question.by.0, middle.1 + question.by.1), (0.0, 24.0), "end");
-        picture.corner_numbers(carrier);
+        picture.corner_numbers(carrier, "grey");
+        picture.corner_numbers(start, "");
         picture.finished()
     }
 }
 
 /// The verdict of a line, without the lines that it announces.
-fn shortened(line: &str) -> String {
-    line.split(", and these lines").next().unwrap_or(line).to_string()
+fn shortened(line: &str) -> &str {
+    line.split(", and these lines").next().unwrap_or(line)
 }
 
 impl Truth {
@@ -197,7 +230,7 @@ impl Question {
         let [carrier, start, by] =
             [&self.carrier[..], &self.start, &[self.by]].map(|of| grid.put(of));
         let (carrier, start, by) = (carrier?, start?, by?);
-        let mut words = put_told(grid, &carrier, &start, &by, asked.has("moved"));
+        let mut words = put_told(grid, &carrier, &start, &by, Telling::asked(asked));
         if !start.is_convex(grid)? {
             words += "there the disc is not convex, and its hull is asked about: clear holds, not \
                       clear proves nothing\n";
@@ -286,13 +319,15 @@ fn set_off(
 }
 
 /// What is said of the grid.
-fn put_told(grid: Grid, carrier: &OnGrid, start: &OnGrid, by: &OnGrid, each: bool) -> String {
-    let unit = grid.unit();
+fn put_told(grid: Grid, carrier: &OnGrid, start: &OnGrid, by: &OnGrid, telling: Telling) -> String {
+    let unit = grid.told();
     if !(carrier.is_moved() || start.is_moved() || by.is_moved()) {
-        return format!("all corners are on the grid of {unit} already\n");
+        return format!("all corners are on the grid of {unit} already: none moved\n");
     }
-    let mut words = format!(
-        "on the grid of {unit}: carrier, {}; disc, {}; the move {}\n",
+    let each =
+        telling.told(&[("carrier's corners", carrier, true), ("disc's corners", start, true)]);
+    format!(
+        "on the grid of {unit}: carrier, {}; disc, {}; the move {}{each}",
         carrier.told("corner", "corners"),
         start.told("corner", "corners"),
         if by.is_moved() {
@@ -300,12 +335,7 @@ fn put_told(grid: Grid, carrier: &OnGrid, start: &OnGrid, by: &OnGrid, each: boo
         } else {
             "is kept".into()
         },
-    );
-    if each {
-        words += &carrier.each("carrier's corner");
-        words += &start.each("disc's corner");
-    }
-    words
+    )
 }
 
 /// The mean of a ring's corners.
