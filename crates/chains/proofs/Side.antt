@@ -25,10 +25,10 @@ use Rattle.chains.proofs.Range.{Big, none, above-twice, below-twice, ou
 pub not-under : (x y : Float) → lt y x ≡ false → InOrder x y
 not-under x y h = elim (total y x h) [ inl e ↦ inr (inl e) | inr r ↦ elim r [ inl e ↦ inl e | inr l ↦ inr (inr l) ] ]
 
-same : (x : Float) → InOrder x x
+pub same : (x : Float) → InOrder x x
 same x = not-under x x (lt-irrefl x)
 
-apart : (x y z w : Float) → InOrder x y → InOrder w z → InOrder (x ⊖ z) (y ⊖ w)
+pub apart : (x y z w : Float) → InOrder x y → InOrder w z → InOrder (x ⊖ z) (y ⊖ w)
 apart x y z w o p =
     elim o [
       | inl e ↦ inl (rw e (nan-less z))
@@ -45,7 +45,7 @@ neg-nan : neg nan ≡ nan
 unfolding neg
 neg-nan = refl
 
-turned-round : (x y : Float) → InOrder x y → InOrder (neg y) (neg x)
+pub turned-round : (x y : Float) → InOrder x y → InOrder (neg y) (neg x)
 turned-round x y o =
     elim o [ inl e ↦ inr (inl (rw e neg-nan)) | inr r ↦ elim r [ inl e ↦ inl (rw e neg-nan) | inr h ↦ inr (inr (turned x y h)) ] ]
 

@@ -10,7 +10,7 @@ use lib.Ieee.{Float, nan, inf, fin, binary64, up, down, fits, neg, ofBits, add, 
 use lib.Ieee.Fits.{sub-fits, mul-fits}
 use lib.Ieee.Positive.{positive, above-of-le, mul-mono}
 use Rattle.laws.proofs.Both.{both, one-of}
-use Rattle.laws.proofs.Order.{lt-le, lt-nan, not-less, lt-of-infinity, le-of-lt, lt-irrefl}
+use Rattle.laws.proofs.Order.{lt-le, lt-nan, not-less, le-of-infinity, le-of-lt, lt-irrefl}
 use Rattle.laws.proofs.Plain.{Plain, infinite, number, round-plain, square-plain, to-nan, from-nan}
 use Rattle.scalar.specs.Float.{f0, f1, _⊕_, _⊖_, _⊗_}
 use Rattle.scalar.specs.Scalar.{clampOf}
@@ -28,7 +28,7 @@ use Rattle.frames.proofs.Beyond.{Far, by-low, by-high}
 -- ---- squares
 
 -- either sign has the same
-square-turned : (x : Float) → neg x ⊗ neg x ≡ x ⊗ x
+pub square-turned : (x : Float) → neg x ⊗ neg x ≡ x ⊗ x
 unfolding mul neg
 square-turned nan = refl
 square-turned (inf true) = refl
@@ -73,19 +73,19 @@ plain-of (fin true m e) P = absurd P
 plain-of (fin false m e) P = round-plain binary64 (m * up e * (m * up e)) (down e * down e)
 
 module _ (far : Float) (F : lt f0 far ≡ true) where
-  square-mono : (x : Float) → lt far x ≡ true → T (le (far ⊗ far) (x ⊗ x))
+  pub square-mono : (x : Float) → T (le far x) → T (le (far ⊗ far) (x ⊗ x))
   square-mono x h =
       elim (number-or-infinite far (above-zero far F)) [
-        | inl P ↦ elim (number-or-infinite x (above-of-le far x P (le-of-lt far x h))) [
-          | inl Q ↦ mul-mono binary64 far x far x P Q P Q (le-of-lt far x h) (le-of-lt far x h)
+        | inl P ↦ elim (number-or-infinite x (above-of-le far x P h)) [
+          | inl Q ↦ mul-mono binary64 far x far x P Q P Q h h
           | inr e ↦ rw (e, infinite-square) (up-to-infinity (far ⊗ far) (plain-of far P))
         ]
-        | inr e ↦ absurd (true≢false (sym h ∙ rw e (lt-of-infinity x)))
+        | inr e ↦ rw (e, le-of-infinity x (rw e at h), infinite-square) (up-to-infinity (inf false) infinite)
       ]
 
   squares : (x : Float) → (lt far x ≡ true) ⊎ (lt x (neg far) ≡ true) → T (le (far ⊗ far) (x ⊗ x))
-  squares x (inl h) = square-mono x h
-  squares x (inr h) = subst (λ (z : Float). T (le (far ⊗ far) z)) (square-turned x) (square-mono (neg x) (sym (less-turned x far) ∙ h))
+  squares x (inl h) = square-mono x (le-of-lt far x h)
+  squares x (inr h) = subst (λ (z : Float). T (le (far ⊗ far) z)) (square-turned x) (square-mono (neg x) (le-of-lt far (neg x) (sym (less-turned x far) ∙ h)))
 
 -- ---- a sum of squares is not below either
 
@@ -134,7 +134,7 @@ module _ (tol far : Float) (G : T (fits binary64 tol)) (L : lt f0 tol ≡ true) 
 
 -- ---- the parameter of a foot is from 0 to 1, or a NaN
 
-clamped : (x : Float) → (lt (clampOf x f0 f1) f0 ≡ false) × (lt f1 (clampOf x f0 f1) ≡ false)
+pub clamped : (x : Float) → (lt (clampOf x f0 f1) f0 ≡ false) × (lt f1 (clampOf x f0 f1) ≡ false)
 unfolding clampOf
 clamped x = by (lt x f0) (lt f1 x) refl refl
   where

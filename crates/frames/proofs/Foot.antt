@@ -10,9 +10,9 @@ use lib.Dec.{T, eqb}
 use lib.Ieee.{Float, nan, inf, fin, binary64, unlike, up, down, fits, round, neg, ofBits, add, mul, lt, le}
 use lib.Ieee.Fits.{up-pos, down-pos}
 use lib.Ieee.Scale.{round-same}
-use Rattle.laws.proofs.Parts.{plus, less, parts-of-le}
+use Rattle.laws.proofs.Parts.{plus, less, parts-of-le, le-of-parts}
 use Rattle.laws.proofs.Order.{not-above, le-trans}
-use Rattle.laws.proofs.Plain.{Plain, infinite, number, round-plain}
+use Rattle.laws.proofs.Plain.{Plain, infinite, number, round-plain, minus-below}
 use Rattle.laws.proofs.Rounding.{upward, downward, rounds-mono, round-minus}
 use Rattle.scalar.specs.Float.{f0, f1, _⊕_, _⊗_}
 use Rattle.frames.proofs.Sums.{own, own-rounds, own-zero, rounded, rises, falls, adds-more}
@@ -88,6 +88,12 @@ none-of s e nan = inl refl
 none-of s e (inf t) = inl refl
 none-of s e (fin t n d) = inr (unlike s t, round-same binary64 (unlike s t) (0 * up e * (n * up d)) (down e * down d) (0 * 1) 1 (mul-pos (down-pos e) (down-pos d)) (omega arith) (omega arith) ∙ own-zero (unlike s t) (pos 0))
 
+-- a part of an infinity is that infinity, or a NaN
+all-or-none : (z r : Bool) → (cond z nan (inf (unlike false r)) ≡ nan) ⊎ (cond z nan (inf (unlike false r)) ≡ inf r)
+all-or-none true r = inl refl
+all-or-none false true = inr refl
+all-or-none false false = inr refl
+
 module _ (q : Bool) (k : ℕ) (b : ℤ) (A : T (fits binary64 (fin q k b))) where
   abbrev a : Float
   a = fin q k b
@@ -119,11 +125,6 @@ module _ (q : Bool) (k : ℕ) (b : ℤ) (A : T (fits binary64 (fin q k b))) wher
   unfolding mul add
   by-part m e h nan W = inl refl
   by-part m e h (inf r) W = by-infinity r (fin false m e ⊗ inf r) (all-or-none (eqb m 0) r)
-    where
-      all-or-none : (z r : Bool) → (cond z nan (inf (unlike false r)) ≡ nan) ⊎ (cond z nan (inf (unlike false r)) ≡ inf r)
-      all-or-none true r = inl refl
-      all-or-none false true = inr refl
-      all-or-none false false = inr refl
   by-part m e h (fin false n d) W = inr (by-rise n d (round-plain binary64 (m * up e * (n * up d)) (down e * down d)) (up-to m e n d h W))
   by-part m e h (fin true n d) W =
       inr (rw (round-minus binary64 (m * up e * (n * up d)) (down e * down d))
@@ -140,3 +141,34 @@ between a w t A W h k = by a A (share t h k)
     by (fin q k b) A no-share = inl (unfold add mul in refl)
     by (fin q k b) A (nothing s e) = by-nothing q k b A w (fin s 0 e ⊗ w) (none-of s e w)
     by (fin q k b) A (part m e h) = by-part q k b A m e h w W
+
+-- ---- t * w lies between 0 and w, or is a NaN
+
+pub zero-first : {x : Float} → Plain x → T (le f0 x)
+unfolding le ofBits
+zero-first infinite = tt
+zero-first (number m e) = le-of-parts false 0 (pos 0) false m e (omega arith)
+
+some-of : (m : ℕ) (e : ℤ) → m * up e ≤ down e → (w : Float) → T (fits binary64 w) → (fin false m e ⊗ w ≡ nan) ⊎ Between f0 w (fin false m e ⊗ w)
+unfolding mul ofBits
+some-of m e h nan W = inl refl
+some-of m e h (inf r) W = elim (all-or-none (eqb m 0) r) [ inl z ↦ inl z | inr z ↦ inr (rw z (inr (le-self r), inr (le-self r))) ]
+some-of m e h (fin false n d) W = inr (inl (zero-first (round-plain binary64 (m * up e * (n * up d)) (down e * down d))), inr (up-to m e n d h W))
+some-of m e h (fin true n d) W =
+    let size = m * up e * (n * up d) in
+    let c = down e * down d in
+    let below : T (le (round binary64 true size c) (fin false 0 (pos 0))) = rw (round-minus binary64 size c) (minus-below (round-plain binary64 size c) (number 0 (pos 0))) in
+    inr (inr (down-to m e n d h W), inl below)
+
+zero-between : (w : Float) (r : Bool) → Between f0 w (fin r 0 (pos 0))
+unfolding le ofBits
+zero-between w true = (inl tt, inl tt)
+zero-between w false = (inl tt, inl tt)
+
+pub part-between : (w t : Float) → T (fits binary64 w) → lt t f0 ≡ false → lt f1 t ≡ false → (t ⊗ w ≡ nan) ⊎ Between f0 w (t ⊗ w)
+part-between w t W h k = by (share t h k)
+  where
+    by : {t : Float} → Share t → (t ⊗ w ≡ nan) ⊎ Between f0 w (t ⊗ w)
+    by no-share = inl (unfold mul in refl)
+    by (nothing s e) = elim (none-of s e w) [ inl z ↦ inl z | inr z ↦ inr (rw (z .1) (zero-between w (z .0))) ]
+    by (part m e l) = some-of m e l w W

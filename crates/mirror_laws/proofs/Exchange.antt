@@ -5,13 +5,12 @@ use mathlib.Core.Path.{_≡_, refl, sym, ap, ap₂, _∙_}
 use mathlib.Core.Bool.{Bool, true, false, _&&_, _||_, cond, true≢false, and-comm, or-comm, or-assoc}
 use mathlib.Core.List.{List}
 use lib.Dec.{leb, eqb}
-use lib.Ieee.{Float, inf, lt}
+use lib.Ieee.{Float, lt}
 use borrow.Author.Tests.{ne-eqb}
 use Rattle.laws.proofs.Order.{lt-asym}
-use Rattle.square_root.proofs.Compare.{sqrt-infinity}
 use Rattle.plane.specs.Vector.{root}
 use Rattle.plane.specs.declared.Point.{Point}
-use Rattle.ring.specs.Ring.{count, pointAt, nextOf}
+use Rattle.ring.specs.Ring.{count}
 use Rattle.refusals.specs.Refusals.{unless, first}
 use Rattle.refusals.specs.Bounds.{coordinates, pointOk}
 use Rattle.refusals.specs.Screens.{wrongNumber}
@@ -21,31 +20,14 @@ use Rattle.refusals.specs.Answers.{outcome}
 use Rattle.refusals.specs.declared.Refusal.{Refusal}
 use Rattle.segments.specs.Segments.{orientationOf, straddlesOf, crossesOf, touchesOf, intersectOf}
 use Rattle.segments.specs.Calls.{intersectCall}
-use Rattle.ring_distance.specs.Distance.{edgeDistance, toRing, oneWay, ringDistanceOf}
-use Rattle.ring_distance.specs.Squared.{squaredDistance, nearerOf, Square, Squares}
+use Rattle.ring_distance.specs.Distance.{ringDistanceOf}
+use Rattle.ring_distance.specs.Squared.{nearerOf, Square}
 use Rattle.ring_distance.specs.Calls.{ringDistanceCall}
-use Rattle.ring_distance.proofs.Roots.{infinite-square, same, nearer-root}
-use Rattle.ring_distance.proofs.Turns.{with-segment}
+use Rattle.ring_distance.proofs.Roots.{same, nearer-root}
+use Rattle.ring_distance.proofs.Turns.{squares-way}
 use Rattle.mirror_laws.specs.Exchanged.{faultNumber, Exchanged}
 
 -- ---- the distance: each way's is the root of a square, so that the smaller of the two does not depend on their order
-
-abbrev Rooted : Float → Type 0
-Rooted r = (s : Float) × Squares s r
-
-rooted-ring : (p : Point) (r : List Float) (before : Float) → Rooted before → (k : ℕ) → Rooted (toRing p r before k)
-unfolding toRing edgeDistance
-rooted-ring p r before b zero = b
-rooted-ring p r before b (suc k) =
-    let z = rooted-ring p r before b k in (
-      nearerOf (z .0) (squaredDistance p (pointAt r k) (pointAt r (nextOf k (count r)))),
-      with-segment p (pointAt r k) (pointAt r (nextOf k (count r))) (z .1) refl,
-    )
-
-rooted-way : (a b : List Float) (k : ℕ) → Rooted (oneWay a b k)
-unfolding oneWay
-rooted-way a b zero = (inf false, record { square = infinite-square; is = sqrt-infinity })
-rooted-way a b (suc k) = rooted-ring (pointAt a k) b (oneWay a b k) (rooted-way a b k) (count b)
 
 nearer-exchanged : (s t : Float) → Square s → Square t → nearerOf s t ≡ nearerOf t s
 nearer-exchanged s t S R = by (lt t s) refl (lt s t) refl
@@ -59,9 +41,9 @@ nearer-exchanged s t S R = by (lt t s) refl (lt s t) refl
 pub distance-exchanged : (a b : List Float) → ringDistanceOf b a ≡ ringDistanceOf a b
 unfolding ringDistanceOf
 distance-exchanged a b =
-    let x = rooted-way a b (count a) in
-    let y = rooted-way b a (count b) in
-    sym (nearer-root (y .1) (x .1)) ∙ ap root (nearer-exchanged (y .0) (x .0) (y .1 .square) (x .1 .square)) ∙ nearer-root (x .1) (y .1)
+    let x = squares-way a b (count a) in
+    let y = squares-way b a (count b) in
+    sym (nearer-root y x) ∙ ap root (nearer-exchanged _ _ (y .square) (x .square)) ∙ nearer-root x y
 
 -- ---- the refusals of two lists
 

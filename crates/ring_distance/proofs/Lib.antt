@@ -2,4 +2,6 @@
 pub mod Signs
 pub mod Roots
 pub mod Turns
+pub mod Off
+pub mod Filled
 pub mod Worked

@@ -91,7 +91,7 @@ pub fn polygon(seeded: &mut Seeded) -> Vec<f64> {
 }
 
 /// The ring drawn in to the bounds.
-fn within(ring: &[f64]) -> Vec<f64> {
+pub fn within(ring: &[f64]) -> Vec<f64> {
     ring.iter().map(|x| x.clamp(-LARGEST, LARGEST)).collect()
 }
 
