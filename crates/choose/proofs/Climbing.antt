@@ -6,6 +6,7 @@ use mathlib.Core.Bool.{Bool, true, false, cond, true≢false}
 use mathlib.Core.List.{List, [], _∷_}
 use native.Mathlib.Omega.{arith}
 use lib.ListN.{length, drop}
+use lib.Dec.{eqb}
 use lib.Ieee.{Float, lt}
 use Rattle.plane.specs.declared.Point.{Point}
 use Rattle.ring.specs.Ring.{count}
@@ -186,13 +187,13 @@ taken-is keep previous ccw b v = by (keep v) (lt (b .score) (scoreOf v previous 
 
 module _ (keep : TranslationVector → Bool) (previous : Previous) (ccw : Point) where
   one-side : (b r : Best) (c : Course) {w : Weighed} {v : TranslationVector}
-      → w ≡ weighedBy keep previous ccw (b .found) (b .score) (vectorIs c) → standing r ≡ takenBy w (standing b) (vectorIs c) → vectorIs c ≡ v
+      → w ≡ weighedBy keep previous ccw (eqb (b .found) 1) (b .score) (vectorIs c) → standing r ≡ takenBy w (standing b) (vectorIs c) → vectorIs c ≡ v
       → standing r ≡ weighOf keep previous ccw (standing b) v
   one-side b r c h k e = k ∙ (rw (h, ← e) (taken-is keep previous ccw (standing b) (vectorIs c)))
 
   pub both-sides : (b f r : Best) (c d : Course) {w x : Weighed} {v u : TranslationVector}
-      → w ≡ weighedBy keep previous ccw (b .found) (b .score) (vectorIs c) → standing f ≡ takenBy w (standing b) (vectorIs c) → vectorIs c ≡ v
-      → x ≡ weighedBy keep previous ccw (f .found) (f .score) (vectorIs d) → standing r ≡ takenBy x (standing f) (vectorIs d) → vectorIs d ≡ u
+      → w ≡ weighedBy keep previous ccw (eqb (b .found) 1) (b .score) (vectorIs c) → standing f ≡ takenBy w (standing b) (vectorIs c) → vectorIs c ≡ v
+      → x ≡ weighedBy keep previous ccw (eqb (f .found) 1) (f .score) (vectorIs d) → standing r ≡ takenBy x (standing f) (vectorIs d) → vectorIs d ≡ u
       → standing r ≡ weighOf keep previous ccw (weighOf keep previous ccw (standing b) v) u
   both-sides b f r c d {u = u} h k e h' k' e' =
       one-side f r d h' k' e' ∙ ap (λ (z : Standing). weighOf keep previous ccw z u) (one-side b f c h k e)
@@ -237,8 +238,8 @@ module _ (vs : List Sourced) (previous : Previous) (ccw : Point) (b : Best) (e :
   all-told : chosenBy (standing b) ≡ choiceOf vs previous ccw
   all-told = ap chosenBy e ∙ climbed vs previous ccw
 
-  pub some-vector : {v : TranslationVector} → b .found ≡ true → v ≡ vectorIs (b .course) → Vector v ≡ choiceOf vs previous ccw
+  pub some-vector : {v : TranslationVector} → eqb (b .found) 1 ≡ true → v ≡ vectorIs (b .course) → Vector v ≡ choiceOf vs previous ccw
   some-vector f q = rw q (rw f at all-told)
 
-  pub no-vector : b .found ≡ false → Nothing ≡ choiceOf vs previous ccw
+  pub no-vector : eqb (b .found) 1 ≡ false → Nothing ≡ choiceOf vs previous ccw
   no-vector f = rw f at all-told

@@ -2,6 +2,7 @@
 use Prim.Native.Nat.{ℕ, zero, suc}
 use mathlib.Core.Bool.{Bool, true, false, cond}
 use mathlib.Core.List.{List, [], _∷_}
+use lib.Dec.{eqb}
 use lib.Ieee.{Float, inf, lt}
 use Rattle.scalar.specs.Float.{f0}
 use Rattle.plane.specs.Vector.{point}
@@ -38,7 +39,7 @@ abbrev pub stands : Bool → Float → TranslationVector → Standing
 stands f s v = record { found = f; score = s; best = v }
 
 abbrev pub standing : Best → Standing
-standing b = stands (b .found) (b .score) (vectorIs (b .course))
+standing b = stands (eqb (b .found) 1) (b .score) (vectorIs (b .course))
 
 -- none is found
 unfoldable pub unset : Standing

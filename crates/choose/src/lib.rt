@@ -20,6 +20,7 @@ use vectors::course::Course;
 use vectors::course::course_by;
 use vectors::course::direction_of;
 use vectors::course::is_below;
+use vectors::course::over;
 use vectors::course::reach;
 use vectors::course::to_vector;
 use vectors::fit::is_visited;
@@ -40,9 +41,9 @@ pub enum Choice {
     Vector(TranslationVector),
 }
 
-// The best vector so far and its score; where none is found yet, -infinity.
+// The best vector so far and its score; where none is found yet, -infinity. Found is 1, and else 0.
 pub struct Best {
-    pub found: bool,
+    pub found: u64,
     pub score: f64,
     pub course: Course,
 }
@@ -117,7 +118,7 @@ fn taken(best: Best, course: Course, weighed: Weighed) -> Best
     match weighed {
         Weighed::Passed => best,
         Weighed::Raised(score) => Best {
-            found: true,
+            found: 1,
             score,
             course,
         },
@@ -159,7 +160,7 @@ fn weigh_both(
 {
     let one = course_by(kind, e, along, 0);
     let w1 = weigh(
-        best.found,
+        best.found == 1,
         best.score,
         one,
         from,
@@ -171,7 +172,7 @@ fn weigh_both(
     let first = taken(best, one, w1);
     let two = course_by(kind, e, along, 1);
     let w2 = weigh(
-        first.found,
+        first.found == 1,
         first.score,
         two,
         from,
@@ -235,12 +236,9 @@ fn climb(
         (fitOf (now (stationary .entry)) (now (orbiting .entry)) from (now (visited .entry)) tol) ⌝ }
 {
     let mut best = Best {
-        found: false,
+        found: 0,
         score: start().score,
-        course: Course::Over {
-            direction: Point { x: 0.0, y: 0.0 },
-            gap: Point { x: 0.0, y: 0.0 },
-        },
+        course: over(Point { x: 0.0, y: 0.0 }, Point { x: 0.0, y: 0.0 }),
     };
     let frames = frames_of(stationary, orbiting);
     let mut k = 0;
@@ -299,7 +297,7 @@ pub fn choose(
         previous,
         ccw,
     );
-    if best.found {
+    if best.found == 1 {
         let course = best.course;
         Choice::Vector(to_vector(course))
     } else {

@@ -11,19 +11,11 @@ use Rattle.ring.specs.Ring.{count}
 use Rattle.chains.specs.Chain.{Tabled}
 use Rattle.collision.specs.Ray.{edgeRay}
 use Rattle.collision.specs.declared.Sweep.{Sweep}
-use Rattle.collision.specs.declared.Met.{Met}
 use Rattle.collision.specs.declared.Ray.the-variants.{Miss}
 
 -- the ray from o along d misses the edges from one on and below another
 abbrev pub MissesTo : List Float → Point → Float → Point → ℕ → ℕ → Type 0
 MissesTo es d tol o from to = (k : ℕ) → from ≤ k → k < to → edgeRay o d es k tol ≡ Miss
-
--- an edge from one on and below another, or the other, with the ray against it, and those before it are missed
-pub record MetFirst (es : List Float) (d : Point) (tol : Float) (o : Point) (from to : ℕ) (met : Met) : Type 0 where
-  pub not-before : from ≤ met .edge
-  pub not-after : met .edge ≤ to
-  pub misses : MissesTo es d tol o from (met .edge)
-  pub hits : met .edge < to → met .ray ≡ edgeRay o d es (met .edge) tol
 
 -- few enough edges and a small enough tolerance for chains
 pub record Few (es : List Float) (w : Sweep) : Type 0 where

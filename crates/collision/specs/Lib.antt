@@ -2,6 +2,7 @@
 pub mod Ray
 pub mod Hit
 pub mod Parts
+pub mod Row
 pub mod Check
 pub mod Chained
 pub mod Nearest

@@ -15,27 +15,22 @@ use plane::vector::minus;
 use ring::next;
 use ring::point_at;
 ghost use mathlib.Core.Path.{_≡_};
+ghost use mathlib.Core.Bool.{_&&_};
 ghost use Prim.Native.Nat.{_≤_, _<_};
 ghost use lib.Ieee.{lt};
-ghost use lib.ListN.{length};
 ghost use Rattle.scalar.specs.Scalar.{absOf};
 ghost use Rattle.ring.specs.Ring.{count};
 ghost use Rattle.collision.specs.Ray.{rayOf, edgeRay};
 ghost use Rattle.collision.specs.Parts.{withinSegment, inFront, pairBy};
-ghost use Rattle.collision.specs.Hit.{countedOf, nearer};
-ghost use Rattle.collision.specs.Chained.{MetFirst, Few, Ready};
+ghost use Rattle.collision.specs.Row.{pairAt, leastOf, Onward};
+ghost use Rattle.collision.specs.Hit.{countedOf};
+ghost use Rattle.collision.specs.Chained.{Few, Ready};
 ghost use Rattle.collision.specs.Check.{scanOf, backOf, bothOf, raysBy, collisionOf};
 
 // A ray against a segment: it misses, or it meets the segment at a distance.
 pub enum Ray {
     Miss,
     At(f64),
-}
-
-// An edge that a ray meets, with the ray against it.
-pub struct Met {
-    pub edge: usize,
-    pub ray: Ray,
 }
 
 // What a move runs into. Kind 0 is a vertex of orbiting on an edge of stationary, kind 1 a vertex of stationary on an edge of orbiting.
@@ -97,11 +92,11 @@ pub fn ray_segment_intersection(
 {
     let seg = minus(p2, p1);
     let den = cross(dir, seg);
-    if is_small(den, tolerance) {
-        return Ray::Miss;
-    }
     let diff = minus(p1, origin);
     if within_segment(cross(diff, dir) / den, tolerance) {
+        if is_small(den, tolerance) {
+            return Ray::Miss;
+        }
         in_front(cross(diff, seg) / den, tolerance)
     } else {
         Ray::Miss
@@ -138,31 +133,6 @@ fn counted(ray: Ray, sweep: Sweep, kind: u8, stationary: usize, orbiting: usize)
     Collision::Nothing
 }
 
-// Whether a new one replaces what was found so far: only a strictly smaller distance does.
-pub fn is_nearer(new: Collision, best: Collision) -> bool
-    ensures { λ r. ⌜ r ≡ nearer new best ⌝ }
-{
-    let Collision::Hit {
-        distance: e,
-        kind: _,
-        stationary: _,
-        orbiting: _,
-    } = new
-    else {
-        return false;
-    };
-    let Collision::Hit {
-        distance: d,
-        kind: _,
-        stationary: _,
-        orbiting: _,
-    } = best
-    else {
-        return true;
-    };
-    e < d
-}
-
 // What a ray of the vertex v of one ring makes of the edge e of the other.
 pub fn pair(ray: Ray, sweep: Sweep, kind: u8, v: usize, e: usize) -> Collision
     ensures { λ r. ⌜ r ≡ pairBy ray sweep kind v e ⌝ }
@@ -174,59 +144,98 @@ pub fn pair(ray: Ray, sweep: Sweep, kind: u8, v: usize, e: usize) -> Collision
     }
 }
 
-// The first edge from one on and below another that the ray from origin does not miss, or the other.
-fn first_hit(origin: Point, edges: &[f64], sweep: Sweep, from: usize, to: usize) -> Met
-    requires { ⌜ (from ≤ to) × (to ≤ count (now edges)) ⌝ }
-    ensures { λ r. ⌜ MetFirst (now (edges .entry)) (sweep .dir) (sweep .tolerance) origin from to r ⌝ }
+// The distance below which a hit is nearer than what was found: +infinity where that is nothing.
+fn least(best: Collision) -> f64
+    ensures { λ r. ⌜ r ≡ leastOf best ⌝ }
 {
+    let Collision::Hit {
+        distance: d,
+        kind: _,
+        stationary: _,
+        orbiting: _,
+    } = best
+    else {
+        return 1.0 / 0.0;
+    };
+    d
+}
+
+// Whether a hit at d counts and lies below a distance.
+fn counts_below(d: f64, sweep: Sweep, near: f64) -> bool
+    ensures { λ r. ⌜ r ≡ lt (sweep .tolerance) d && (lt d near && lt d (sweep .limit)) ⌝ }
+{
+    if d > sweep.tolerance {
+        if d < near {
+            return d < sweep.limit;
+        }
+    }
+    false
+}
+
+// What was found before, or the first nearest hit of the vertex v, at origin, on the edges from one on and below another.
+fn row(
+    origin: Point,
+    edges: &[f64],
+    sweep: Sweep,
+    kind: u8,
+    v: usize,
+    before: Collision,
+    from: usize,
+    to: usize,
+) -> Collision
+    requires { ⌜ (from ≤ to) × (to ≤ count (now edges)) ⌝ }
+    ensures { λ r. ⌜ Onward (pairAt origin (now (edges .entry)) sweep kind v) from to before r ⌝ }
+{
+    let mut best = before;
+    let mut near = least(before);
     let mut e = from;
     while e < to {
         let ray = edge_ray(origin, sweep.dir, edges, e, sweep.tolerance);
-        if let Ray::At(_) = ray {
-            return Met { edge: e, ray };
+        if let Ray::At(d) = ray {
+            if counts_below(d, sweep, near) {
+                best = pair(Ray::At(d), sweep, kind, v, e);
+                near = d;
+                e += 1;
+            } else {
+                e += 1;
+            }
         } else {
             e += 1;
         }
     }
-    Met {
-        edge: to,
-        ray: Ray::Miss,
-    }
+    best
 }
 
-// The first edge from one on that the ray from origin does not miss, or as many as there are. The table has the chains of all
-// edges, so that those that the ray passes beside are left out, or it is empty.
-pub fn next_hit(origin: Point, edges: &[f64], table: &[f64], sweep: Sweep, from: usize) -> Met
-    requires { ⌜ from ≤ count (now edges) ⌝ }
-    requires { ⌜ (0 < length (now table) → Ready (now table) (now edges) sweep) ⌝ }
-    ensures { λ r. ⌜ MetFirst (now (edges .entry)) (sweep .dir) (sweep .tolerance) origin from (count (now (edges .entry))) r ⌝ }
+// The same on all edges, with a table of their chains, so that those that the ray passes beside are left out.
+fn chained_row(
+    origin: Point,
+    edges: &[f64],
+    table: &[f64],
+    sweep: Sweep,
+    kind: u8,
+    v: usize,
+    before: Collision,
+) -> Collision
+    requires { ⌜ Ready (now table) (now edges) sweep ⌝ }
+    ensures { λ r. ⌜ Onward (pairAt origin (now (edges .entry)) sweep kind v) 0 (count (now (edges .entry))) before r ⌝ }
 {
-    let n = edges.len() / 2;
-    if table.len() == 0 {
-        return first_hit(origin, edges, sweep, from, n);
-    }
-    let mut e = from;
-    while e < n {
-        let to = chain_end(e, n);
+    let m = edges.len() / 2;
+    let mut best = before;
+    let mut e = 0;
+    while e < m {
+        let to = chain_end(e, m);
         if is_passed(table, e / 8, origin, sweep.dir) {
             e = to;
         } else {
-            let met = first_hit(origin, edges, sweep, e, to);
-            if met.edge < to {
-                return met;
-            }
+            best = row(origin, edges, sweep, kind, v, best, e, to);
             e = to;
         }
     }
-    Met {
-        edge: n,
-        ray: Ray::Miss,
-    }
+    best
 }
 
-// Each vertex of one ring against each edge of the other, from what was found before, with a table of the edges' chains or an
-// empty one.
-fn scan_by(
+// Each vertex of one ring against each edge of the other, from what was found before, with a table of the edges' chains.
+fn rows_by(
     vertices: &[f64],
     edges: &[f64],
     table: &[f64],
@@ -234,35 +243,21 @@ fn scan_by(
     kind: u8,
     before: Collision,
 ) -> Collision
-    requires { ⌜ (0 < length (now table) → Ready (now table) (now edges) sweep) ⌝ }
+    requires { ⌜ Ready (now table) (now edges) sweep ⌝ }
     ensures { λ r. ⌜ r ≡ scanOf (now (vertices .entry)) (now (edges .entry)) sweep kind before ⌝ }
 {
     let n = vertices.len() / 2;
-    let m = edges.len() / 2;
     let mut best = before;
     let mut v = 0;
-    let mut e = 0;
     while v < n {
-        let met = next_hit(point_at(vertices, v), edges, table, sweep, e);
-        let k = met.edge;
-        let ray = met.ray;
-        if k < m {
-            let new = pair(ray, sweep, kind, v, k);
-            if is_nearer(new, best) {
-                best = new;
-                e = k + 1;
-            } else {
-                e = k + 1;
-            }
-        } else {
-            v += 1;
-            e = 0;
-        }
+        let origin = point_at(vertices, v);
+        best = chained_row(origin, edges, table, sweep, kind, v, best);
+        v += 1;
     }
     best
 }
 
-// The same with a table of the edges' chains.
+// The same, with the table made.
 fn chained_scan(
     vertices: &[f64],
     edges: &[f64],
@@ -275,7 +270,29 @@ fn chained_scan(
 {
     let mut table = [0.0; NUMBERS];
     fill(edges, sweep.dir, &mut table);
-    scan_by(vertices, edges, &table, sweep, kind, before)
+    rows_by(vertices, edges, &table, sweep, kind, before)
+}
+
+// The same, each edge tried.
+fn plain_scan(
+    vertices: &[f64],
+    edges: &[f64],
+    sweep: Sweep,
+    kind: u8,
+    before: Collision,
+) -> Collision
+    ensures { λ r. ⌜ r ≡ scanOf (now (vertices .entry)) (now (edges .entry)) sweep kind before ⌝ }
+{
+    let n = vertices.len() / 2;
+    let m = edges.len() / 2;
+    let mut best = before;
+    let mut v = 0;
+    while v < n {
+        let origin = point_at(vertices, v);
+        best = row(origin, edges, sweep, kind, v, best, 0, m);
+        v += 1;
+    }
+    best
 }
 
 // Each vertex of one ring against each edge of the other, from what was found before.
@@ -285,7 +302,7 @@ fn scan(vertices: &[f64], edges: &[f64], sweep: Sweep, kind: u8, before: Collisi
     if is_chained(edges.len() / 2, sweep.tolerance) {
         chained_scan(vertices, edges, sweep, kind, before)
     } else {
-        scan_by(vertices, edges, &edges[..0], sweep, kind, before)
+        plain_scan(vertices, edges, sweep, kind, before)
     }
 }
 

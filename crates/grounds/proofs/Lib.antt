@@ -1,6 +1,8 @@
 -- The modules that belong to no one function.
 pub mod Classes
 pub mod Counts
+pub mod Noted
+pub mod Missed
 pub mod Passed
 pub mod Scanned
 pub mod Others

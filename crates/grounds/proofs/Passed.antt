@@ -9,12 +9,13 @@ use Rattle.ring.specs.Ring.{count, pointAt}
 use Rattle.laws.specs.Turns.{turns, turnRows}
 use Rattle.laws.proofs.Turns.{turns-split, one-more, row-more}
 use Rattle.collision.specs.Ray.{edgeRay}
-use Rattle.collision.specs.Chained.{MissesTo, MetFirst}
+use Rattle.collision.specs.Chained.{MissesTo}
 use Rattle.collision.specs.declared.Sweep.{Sweep}
-use Rattle.collision.specs.declared.Met.{Met}
 use Rattle.collision.specs.declared.Ray.{Ray}
 use Rattle.collision.specs.declared.Ray.the-variants.{Miss}
+use Rattle.grounds.specs.Met.{MetFirst}
 use Rattle.grounds.specs.Scan.{kindMost, pairsMost, AtMost, notedOf, pairNoted, scanNoted}
+use Rattle.grounds.specs.declared.Met.{Met}
 use Rattle.grounds.specs.declared.Tally.{Tally}
 use Rattle.grounds.proofs.Counts.{missed, scan-small}
 
@@ -49,12 +50,9 @@ module _ (vs es : List Float) (w : Sweep) (kind : ℕ) (before : Tally) where
   skipped v a to h l m = passed-over _ _ a to h l (λ s k i j. none-noted v k s (m k i j))
 
   -- one hit more, after misses
-  pub next-pair : (v a : ℕ) {t next : Tally} {o : Point} {met : Met} → Sofar v a t → o ≡ pointAt vs v → MetFirst es (w .dir) (w .tolerance) o a (count es) met → met .edge < count es
-      → next ≡ notedOf w kind t v (met .edge) (met .ray) → Sofar v (met .edge + 1) next
-  next-pair v a {t = t} {o = o} {met = met} h eo m k e = one-more _ _ (met .edge) (skipped v a (met .edge) h (m .not-before) (rw (← eo) (m .misses))) (pair-is (m .hits k) e)
-    where
-      pair-is : {next : Tally} {ray : Ray} → ray ≡ edgeRay o (w .dir) es (met .edge) (w .tolerance) → next ≡ notedOf w kind t v (met .edge) ray → next ≡ pairNoted vs es w kind t v (met .edge)
-      pair-is er h = unfold pairNoted in rw (h, er, eo)
+  pub next-pair : (v a : ℕ) {t next : Tally} {o : Point} {met : Met} {ray : Ray} → Sofar v a t → o ≡ pointAt vs v → MetFirst es (w .dir) (w .tolerance) o a (count es) met → met .edge < count es
+      → met .ray ≡ ray → next ≡ notedOf w kind t v (met .edge) ray → Sofar v (met .edge + 1) next
+  next-pair v a {t = t} {o = o} {met = met} h eo m k er e = one-more _ _ (met .edge) (skipped v a (met .edge) h (m .not-before) (rw (← eo) (m .misses))) (e ∙ unfold pairNoted in rw (← er, m .hits k, eo))
 
   -- no hit more of a vertex
   pub next-vertex : (v a : ℕ) {t : Tally} {o : Point} {met : Met} → Sofar v a t → o ≡ pointAt vs v → MetFirst es (w .dir) (w .tolerance) o a (count es) met → count es ≤ met .edge → Sofar (v + 1) 0 t
@@ -70,3 +68,9 @@ module _ (vs es : List Float) (w : Sweep) (kind : ℕ) (before : Tally) where
 
   pub small : (v e : ℕ) {t : Tally} → Sofar v e t → AtMost before kindMost → v ≤ 256 → count es ≤ 256 → e ≤ 256 → AtMost t (2 * pairsMost)
   small v e h a l n o = rw h (scan-small vs es w kind v e before a l n o)
+
+-- a vertex more, from its first edge on, is fewer pairs left
+pub fewer : (n v m e : ℕ) → v < n → (n - (v + 1)) * (m + 1) + (m - 0) < (n - v) * (m + 1) + (m - e)
+fewer n v m e h =
+    let a : n - v ≡ n - (v + 1) + 1 = omega arith in
+    rw a (omega arith)

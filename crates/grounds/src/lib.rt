@@ -4,14 +4,15 @@ pub mod answer;
 pub mod calls;
 
 use chains::NUMBERS;
+use chains::chain_end;
 use chains::fill;
 use chains::is_chained;
+use chains::is_passed;
 use collision::Collision;
 use collision::Ray;
 use collision::Sweep;
 use collision::back;
-use collision::is_nearer;
-use collision::next_hit;
+use collision::edge_ray;
 use collision::pair;
 use collision::rays;
 use plane::Point;
@@ -25,9 +26,10 @@ ghost use Rattle.ring.specs.Ring.{count};
 ghost use Rattle.refusals.specs.Rings.{verticesMost};
 ghost use Rattle.grounds.specs.Classes.{inBetween, tooFar};
 ghost use Rattle.grounds.specs.Grounds.{groundBy, groundNumber};
+ghost use Rattle.collision.specs.Hit.{nearer};
 ghost use Rattle.collision.specs.Chained.{Few, Ready};
-ghost use Rattle.collision.specs.declared.Ray.the-variants.{At};
-ghost use Rattle.grounds.specs.Scan.{kindMost, pairsMost, AtMost, noTally, othersAfter, notedOf, scanNoted, bothNoted};
+ghost use Rattle.grounds.specs.Met.{MetFirst};
+ghost use Rattle.grounds.specs.Scan.{kindMost, pairsMost, AtMost, noTally, othersAfter, scanNoted, bothNoted};
 ghost use Rattle.grounds.specs.Explanation.{explanationOf};
 
 // Why the answer is what it is: a hit; or the move is shorter than the tolerance, no pair is ever hit, all hits are too near, all are too
@@ -39,6 +41,12 @@ pub enum Ground {
     Near,
     Far,
     BothSides,
+}
+
+// An edge that a ray meets, with the ray against it.
+struct Met {
+    edge: usize,
+    ray: Ray,
 }
 
 // What is known of the pairs scanned: the nearest hit that counts, how many other pairs have its very distance, and how many hits are too
@@ -142,48 +150,83 @@ fn others_after(others: u64, best: Collision, new: Collision) -> u64
     if e < d { 0 } else { one_more(others, e == d) }
 }
 
-// What is known after a hit at d of the vertex v on the edge e.
-fn noted(sweep: Sweep, kind: u8, tally: Tally, v: usize, e: usize, d: f64) -> Tally
-    requires { ⌜ AtMost tally (2 * pairsMost) ⌝ }
-    ensures { λ r. ⌜ r ≡ notedOf sweep kind tally v e (At d) ⌝ }
+// Whether a new one replaces what was found so far: only a strictly smaller distance does.
+fn is_nearer(new: Collision, best: Collision) -> bool
+    ensures { λ r. ⌜ r ≡ nearer new best ⌝ }
 {
-    let best = tally.best;
-    let new = pair(Ray::At(d), sweep, kind, v, e);
-    let others = others_after(tally.others, best, new);
-    let near = one_more(tally.near, d <= sweep.tolerance);
-    let between = one_more(tally.between, in_between(d, sweep));
-    let far = one_more(tally.far, too_far(d, sweep));
-    if is_nearer(new, best) {
-        Tally {
-            best: new,
-            others,
-            near,
-            between,
-            far,
+    let Collision::Hit {
+        distance: e,
+        kind: _,
+        stationary: _,
+        orbiting: _,
+    } = new
+    else {
+        return false;
+    };
+    let Collision::Hit {
+        distance: d,
+        kind: _,
+        stationary: _,
+        orbiting: _,
+    } = best
+    else {
+        return true;
+    };
+    e < d
+}
+
+// The first edge from one on and below another that the ray from origin does not miss, or the other.
+fn first_hit(origin: Point, edges: &[f64], sweep: Sweep, from: usize, to: usize) -> Met
+    requires { ⌜ (from ≤ to) × (to ≤ count (now edges)) ⌝ }
+    ensures { λ r. ⌜ MetFirst (now (edges .entry)) (sweep .dir) (sweep .tolerance) origin from to r ⌝ }
+{
+    let mut e = from;
+    while e < to {
+        let ray = edge_ray(origin, sweep.dir, edges, e, sweep.tolerance);
+        if let Ray::At(_) = ray {
+            return Met { edge: e, ray };
+        } else {
+            e += 1;
         }
-    } else {
-        Tally {
-            best,
-            others,
-            near,
-            between,
-            far,
-        }
+    }
+    Met {
+        edge: to,
+        ray: Ray::Miss,
     }
 }
 
-// What is known after a ray of the vertex v against the edge e.
-fn noted_ray(sweep: Sweep, kind: u8, tally: Tally, v: usize, e: usize, ray: Ray) -> Tally
-    requires { ⌜ AtMost tally (2 * pairsMost) ⌝ }
-    ensures { λ r. ⌜ r ≡ notedOf sweep kind tally v e ray ⌝ }
+// The first edge from one on that the ray from origin does not miss, or as many as there are. The table has the chains of all
+// edges, so that those that the ray passes beside are left out, or it is empty.
+fn next_hit(origin: Point, edges: &[f64], table: &[f64], sweep: Sweep, from: usize) -> Met
+    requires { ⌜ from ≤ count (now edges) ⌝ }
+    requires { ⌜ (0 < length (now table) → Ready (now table) (now edges) sweep) ⌝ }
+    ensures { λ r. ⌜ MetFirst (now (edges .entry)) (sweep .dir) (sweep .tolerance) origin from (count (now (edges .entry))) r ⌝ }
 {
-    let Ray::At(d) = ray else {
-        return tally;
-    };
-    noted(sweep, kind, tally, v, e, d)
+    let n = edges.len() / 2;
+    if table.len() == 0 {
+        return first_hit(origin, edges, sweep, from, n);
+    }
+    let mut e = from;
+    while e < n {
+        let to = chain_end(e, n);
+        if is_passed(table, e / 8, origin, sweep.dir) {
+            e = to;
+        } else {
+            let met = first_hit(origin, edges, sweep, e, to);
+            if met.edge < to {
+                return met;
+            }
+            e = to;
+        }
+    }
+    Met {
+        edge: n,
+        ray: Ray::Miss,
+    }
 }
 
-// Each vertex of one ring against each edge of the other, from what was known before, with a table of the edges' chains or an empty one.
+// Each vertex of one ring against each edge of the other, from what was known before, with a table of the edges' chains or an
+// empty one.
 fn scan_by(
     vertices: &[f64],
     edges: &[f64],
@@ -198,7 +241,11 @@ fn scan_by(
 {
     let n = vertices.len() / 2;
     let m = edges.len() / 2;
-    let mut tally = before;
+    let mut best = before.best;
+    let mut others = before.others;
+    let mut near = before.near;
+    let mut between = before.between;
+    let mut far = before.far;
     let mut v = 0;
     let mut e = 0;
     while v < n {
@@ -206,14 +253,29 @@ fn scan_by(
         let k = met.edge;
         let ray = met.ray;
         if k < m {
-            tally = noted_ray(sweep, kind, tally, v, k, ray);
             e = k + 1;
+            if let Ray::At(d) = ray {
+                let new = pair(Ray::At(d), sweep, kind, v, k);
+                others = others_after(others, best, new);
+                near = one_more(near, d <= sweep.tolerance);
+                between = one_more(between, in_between(d, sweep));
+                far = one_more(far, too_far(d, sweep));
+                if is_nearer(new, best) {
+                    best = new;
+                }
+            }
         } else {
             v += 1;
             e = 0;
         }
     }
-    tally
+    Tally {
+        best,
+        others,
+        near,
+        between,
+        far,
+    }
 }
 
 // The same with a table of the edges' chains.

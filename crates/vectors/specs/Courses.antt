@@ -10,15 +10,13 @@ use Rattle.contacts.specs.declared.Edges.{Edges}
 use Rattle.vectors.specs.Vectors.{vector, directionOf}
 use Rattle.vectors.specs.declared.TranslationVector.{TranslationVector}
 use Rattle.vectors.specs.declared.course.Course.{Course}
-use Rattle.vectors.specs.declared.course.Course.the-variants.{Over, Both}
 
 -- 1.5
 abbrev pub f1·5 : Float
 f1·5 = float 0x3ff8_0000_0000_0000
 
 unfoldable pub vectorIs : Course → TranslationVector
-vectorIs (Over dir gap) = vector dir (lengthOf gap)
-vectorIs (Both dir first second) = vector dir (lengthOf first ⊕ lengthOf second)
+vectorIs c = vector (c .direction) (cond (eqb (c .gaps) 1) (lengthOf (c .first)) (lengthOf (c .first) ⊕ lengthOf (c .second)))
 
 -- along the orbiting edge of kind 1, and else along the stationary one
 unfoldable pub alongBy : ℕ → Edges → Point

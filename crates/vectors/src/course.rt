@@ -12,23 +12,43 @@ use scalar::smaller;
 ghost use mathlib.Core.Path.{_≡_};
 ghost use mathlib.Core.Bool.{true, false};
 ghost use lib.Ieee.{lt};
-ghost use Rattle.scalar.specs.Float.{f1};
+ghost use Rattle.scalar.specs.Float.{_⊕_, f1};
 ghost use Rattle.scalar.specs.Scalar.{smallerOf};
 ghost use Rattle.plane.specs.Vector.{lengthOf};
-ghost use Rattle.vectors.specs.Vectors.{directionOf, vertexEdge, edgeVertex, edgeEdge, vectorBy};
+ghost use Rattle.vectors.specs.Vectors.{vector, directionOf, vertexEdge, edgeVertex, edgeEdge, vectorBy};
 ghost use Rattle.vectors.specs.Courses.{f1·5, vectorIs, alongBy};
 
-// A direction, and the gap that is as long as the distance, or two whose lengths' sum it is.
-pub enum Course {
-    Over {
-        direction: Point,
-        gap: Point,
-    },
-    Both {
-        direction: Point,
-        first: Point,
-        second: Point,
-    },
+// A direction, and the gap that is as long as the distance, or two whose lengths' sum it is: how many it has is told. No field is
+// narrower than the others, so that a copy goes by whole words.
+pub struct Course {
+    pub direction: Point,
+    pub first: Point,
+    pub second: Point,
+    pub gaps: u64,
+}
+
+// That of one gap.
+pub fn over(direction: Point, gap: Point) -> Course
+    ensures { λ r. ⌜ vectorIs r ≡ vector direction (lengthOf gap) ⌝ }
+{
+    Course {
+        direction,
+        first: gap,
+        second: gap,
+        gaps: 1,
+    }
+}
+
+// That of two.
+fn over_two(direction: Point, first: Point, second: Point) -> Course
+    ensures { λ r. ⌜ vectorIs r ≡ vector direction (lengthOf first ⊕ lengthOf second) ⌝ }
+{
+    Course {
+        direction,
+        first,
+        second,
+        gaps: 2,
+    }
 }
 
 // The unit vector along the edge that the vectors of a contact follow.
@@ -47,15 +67,9 @@ fn over_edge(e: Edges, along: Point, side: usize) -> Course
     ensures { λ r. ⌜ vectorIs r ≡ vertexEdge e side ⌝ }
 {
     if side == 0 {
-        return Course::Over {
-            direction: along,
-            gap: minus(e.b, e.c),
-        };
+        return over(along, minus(e.b, e.c));
     }
-    Course::Over {
-        direction: opposite(along),
-        gap: minus(e.a, e.c),
-    }
+    over(opposite(along), minus(e.a, e.c))
 }
 
 // The stationary vertex on the orbiting edge.
@@ -64,15 +78,9 @@ fn over_vertex(e: Edges, along: Point, side: usize) -> Course
     ensures { λ r. ⌜ vectorIs r ≡ edgeVertex e side ⌝ }
 {
     if side == 0 {
-        return Course::Over {
-            direction: opposite(along),
-            gap: minus(e.d, e.a),
-        };
+        return over(opposite(along), minus(e.d, e.a));
     }
-    Course::Over {
-        direction: along,
-        gap: minus(e.c, e.a),
-    }
+    over(along, minus(e.c, e.a))
 }
 
 // Two edges.
@@ -83,17 +91,9 @@ fn over_both(e: Edges, along: Point, side: usize) -> Course
     let first = minus(e.b, e.a);
     let second = minus(e.d, e.c);
     if side == 0 {
-        return Course::Both {
-            direction: along,
-            first,
-            second,
-        };
+        return over_two(along, first, second);
     }
-    Course::Both {
-        direction: opposite(along),
-        first,
-        second,
-    }
+    over_two(opposite(along), first, second)
 }
 
 // A vector of a contact with these edges, by its kind: the first at side 0, the second at side 1.
@@ -112,19 +112,18 @@ pub fn course_by(kind: u8, e: Edges, along: Point, side: usize) -> Course
 pub fn to_vector(course: Course) -> TranslationVector
     ensures { λ r. ⌜ r ≡ vectorIs course ⌝ }
 {
-    match course {
-        Course::Over { direction, gap } => TranslationVector {
+    let direction = course.direction;
+    let first = length(course.first);
+    if course.gaps == 1 {
+        return TranslationVector {
             direction,
-            distance: length(gap),
-        },
-        Course::Both {
-            direction,
-            first,
-            second,
-        } => TranslationVector {
-            direction,
-            distance: length(first) + length(second),
-        },
+            distance: first,
+        };
+    }
+    let second = length(course.second);
+    TranslationVector {
+        direction,
+        distance: first + second,
     }
 }
 
@@ -132,33 +131,22 @@ pub fn to_vector(course: Course) -> TranslationVector
 pub fn direction_of(course: Course) -> Point
     ensures { λ r. ⌜ r ≡ vectorIs course .direction ⌝ }
 {
-    match course {
-        Course::Over { direction, gap: _ } => direction,
-        Course::Both {
-            direction,
-            first: _,
-            second: _,
-        } => direction,
-    }
+    course.direction
 }
 
 // Whether its distance is below a limit.
 pub fn is_below(course: Course, limit: f64) -> bool
     ensures { λ r. ⌜ r ≡ lt (vectorIs course .distance) limit ⌝ }
 {
-    match course {
-        Course::Over { direction: _, gap } => is_shorter(gap, limit),
-        Course::Both {
-            direction: _,
-            first,
-            second,
-        } => {
-            if is_shorter(first, limit) {
-                length(first) + length(second) < limit
-            } else {
-                false
-            }
-        }
+    let first = course.first;
+    let second = course.second;
+    if course.gaps == 1 {
+        return is_shorter(first, limit);
+    }
+    if is_shorter(first, limit) {
+        length(first) + length(second) < limit
+    } else {
+        false
     }
 }
 
@@ -173,22 +161,13 @@ fn is_long(v: Point) -> bool
 pub fn reach(course: Course) -> f64
     ensures { λ r. ⌜ r ≡ smallerOf (vectorIs course .distance) f1 ⌝ }
 {
-    match course {
-        Course::Over { direction: _, gap } => {
-            if is_long(gap) {
-                return 1.0;
-            }
-            smaller(length(gap), 1.0)
-        }
-        Course::Both {
-            direction: _,
-            first,
-            second,
-        } => {
-            if is_long(first) {
-                return 1.0;
-            }
-            smaller(length(first) + length(second), 1.0)
-        }
+    let first = course.first;
+    let second = course.second;
+    if is_long(first) {
+        return 1.0;
     }
+    if course.gaps == 1 {
+        return smaller(length(first), 1.0);
+    }
+    smaller(length(first) + length(second), 1.0)
 }

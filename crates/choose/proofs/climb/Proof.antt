@@ -12,7 +12,6 @@ use Rattle.pairs.proofs.Numbers.{most}
 use Rattle.contacts.proofs.Following.{next-at, next-none}
 use Rattle.vectors.specs.Fit.{keeps}
 use Rattle.selection.specs.Select.{unscored}
-use Rattle.vectors.specs.Courses.{vectorIs}
 use Rattle.choose.specs.Choose.{standing, unset}
 use Rattle.choose.proofs.Climbing.{Climbing, at-first, up, top}
 use Rattle.choose.proofs.climb.Statement.{statement}
@@ -27,15 +26,18 @@ abbrev μ-loop : tie.MeasureT-loop
 start-requires : tie.Need-start-requires Inv-loop μ-loop
 start-requires c κs = search needs
 
+over-requires : tie.Need-over-requires Inv-loop μ-loop
+over-requires c κs = search needs
+
 frames-of-requires : tie.Need-frames-of-requires Inv-loop μ-loop
 frames-of-requires c κs = search needs
 
 loop-holds : tie.Need-loop-holds Inv-loop μ-loop
-unfolding unset vectorIs unscored lengthOf dotOf sqrtOf add mul ofBits
-loop-holds c = at-first _ _ _ _ _ _ (rw (c .before .start .ensures) refl)
+unfolding unset unscored lengthOf dotOf sqrtOf add mul ofBits
+loop-holds c = at-first _ _ _ _ _ _ (rw (c .before .before .start .ensures, c .before .over .ensures) refl)
 
 next-within-requires : tie.Need-next-within-requires Inv-loop μ-loop
-next-within-requires c κs = (c .before .before .before .before .before .before .before .before .before .pre .0, (c .loop .inv .most, c .before .frames-of .ensures))
+next-within-requires c κs = (c .before .before .before .before .before .before .before .before .before .before .pre .0, (c .loop .inv .most, c .before .frames-of .ensures))
 
 enum-told : tie.Need-enum-told Inv-loop μ-loop
 enum-told c = search needs
@@ -51,13 +53,13 @@ enum-known-j c = search needs
 weigh-contact-requires : tie.Need-weigh-contact-requires Inv-loop μ-loop
 weigh-contact-requires c κs =
     let n = c .before .before .before in
-    let p = n .before .before .before .before .before .before .before .before .before .before .pre in
+    let p = n .before .before .before .before .before .before .before .before .before .before .before .pre in
     (p .0, (next-at _ _ _ (n .next-within .ensures) (c .before .j .given .1) .below, p .1))
 
 add-k : tie.Need-add-k Inv-loop μ-loop
 add-k c =
     let n = c .before .before .before .before in
-    omega (arith, next-at _ _ _ (n .next-within .ensures) (c .before .before .j .given .1) .below, most _ _ (n .before .before .before .before .before .before .before .before .before .before .pre .0))
+    omega (arith, next-at _ _ _ (n .next-within .ensures) (c .before .before .j .given .1) .below, most _ _ (n .before .before .before .before .before .before .before .before .before .before .before .pre .0))
 
 loop-less : tie.Need-loop-less Inv-loop μ-loop
 loop-less c =
@@ -77,6 +79,7 @@ climb-spec =
     Inv-loop
     μ-loop
     start-requires
+    over-requires
     frames-of-requires
     loop-holds
     next-within-requires

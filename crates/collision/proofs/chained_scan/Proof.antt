@@ -10,13 +10,13 @@ slice-aggregate-fill c = search needs
 fill-requires : tie.Need-fill-requires
 fill-requires c κs = search needs
 
-slice-aggregate-scan-by : tie.Need-slice-aggregate-scan-by
-slice-aggregate-scan-by c = search needs
+slice-aggregate-rows-by : tie.Need-slice-aggregate-rows-by
+slice-aggregate-rows-by c = search needs
 
-scan-by-requires : tie.Need-scan-by-requires
-scan-by-requires c κs =
+rows-by-requires : tie.Need-rows-by-requires
+rows-by-requires c κs =
     let f = c .before .before in
-    λ h. record { few = f .before .before .before .before .pre; room = omega (arith, f .fill .kept .1 .1 .0); chains = f .fill .ensures }
+    record { few = f .before .before .before .before .pre; room = omega (arith, f .fill .kept .1 .1 .0); chains = f .fill .ensures }
 
 returns : tie.Need-returns
 returns c = search needs
@@ -24,4 +24,4 @@ returns c = search needs
 pub chained-scan-spec : {M : Type 1} → statement M
 chained-scan-spec =
     tie.close
-    (tie.spec slice-aggregate-fill fill-requires slice-aggregate-scan-by scan-by-requires returns)
+    (tie.spec slice-aggregate-fill fill-requires slice-aggregate-rows-by rows-by-requires returns)

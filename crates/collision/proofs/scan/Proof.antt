@@ -1,5 +1,4 @@
--- `collision::scan` meets its contract: with a table, or an empty one. Assumes nothing.
-use native.Mathlib.Omega.{arith}
+-- `collision::scan` meets its contract: with a table, or each edge tried. Assumes nothing.
 use borrow.Author.Needs.{needs}
 use Rattle.collision.proofs.scan.Statement.{statement}
 use Rattle.collision.proofs.scan.Tie as tie
@@ -10,11 +9,8 @@ is-chained-requires c κs = search needs
 chained-scan-requires : tie.Need-chained-scan-requires
 chained-scan-requires c κs = let h = c .before .is-chained .ensures (c .if1 .taken) in record { edges = h .0; near = h .1 }
 
-slice-aggregate-scan-by : tie.Need-slice-aggregate-scan-by
-slice-aggregate-scan-by c = search needs
-
-scan-by-requires : tie.Need-scan-by-requires
-scan-by-requires c κs = λ h. absurd (omega (arith, h))
+plain-scan-requires : tie.Need-plain-scan-requires
+plain-scan-requires c κs = search needs
 
 returns : tie.Need-returns
 returns c = search needs
@@ -28,7 +24,6 @@ scan-spec =
     (tie.spec
     is-chained-requires
     chained-scan-requires
-    slice-aggregate-scan-by
-    scan-by-requires
+    plain-scan-requires
     returns
     returns-2)

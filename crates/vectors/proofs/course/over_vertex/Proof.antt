@@ -1,10 +1,9 @@
 -- `vectors::course::over_vertex` meets its contract. Assumes nothing.
 use borrow.Author.Needs.{needs}
 use borrow.Author.Tests.{eq-eqb, ne-eqb}
-use mathlib.Core.Path.{refl}
+use mathlib.Core.Path.{refl, _∙_}
 use Rattle.plane.specs.Vector.{distanceOf}
 use Rattle.vectors.specs.Vectors.{edgeVertex}
-use Rattle.vectors.specs.Courses.{vectorIs}
 use Rattle.vectors.proofs.course.over_vertex.Statement.{statement}
 use Rattle.vectors.proofs.course.over_vertex.Tie as tie
 
@@ -14,19 +13,36 @@ opposite-requires c κs = search needs
 minus-requires : tie.Need-minus-requires
 minus-requires c κs = search needs
 
+over-requires : tie.Need-over-requires
+over-requires c κs = search needs
+
 returns : tie.Need-returns
-unfolding vectorIs edgeVertex distanceOf
+unfolding edgeVertex distanceOf
 returns c =
-    let e = c .before .before in
-    rw (eq-eqb _ _ (e .if1 .taken), c .minus .ensures, c .before .opposite .ensures, e .before .pre) refl
+    let m = c .before in
+    let o = m .before in
+    c .over .ensures ∙ rw (eq-eqb _ _ (o .before .if1 .taken), m .minus .ensures, o .opposite .ensures, o .before .before .pre) refl
 
 minus-requires-2 : tie.Need-minus-requires-2
 minus-requires-2 c κs = search needs
 
+over-requires-2 : tie.Need-over-requires-2
+over-requires-2 c κs = search needs
+
 returns-2 : tie.Need-returns-2
-unfolding vectorIs edgeVertex distanceOf
-returns-2 c = rw (ne-eqb _ _ (c .before .if1 .left), c .minus2 .ensures, c .before .before .pre) refl
+unfolding edgeVertex distanceOf
+returns-2 c =
+    let m = c .before in
+    c .over2 .ensures ∙ rw (ne-eqb _ _ (m .before .if1 .left), m .minus2 .ensures, m .before .before .pre) refl
 
 pub over-vertex-spec : {M : Type 1} → statement M
 over-vertex-spec =
-    tie.close (tie.spec opposite-requires minus-requires returns minus-requires-2 returns-2)
+    tie.close
+    (tie.spec
+    opposite-requires
+    minus-requires
+    over-requires
+    returns
+    minus-requires-2
+    over-requires-2
+    returns-2)

@@ -1,8 +1,8 @@
--- `collision::is_nearer` meets its contract: by the new one, by what was found so far, and by their distances. Assumes nothing.
+-- `grounds::is_nearer` meets its contract: by the new one, by what was found so far, and by their distances. Assumes nothing.
 use Rattle.collision.specs.Hit.{nearer}
 use borrow.Author.Needs.{needs}
-use Rattle.collision.proofs.is_nearer.Statement.{statement}
-use Rattle.collision.proofs.is_nearer.Tie as tie
+use Rattle.grounds.proofs.is_nearer.Statement.{statement}
+use Rattle.grounds.proofs.is_nearer.Tie as tie
 
 enum-known-new : tie.Need-enum-known-new
 enum-known-new c = search needs

@@ -1,11 +1,11 @@
--- `collision::first_hit` meets its contract: `proofs/Passed.antt` has the laws. The invariant: the edges below e are missed. Assumes nothing.
+-- `grounds::first_hit` meets its contract: `proofs/Missed.antt` has the laws. The invariant: the edges below e are missed. Assumes nothing.
 use Prim.Native.Nat.{_-_, _≤_}
 use native.Mathlib.Omega.{arith}
 use Rattle.collision.specs.Chained.{MissesTo}
-use Rattle.collision.proofs.Passed.{none-missed, more-missed, one-missed}
+use Rattle.grounds.proofs.Missed.{none-missed, more-missed, one-missed}
 use borrow.Author.Needs.{needs}
-use Rattle.collision.proofs.first_hit.Statement.{statement}
-use Rattle.collision.proofs.first_hit.Tie as tie
+use Rattle.grounds.proofs.first_hit.Statement.{statement}
+use Rattle.grounds.proofs.first_hit.Tie as tie
 
 abbrev Inv-loop : tie.InvT-loop
 Inv-loop origin edges sweep from to e₀ e = (from ≤ e) × (e ≤ to) × MissesTo edges (sweep .dir) (sweep .tolerance) origin from e

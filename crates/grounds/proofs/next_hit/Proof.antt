@@ -1,11 +1,12 @@
--- `collision::next_hit` meets its contract: `proofs/Passed.antt` has the laws. The invariant: the edges below e are missed. Assumes nothing.
+-- `grounds::next_hit` meets its contract: `proofs/Missed.antt` has the laws. The invariant: the edges below e are missed. Assumes nothing.
 use Prim.Native.Nat.{_-_, _≤_}
 use native.Mathlib.Omega.{arith}
 use Rattle.collision.specs.Chained.{MissesTo, Ready}
-use Rattle.collision.proofs.Passed.{none-missed, more-missed, chain-passed}
+use Rattle.collision.proofs.Passed.{chain-passed}
+use Rattle.grounds.proofs.Missed.{none-missed, more-missed}
 use borrow.Author.Needs.{needs}
-use Rattle.collision.proofs.next_hit.Statement.{statement}
-use Rattle.collision.proofs.next_hit.Tie as tie
+use Rattle.grounds.proofs.next_hit.Statement.{statement}
+use Rattle.grounds.proofs.next_hit.Tie as tie
 
 abbrev Inv-loop : tie.InvT-loop
 Inv-loop origin edges table sweep from n e₀ e = (from ≤ e) × (e ≤ n) × MissesTo edges (sweep .dir) (sweep .tolerance) origin from e
