@@ -1,5 +1,6 @@
 //! Each job starts and ends in less than 50 ms on the shop's drawings: of some runs the
-//! fastest, since a busy machine says nothing of the command.
+//! fastest, in a folder in memory where the system has one, since a busy machine and a slow
+//! disc say nothing of the command.
 
 use std::fs;
 use std::path::Path;
@@ -37,7 +38,9 @@ fn fastest(job: &str, folder: &Path) -> Duration {
 
 #[test]
 fn every_job_takes_less_than_50_ms() {
-    let folder = Path::new(env!("CARGO_TARGET_TMPDIR")).join("times");
+    let memory = Path::new("/dev/shm").join(format!("byr-times-{}", std::process::id()));
+    let made = fs::create_dir(&memory).is_ok();
+    let folder = if made { memory } else { Path::new(env!("CARGO_TARGET_TMPDIR")).join("times") };
     let _ = fs::remove_dir_all(&folder);
     fs::create_dir_all(&folder).expect("a folder");
     let shop = Path::new(env!("CARGO_MANIFEST_DIR")).join("shop");
@@ -49,8 +52,9 @@ fn every_job_takes_less_than_50_ms() {
     let new = "inspect path.txt --per-shift 5 --state places.state --new".split(' ');
     let byr = Command::new(env!("CARGO_BIN_EXE_byr")).args(new).current_dir(&folder).output();
     assert!(byr.expect("run").status.success());
-    for job in JOBS {
-        let took = fastest(job, &folder);
+    let times = JOBS.map(|job| (job, fastest(job, &folder)));
+    fs::remove_dir_all(&folder).expect("taken away");
+    for (job, took) in times {
         assert!(took < Duration::from_millis(50), "{job}: {took:?}");
     }
 }
