@@ -77,7 +77,7 @@ fn outlines(a: &[Point], b: &[Point], [one, other]: [&str; 2]) -> String {
     }
     let unlike = unlike(a, b);
     let apart = |&(i, j): &(usize, usize)| distance(a[i], b[j]);
-    let most = plain::at_most(unlike.iter().map(apart).fold(0.0, f64::max));
+    let most = plain::size(unlike.iter().map(apart).fold(0.0, f64::max));
     let count = plain::corners(unlike.len());
     let verb = if unlike.len() == 1 { "differs" } else { "differ" };
     let pair = |&(i, j): &(usize, usize)| {
@@ -89,7 +89,7 @@ fn outlines(a: &[Point], b: &[Point], [one, other]: [&str; 2]) -> String {
         0 => String::new(),
         more => format!(", and {more} more"),
     };
-    format!("{count} of {} {verb}, at most by {most}: {}{more}", a.len(), pairs.join(", "))
+    format!("{count} of {} {verb}, at most by about {most}: {}{more}", a.len(), pairs.join(", "))
 }
 
 /// How many pairs of corners that differ are told.

@@ -276,7 +276,7 @@ pub fn clear_told(walk: &Walk) -> String {
 pub fn blocked_told(walk: &Walk, edge: bool) -> String {
     let grid = walk.grid.told();
     match (edge, walk.convex) {
-        (true, false) => "not known: the disc is not convex, and ".into(),
+        (true, false) => format!("not known: on the grid of {grid} the disc is not convex, and "),
         (true, true) => format!(
             "not clear on the grid of {grid}, by a search whose completeness is tested and not \
              proved: "

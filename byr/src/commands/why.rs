@@ -95,7 +95,7 @@ impl Why {
         let kept =
             |line: &&str| !line.starts_with("  edge ") && !line.starts_with("of each, from p");
         let line =
-            |line: &str| line.replace("and these lines tell why", "and the lines below tell why");
+            |line: &str| line.replace("the reason is in these lines", "the reason is below");
         self.words().lines().filter(kept).map(|kept| line(kept) + "\n").collect()
     }
 
@@ -216,7 +216,7 @@ impl Why {
 
 /// The verdict of a line, without the lines that it announces.
 fn shortened(line: &str) -> &str {
-    line.split(", and these lines").next().unwrap_or(line)
+    line.split("; the reason is").next().unwrap_or(line)
 }
 
 impl Truth {
@@ -275,7 +275,7 @@ impl Question {
                 let line = |(at, line): (usize, &Line)| format!("  edge {at}: {line}\n");
                 let lines: String = reason.lines.iter().enumerate().map(line).collect();
                 format!(
-                    "in truth: {}, and these lines tell why\n\
+                    "in truth: {}; the reason is in these lines\n\
                      of each, from p to q, the disc's way lies left or on it, the edge right or on \
                      it (p.x p.y q.x q.y in units):\n{lines}",
                     clear_told(walk)
