@@ -7,12 +7,14 @@ use byrlygent::whole::{Line, Point};
 pub struct ByHand<'a> {
     /// The unit of the grid.
     pub unit: f64,
+    /// Whether all was on it already.
+    pub exact: bool,
     /// The line of each edge of the carrier.
     pub lines: &'a [Line],
     /// The carrier's corners.
     pub carrier: &'a [Point],
     /// The disc's corners at the start of the move.
-    pub start: &'a [Point],
+    pub start: Vec<Point>,
     /// The same at its end.
     pub end: Vec<Point>,
 }
@@ -65,10 +67,15 @@ impl ByHand<'_> {
                  up through the lowest height of the disc's corners, {low}, from it or below to \
                  above it, as go down through it. Here {ups} come up and {downs} go down."
             ),
-            "If all this is so, at no time of the move does a point of an edge lie inside the \
-             disc, and at every time each point inside the disc is outside the carrier: that is \
-             proved, whoever made the lines."
-                .to_string(),
+            format!(
+                "If all this is so, at no time of the move does a point of an edge lie inside the \
+                 disc, and at every time each point inside the disc is outside the carrier: that \
+                 is proved, whoever made the lines, of these numbers. {}",
+                match self.exact {
+                    true => "They are the drawing's own.",
+                    false => "They are not the drawing's: of the drawing nothing is proved.",
+                }
+            ),
         ]
     }
 
@@ -77,7 +84,7 @@ impl ByHand<'_> {
         [
             ("The lines, p.x p.y q.x q.y, by edge", numbered(self.lines, Line::to_string)),
             ("The carrier's corners: edge 0 leads from 0 to 1", corners(self.carrier)),
-            ("The disc's corners at the start", corners(self.start)),
+            ("The disc's corners at the start", corners(&self.start)),
             ("The disc's corners at the end", corners(&self.end)),
         ]
     }

@@ -65,13 +65,20 @@ impl Grid {
         Fault::new(format!("on the grid of {unit} the coordinate {x} is past {MOST} units: {what}"))
     }
 
-    /// That the disc has no inside on the grid.
-    fn too_flat(self) -> Fault {
+    /// That a ring has no inside on the grid.
+    pub fn too_flat(self, ring: &str) -> Fault {
         let what = match self.fitted {
-            true => "it is a line or a point, or too small for coordinates so large",
-            false => "give a smaller --unit, or a disc that is more than a line",
+            true => "it is a line or a point, or too small for coordinates so large".to_string(),
+            false => format!("give a smaller --unit, or a {ring} that is more than a line"),
         };
-        Fault::new(format!("on the grid of {} the disc has no area: {what}", self.told()))
+        Fault::new(format!("on the grid of {} the {ring} has no area: {what}", self.told()))
+    }
+
+    /// That all these corners are within the bounds of the grid.
+    pub fn holds<'a>(self, spots: impl IntoIterator<Item = &'a whole::Point>) -> Result<()> {
+        let far = |x: &i32| f64::from(x.abs()) > MOST;
+        let far = spots.into_iter().flat_map(|&(x, y)| [x, y]).find(far);
+        far.map_or(Ok(()), |x| Err(self.too_large(self.multiple(f64::from(x)))))
     }
 
     /// The unit.
@@ -92,7 +99,8 @@ impl Grid {
         (self.multiple(f64::from(x)), self.multiple(f64::from(y)))
     }
 
-    /// The nearest multiple to a coordinate, in units, and how far off it is.
+    /// The nearest multiple to a coordinate, in units, and by how much the coordinate is more:
+    /// by nothing where it is the float nearest to the multiple.
     fn nearest(self, x: f64) -> Result<(i32, f64)> {
         let units = match self.in_one {
             Some(in_one) => (x * in_one).round(),
@@ -101,18 +109,28 @@ impl Grid {
         if units.abs() > MOST {
             return Err(self.too_large(x));
         }
-        Ok((units as i32, (x - self.multiple(units)).abs()))
+        Ok((units as i32, x - self.multiple(units)))
     }
 
     /// These points on the grid, and how far each moved.
     pub fn put(self, points: &[Point]) -> Result<OnGrid> {
-        let (mut spots, mut moved) = (Vec::new(), Vec::new());
+        let (mut spots, mut off) = (Vec::new(), Vec::new());
         for &(x, y) in points {
-            let ((x, by_x), (y, by_y)) = (self.nearest(x)?, self.nearest(y)?);
+            let ((x, off_x), (y, off_y)) = (self.nearest(x)?, self.nearest(y)?);
             spots.push((x, y));
-            moved.push(by_x.hypot(by_y));
+            off.push((off_x, off_y));
         }
-        Ok(OnGrid { spots, moved })
+        Ok(OnGrid::of(spots, off))
+    }
+
+    /// A position and the one that lies this much farther on, each put there by itself.
+    pub fn put_move(self, at: Point, by: Point) -> Result<OnGrid> {
+        let put = self.put(&[at, by])?;
+        let ([(x, y), (dx, dy)], [(ox, oy), (px, py)]) = (&put.spots[..], &put.off[..]) else {
+            unreachable!("two points were put there");
+        };
+        let spots = vec![(*x, *y), (x + dx, y + dy)];
+        Ok(OnGrid::of(spots, vec![(*ox, *oy), (ox + px, oy + py)]))
     }
 }
 
@@ -163,11 +181,19 @@ impl Telling {
 pub struct OnGrid {
     /// The points, in units.
     pub spots: Vec<whole::Point>,
+    /// By how much the coordinates of each are more than those on the grid.
+    pub off: Vec<Point>,
     /// How far each moved to get there.
     pub moved: Vec<f64>,
 }
 
 impl OnGrid {
+    /// These, each off by so much.
+    fn of(spots: Vec<whole::Point>, off: Vec<Point>) -> Self {
+        let moved = off.iter().map(|(x, y)| x.hypot(*y)).collect();
+        Self { spots, off, moved }
+    }
+
     /// Whether one of them moved.
     pub fn is_moved(&self) -> bool {
         self.moved.iter().any(|&by| by > 0.0)
@@ -205,18 +231,27 @@ impl OnGrid {
         lines.into_iter().map(|line| line + "\n").collect()
     }
 
-    /// Whether the ring of these points is convex; an error if all lie on a line.
-    pub fn is_convex(&self, grid: Grid) -> Result<bool> {
+    /// Its corners without repeats of the one before.
+    fn mended(&self) -> Vec<whole::Point> {
         let mut ring = self.spots.clone();
         ring.dedup();
         while ring.len() > 1 && ring.first() == ring.last() {
             ring.pop();
         }
+        ring
+    }
+
+    /// Whether all of them lie on a line.
+    pub fn is_flat(&self) -> Result<bool> {
+        let ring = self.mended();
         let off = |spot: &whole::Point| turn(ring[0], ring[1], *spot).map(|turn| turn != 0);
         let off: Vec<bool> = ring.iter().skip(2).map(off).collect::<byrlygent::Result<_>>()?;
-        if !off.contains(&true) {
-            return Err(grid.too_flat());
-        }
+        Ok(!off.contains(&true))
+    }
+
+    /// Whether the ring of these points, which do not all lie on a line, is convex.
+    pub fn is_convex(&self) -> Result<bool> {
+        let ring = self.mended();
         let n = ring.len();
         let turns = (0..n).map(|i| turn(ring[i], ring[(i + 1) % n], ring[(i + 2) % n]));
         let turns: Vec<i32> = turns.collect::<byrlygent::Result<_>>()?;
@@ -257,11 +292,13 @@ mod tests {
 
     #[test]
     fn a_disc_that_crosses_itself_is_not_flat() {
-        let grid = Grid::of(1.0).expect("a unit");
-        let is_convex = |ring: &[(f64, f64)]| grid.put(ring).and_then(|on| on.is_convex(grid));
+        let put = |ring: &[(f64, f64)]| Grid::of(1.0)?.put(ring);
+        let is_convex = |ring: &[(f64, f64)]| put(ring).and_then(|on| on.is_convex());
+        let is_flat = |ring: &[(f64, f64)]| put(ring).and_then(|on| on.is_flat());
         assert_eq!(is_convex(&[(0.0, 0.0), (2.0, 2.0), (2.0, 0.0), (0.0, 2.0)]), Ok(false));
+        assert_eq!(is_flat(&[(0.0, 0.0), (2.0, 2.0), (2.0, 0.0), (0.0, 2.0)]), Ok(false));
         assert_eq!(is_convex(&[(0.0, 0.0), (2.0, 0.0), (2.0, 2.0), (0.0, 2.0)]), Ok(true));
-        assert!(is_convex(&[(0.0, 0.0), (1.0, 1.0), (2.0, 2.0), (1.0, 1.0)]).is_err());
-        assert!(is_convex(&[(1.0, 1.0), (1.0, 1.0), (1.0, 1.0)]).is_err());
+        assert_eq!(is_flat(&[(0.0, 0.0), (1.0, 1.0), (2.0, 2.0), (1.0, 1.0)]), Ok(true));
+        assert_eq!(is_flat(&[(1.0, 1.0), (1.0, 1.0), (1.0, 1.0)]), Ok(true));
     }
 }

@@ -45,6 +45,18 @@ pub fn size(length: f64) -> String {
     format!("{length:.2e}")
 }
 
+/// A length that none is above, told by three digits of it: they are rounded up.
+pub fn at_most(length: f64) -> String {
+    let said = size(length);
+    match said.parse::<f64>() {
+        Ok(read) if read < length => {
+            let last = 10_f64.powf(length.abs().log10().floor() - 2.0);
+            size(length + last)
+        }
+        _ => said,
+    }
+}
+
 /// The points, two numbers a line.
 pub fn lines(points: &[Point]) -> String {
     points.iter().map(|(x, y)| format!("{} {}\n", number(*x), number(*y))).collect()
@@ -52,7 +64,7 @@ pub fn lines(points: &[Point]) -> String {
 
 #[cfg(test)]
 mod tests {
-    use super::{number, size};
+    use super::{at_most, number, size};
 
     #[test]
     fn a_number_reads_back_to_its_bits() {
@@ -74,5 +86,20 @@ mod tests {
         assert_eq!(size(300.0), "300");
         assert_eq!(size(1735.9), "1736");
         assert_eq!(size(1e-20), "1.00e-20");
+    }
+
+    #[test]
+    fn nothing_is_above_what_is_told_at_most() {
+        assert_eq!(at_most(0.0), "0");
+        assert_eq!(at_most(0.5), "0.5");
+        assert_eq!(at_most(0.000_555_4), "0.000556");
+        assert_eq!(at_most(0.000_555_6), "0.000556");
+        assert_eq!(at_most(0.999_1), "1");
+        let mut length = 1e-18;
+        while length < 1e9 {
+            let told: f64 = at_most(length).parse().expect("a number");
+            assert!(length <= told && told <= 1.011 * length, "{length}: {told}");
+            length *= 1.007;
+        }
     }
 }

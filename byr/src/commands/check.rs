@@ -25,9 +25,6 @@ pub fn called(words: &[String]) -> Result<Said> {
     let clear = judged.warning.is_none();
     words += &judged.warning.map_or(String::new(), |warning| format!("{warning}\n"));
     let accepted = fault == First::None;
-    if accepted && !clear {
-        words += "WARNING: the rule accepts a path that is not clear\n";
-    }
     Ok(Said { words, yes: accepted && clear })
 }
 

@@ -54,11 +54,11 @@ pub fn called(words: &[String]) -> Result<Said> {
     report.reason(&asked, carrier, disc)?;
     report.inspection(&asked, &path)?;
     report.refusals();
-    let Report { page: sections, findings } = report;
+    let Report { page: sections, findings, warns } = report;
     let page = page("Outlines, slide and inspection", &[front(&findings, carrier, disc), sections]);
     files::write(out, page.as_bytes())?;
     let lines: String = findings.iter().map(|finding| format!("{finding}\n")).collect();
-    let yes = !findings.iter().any(|finding| finding.contains("WARNING"));
+    let yes = !warns;
     Ok(Said { words: format!("{lines}{out}: the report, {} bytes\n", page.len()), yes })
 }
 
@@ -81,6 +81,8 @@ fn front(findings: &[String], carrier: &str, disc: &str) -> Sections {
 struct Report {
     page: Sections,
     findings: Vec<String>,
+    /// Whether one of them is a warning.
+    warns: bool,
 }
 
 impl Report {
@@ -118,6 +120,7 @@ impl Report {
             return Ok(());
         }
         self.findings.push(format!("WARNING: {carrier} and {other} are not the same outline."));
+        self.warns = true;
         self.outline(other)
     }
 
@@ -148,6 +151,7 @@ impl Report {
         let points: Vec<String> = slide.path().iter().enumerate().map(point).collect();
         self.page.columns(&points.join("\n"));
         self.findings.extend(slide.findings());
+        self.warns |= !slide.warnings.is_empty();
         Ok(slide.path().to_vec())
     }
 
@@ -160,6 +164,7 @@ impl Report {
         self.page.heading("Why is the move clear, or not?");
         self.pictured(&why.words_without_lines(), &why.picture(false));
         self.findings.push(why.finding());
+        self.warns |= why.warns();
         if let Some(hand) = why.by_hand() {
             self.page.smaller_heading("How to check it by hand");
             hand.rules().iter().for_each(|rule| self.page.paragraph(rule));

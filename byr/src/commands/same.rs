@@ -21,7 +21,7 @@ pub fn compared(a: &str, b: &str) -> Result<Said> {
     let mut lines = String::new();
     let mut differ = 0;
     for (at, ((_, left), (_, right))) in a.rings.iter().zip(&b.rings).enumerate() {
-        if let Some(difference) = difference(left, right)? {
+        if let Some(difference) = difference(left, right, [&a.name, &b.name])? {
             differ += 1;
             lines += &format!("ring {at} differs: {difference}\n");
         } else {
@@ -45,8 +45,8 @@ pub fn compared(a: &str, b: &str) -> Result<Said> {
     Ok(Said { words: format!("{verdict}\n{lines}"), yes: differ == 0 })
 }
 
-/// What two rings differ in, if they do: parts count where both files tell one.
-fn difference(a: &Ring, b: &Ring) -> Result<Option<String>> {
+/// What two rings of these files differ in, if they do: parts count where both files tell one.
+fn difference(a: &Ring, b: &Ring, names: [&str; 2]) -> Result<Option<String>> {
     let mut differences = Vec::new();
     if let (Some(a), Some(b)) = (a.part, b.part) {
         if a != b {
@@ -55,7 +55,7 @@ fn difference(a: &Ring, b: &Ring) -> Result<Option<String>> {
     }
     let [left, right] = [least_reading(&a.points)?, least_reading(&b.points)?];
     if left != right {
-        differences.push(outlines(&left, &right));
+        differences.push(outlines(&a.points, &b.points, names));
         if least_reading(&mirror_polygon(&left)?)? == right {
             differences.push("mirrored: the mirror of one about x = 0 is the other".into());
         }
@@ -63,27 +63,62 @@ fn difference(a: &Ring, b: &Ring) -> Result<Option<String>> {
     Ok((!differences.is_empty()).then(|| differences.join("; ")))
 }
 
-/// Where two least readings part, and by how much.
-fn outlines(a: &[Point], b: &[Point]) -> String {
-    let unlike: Vec<usize> = (0..a.len().min(b.len())).filter(|&at| a[at] != b[at]).collect();
-    let counts = match a.len() == b.len() {
-        true => String::new(),
-        false => format!("{} and {}; ", plain::corners(a.len()), b.len()),
-    };
-    let Some(&at) = unlike.first() else {
-        let longer = a.len().min(b.len());
-        return format!("{counts}the least readings part at corner {longer}, which one has not");
-    };
-    let [(ax, ay), (bx, by)] = [a[at], b[at]];
-    let [from, to] = [a[at], b[at]].map(plain::point);
-    let [x, y] = [bx - ax, by - ay].map(plain::size);
-    let first = format!("the least readings part at corner {at}, {from} and {to}, by ({x}, {y})");
+/// Which corners of two outlines differ, each by its number in its own file.
+fn outlines(a: &[Point], b: &[Point], [one, other]: [&str; 2]) -> String {
     if a.len() != b.len() {
-        return format!("{counts}{first}");
+        let counts = format!("{} and {}", plain::corners(a.len()), b.len());
+        let lone = |name: &str, of: &[Point], than: &[Point]| {
+            let lone = of.iter().position(|corner| !than.contains(corner))?;
+            let corner = plain::point(of[lone]);
+            Some(format!("; corner {lone} of {name}, {corner}, is no corner of the other"))
+        };
+        let lone = [lone(one, a, b), lone(other, b, a)];
+        return lone.into_iter().flatten().fold(counts, |told, lone| told + &lone);
     }
-    let apart = |&at: &usize| (a[at].0 - b[at].0).hypot(a[at].1 - b[at].1);
+    let unlike = unlike(a, b);
+    let apart = |&(i, j): &(usize, usize)| distance(a[i], b[j]);
     let most = plain::size(unlike.iter().map(apart).fold(0.0, f64::max));
     let count = plain::corners(unlike.len());
     let verb = if unlike.len() == 1 { "differs" } else { "differ" };
-    format!("{first}; {count} of {} {verb}, at most by {most}", a.len())
+    let pair = |&(i, j): &(usize, usize)| {
+        let [from, to] = [a[i], b[j]].map(plain::point);
+        format!("corner {i} of {one}, {from}, and corner {j} of {other}, {to}")
+    };
+    let pairs: Vec<String> = unlike.iter().take(PAIRS).map(pair).collect();
+    let more = match unlike.len().saturating_sub(PAIRS) {
+        0 => String::new(),
+        more => format!(", and {more} more"),
+    };
+    format!("{count} of {} {verb}, at most by about {most}: {}{more}", a.len(), pairs.join(", "))
+}
+
+/// How many pairs of corners that differ are told.
+const PAIRS: usize = 8;
+
+/// The corners of two outlines of one length that differ, where they are paired so that the
+/// fewest do, from any start and either way round, and of these so that they lie nearest.
+fn unlike(a: &[Point], b: &[Point]) -> Vec<(usize, usize)> {
+    let n = a.len();
+    let pair = |start: usize, back: bool, at: usize| match back {
+        false => (at, (start + at) % n),
+        true => (at, (start + n - at) % n),
+    };
+    let readings = (0..n).flat_map(|start| [(start, false), (start, true)]);
+    let weighed = readings.map(|(start, back)| {
+        let unlike = (0..n).map(|at| pair(start, back, at)).filter(|&(i, j)| a[i] != b[j]);
+        let (mut count, mut most) = (0, 0.0_f64);
+        unlike.for_each(|(i, j)| {
+            count += 1;
+            most = most.max(distance(a[i], b[j]));
+        });
+        (count, most, start, back)
+    });
+    let best = weighed.min_by(|a, b| a.0.cmp(&b.0).then(a.1.total_cmp(&b.1)));
+    let (_, _, start, back) = best.expect("a ring has corners");
+    (0..n).map(|at| pair(start, back, at)).filter(|&(i, j)| a[i] != b[j]).collect()
+}
+
+/// How far two points lie apart.
+fn distance(a: Point, b: Point) -> f64 {
+    (a.0 - b.0).hypot(a.1 - b.1)
 }

@@ -2,7 +2,7 @@
 
 use crate::drawing::{read_ring, Kind};
 use crate::grid::{without_hint, Grid, Telling};
-use crate::legs::{Leg, Walk};
+use crate::legs::Walk;
 use crate::picture::{Captions, Picture};
 use crate::words::{Takes, Words};
 use crate::{files, plain, Result, Said};
@@ -86,8 +86,7 @@ impl Slide {
         if !self.warnings.is_empty() {
             return self.warnings.clone();
         }
-        let but = if self.judged.rounded { " but for the rounding of the grid" } else { "" };
-        vec![format!("The slide comes round, and nothing lies in between{but}.")]
+        vec!["The slide comes round, and nothing lies in between.".to_string()]
     }
 
     /// What is said of it.
@@ -161,8 +160,8 @@ impl Slide {
         let end = if self.is_closed() { "" } else { ", dashed: at the end" };
         let touched = if self.is_closed() { "start" } else { "end" };
         let blocked = match self.judged.blocked {
-            Some((_, Some(_))) => "; thick: the edge in the way, and the leg that leads through",
-            Some((_, None)) => "; thick: the leg that leads through",
+            Some((_, Some(_))) => "; thick: the edge that is told, and its leg",
+            Some((_, None)) => "; thick: the leg that is told",
             None => "",
         };
         format!(
@@ -187,12 +186,10 @@ pub fn settings(words: &Words) -> Result<SlidingNfpConfig> {
 pub struct Judged {
     /// In words.
     pub words: String,
-    /// That a leg leads through the carrier, if one does.
+    /// That a leg leads through the carrier, or that this is not known of the drawing.
     pub warning: Option<String>,
     /// That leg, and the edge in its way if there is one.
     pub blocked: Option<(usize, Option<usize>)>,
-    /// Whether a leg is clear only once it is set off for the rounding.
-    pub rounded: bool,
 }
 
 impl Judged {
@@ -211,7 +208,7 @@ impl Judged {
             (Err(fault), None) => {
                 let words = format!("WARNING: whether the way is clear is not known: {fault}");
                 let words = Some(words);
-                Ok(Self { words: String::new(), warning: words, blocked: None, rounded: false })
+                Ok(Self { words: String::new(), warning: words, blocked: None })
             }
             (judged, _) => judged,
         }
@@ -224,71 +221,75 @@ impl Judged {
         [carrier, disc, path]: [&[Point]; 3],
         closed: bool,
     ) -> Result<Self> {
-        let walk = Walk {
-            grid,
-            carrier: grid.put(carrier)?,
-            disc: grid.put(disc)?,
-            path: grid.put(path)?,
-        };
-        let convex = walk.disc.is_convex(grid)?;
-        let mut words = on_grid(grid, &walk, Telling::asked(asked));
-        if !convex {
-            words += "there the disc is not convex, and its hull is asked about: clear holds, not \
-                      clear proves nothing\n";
-        }
+        let walk = Walk::on(grid, grid.put(carrier)?, grid.put(disc)?, grid.put(path)?)?;
+        let words = on_grid(&walk, Telling::asked(asked));
         let legs = walk.legs(closed)?;
-        let rounded = legs.iter().any(|leg| matches!(leg, Leg::Aside(_)));
-        let mut judged = Self { words, warning: None, blocked: None, rounded };
-        let leads = if convex { "leads" } else { "may lead" };
-        judged.tell(grid, carrier, path.len(), &legs, leads);
+        let mut judged = Self { words, warning: None, blocked: None };
+        judged.tell(&walk, carrier, &legs);
         Ok(judged)
     }
 
     /// Puts what comes of the legs into words.
-    fn tell(&mut self, grid: Grid, carrier: &[Point], n: usize, legs: &[Leg], leads: &str) {
-        let asides = legs.iter().filter_map(|leg| match leg {
-            Leg::Aside((x, y)) => Some(f64::from(*x).hypot(f64::from(*y)) * grid.unit()),
-            _ => None,
-        });
-        let (aside, farthest) = (asides.clone().count(), asides.fold(0.0, f64::max));
-        let (at, ground) = match legs.last() {
-            Some(Leg::Blocked(ground)) => (legs.len() - 1, ground),
+    fn tell(&mut self, walk: &Walk, carrier: &[Point], legs: &[Ground]) {
+        let n = walk.path.spots.len();
+        let (at, edge) = match legs.last() {
+            Some(Ground::Edge(edge)) => (legs.len() - 1, Some(*edge)),
+            Some(Ground::Enclosed) => (legs.len() - 1, None),
             _ => {
                 let count = plain::count(legs.len(), "leg", "legs");
-                self.words += &format!("on it nothing lies in between on any of {count}");
-                self.words += &match aside {
-                    0 => "\n".to_string(),
-                    _ => format!(
-                        "; {aside} of them {} clear once set off by {} at most, for the rounding\n",
-                        if aside == 1 { "is" } else { "are" },
-                        plain::size(farthest)
-                    ),
-                };
+                let words = format!("{count}, each {}", clear_told(walk));
+                match walk.is_exact() {
+                    true => self.words += &format!("{words}\n"),
+                    false => self.warning = Some(format!("WARNING: {words}")),
+                }
                 return;
             }
         };
         let next = (at + 1) % n;
-        let edge = match ground {
-            Ground::Edge(edge) => Some(*edge),
-            _ => None,
-        };
         let in_way = match edge {
-            Some(edge) => edge_told(carrier, edge),
+            Some(edge) => edge_told(carrier, edge, walk.convex),
             None => "the disc lies within the carrier".to_string(),
         };
-        let unit = grid.told();
         self.warning = Some(format!(
-            "WARNING: the leg from point {at} to point {next} {leads} through the carrier on the \
-             grid of {unit}: {in_way}"
+            "WARNING: the leg from point {at} to point {next} is {}{in_way}",
+            blocked_told(walk, edge.is_some())
         ));
         self.blocked = Some((at, edge));
     }
 }
 
-/// An edge in the way, by its ends.
-pub fn edge_told(carrier: &[Point], edge: usize) -> String {
+/// That a way is clear on the grid, and what that says of the drawing.
+pub fn clear_told(walk: &Walk) -> String {
+    match walk.is_exact() {
+        true => "clear: nothing lies in between".into(),
+        false => format!(
+            "clear on the grid of {}, to which corners moved by up to {}: nothing is proved of the \
+             drawing",
+            walk.grid.told(),
+            plain::at_most(walk.farthest())
+        ),
+    }
+}
+
+/// What it means that the search parts an edge from the way by no line, or that the way is
+/// enclosed: the words before what is in the way.
+pub fn blocked_told(walk: &Walk, edge: bool) -> String {
+    let grid = walk.grid.told();
+    match (edge, walk.convex) {
+        (true, false) => format!("not known: on the grid of {grid} the disc is not convex, and "),
+        (true, true) => format!(
+            "not clear on the grid of {grid}, by a search whose completeness is tested and not \
+             proved: "
+        ),
+        (false, _) => format!("not clear on the grid of {grid}: "),
+    }
+}
+
+/// An edge in the way, by its ends: of the disc, or of its hull alone.
+pub fn edge_told(carrier: &[Point], edge: usize, convex: bool) -> String {
     let [a, b] = [carrier[edge], carrier[(edge + 1) % carrier.len()]].map(plain::point);
-    format!("edge {edge} of the carrier, from {a} to {b}, is in the way")
+    let whose = if convex { "" } else { " of its hull" };
+    format!("edge {edge} of the carrier, from {a} to {b}, is in the way{whose}")
 }
 
 /// The carrier's corners, and the disc's at every position.
@@ -298,10 +299,10 @@ fn places(carrier: &[Point], disc: &[Point], path: &[Point]) -> Vec<Point> {
 }
 
 /// What is said of the grid, and how far all moved to get there.
-fn on_grid(grid: Grid, walk: &Walk, telling: Telling) -> String {
-    let unit = grid.told();
+fn on_grid(walk: &Walk, telling: Telling) -> String {
+    let unit = walk.grid.told();
     if walk.is_exact() {
-        return format!("all corners and points are on the grid of {unit} already: none moved\n");
+        return format!("all corners and points are decimals on the grid of {unit}: none moved\n");
     }
     let each = telling.told(&[
         ("carrier's corners", &walk.carrier, true),

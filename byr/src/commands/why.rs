@@ -1,16 +1,16 @@
 //! Why is a move clear, or not?
 
-use super::slide::{edge_told, moved};
+use super::slide::{blocked_told, clear_told, edge_told, moved};
 use crate::by_hand::ByHand;
 use crate::drawing::read_ring;
-use crate::grid::{without_hint, Grid, OnGrid, Telling};
-use crate::legs::{asides, placed};
+use crate::grid::{without_hint, Grid, Telling};
+use crate::legs::Walk;
 use crate::picture::{Captions, Picture};
 use crate::words::{Takes, Words};
 use crate::{files, plain, Result, Said};
 use byrlygent::nfp_sliding::{explain_collision, CollisionEvent, ContactType, Explanation, Ground};
-use byrlygent::whole::{clear_move, Line, Move};
-use byrlygent::{whole, Point};
+use byrlygent::whole::{Line, Move};
+use byrlygent::Point;
 
 const TAKES: Takes =
     Takes { command: "why", valued: &["at", "by", "unit", "svg", "tolerance"], flags: &["moved"] };
@@ -22,15 +22,10 @@ struct Question {
     by: Point,
 }
 
-/// The true answer, on a grid, with the carrier, the disc at the start and the move there.
+/// What is so on a grid: the move there, as a leg between two positions, and what comes of it.
 struct Truth {
-    grid: Grid,
-    carrier: Vec<whole::Point>,
-    start: Vec<whole::Point>,
-    by: whole::Point,
+    walk: Walk,
     answer: Move,
-    /// Whether the disc is set off for the rounding.
-    aside: bool,
     words: String,
 }
 
@@ -64,7 +59,7 @@ impl Why {
         let question = Question { carrier, start: moved(disc, at), by };
         let tolerance = asked.number_or("tolerance", 1e-6)?;
         let rule = explain_collision(&question.carrier, &question.start, by, tolerance)?;
-        let truth = question.truth(asked)?;
+        let truth = question.truth(asked, disc, at)?;
         Ok(Self { question, at, rule, truth })
     }
 
@@ -73,9 +68,14 @@ impl Why {
         !matches!(self.rule.ground, Ground::Hit { .. })
     }
 
-    /// Whether both say clear.
+    /// Whether both say clear, and it is known of the drawing.
     pub fn is_clear(&self) -> bool {
-        self.is_clear_by_rule() && matches!(self.truth.answer, Move::Clear(_))
+        self.is_clear_by_rule() && self.truth.is_clear()
+    }
+
+    /// Whether there is something that nobody may miss.
+    pub fn warns(&self) -> bool {
+        !self.is_clear()
     }
 
     /// What is said of it.
@@ -84,8 +84,8 @@ impl Why {
         let mut words = format!("the disc as drawn, moved to {at}, goes on by {by}\n");
         words += &format!("by the rule: {}\n", self.ruled());
         words += &self.truth.words;
-        if self.is_clear_by_rule() && !self.is_clear() {
-            words += "WARNING: the rule says clear, and the move is not\n";
+        if self.is_clear_by_rule() && self.truth.is_blocked() {
+            words += "WARNING: the rule says clear, and on the grid the move is not\n";
         }
         words
     }
@@ -95,7 +95,7 @@ impl Why {
         let kept =
             |line: &&str| !line.starts_with("  edge ") && !line.starts_with("of each, from p");
         let line =
-            |line: &str| line.replace("and these lines tell why", "and the lines below tell why");
+            |line: &str| line.replace("the reason is in these lines", "the reason is below");
         self.words().lines().filter(kept).map(|kept| line(kept) + "\n").collect()
     }
 
@@ -113,18 +113,35 @@ impl Why {
                 };
                 format!("not clear: {pair} after {distance}; {others} ({counts})")
             }
-            clear => format!("clear by ground {}: {clear} ({counts})", clear.number()),
+            clear => format!(
+                "clear by ground {}: {clear} ({counts}); what touches or overlaps already the rule \
+                 does not count",
+                clear.number()
+            ),
         }
     }
 
     /// What was found, in a sentence.
     pub fn finding(&self) -> String {
         let [at, by] = [self.at, self.question.by].map(plain::point);
-        let verdict = match (self.is_clear_by_rule(), self.is_clear()) {
-            (_, true) if self.truth.aside => "is clear but for the rounding of the grid",
-            (_, true) => "is clear: nothing lies in between",
-            (true, false) => "is clear by the rule, and in truth it is not: WARNING",
-            (false, _) => "is not clear: WARNING",
+        let (rule, grid) = (self.is_clear_by_rule(), self.truth.walk.grid.told());
+        let verdict = match &self.truth.answer {
+            Move::Clear(_) if self.truth.is_clear() && rule => {
+                "is clear: nothing lies in between".to_string()
+            }
+            Move::Clear(_) if self.truth.is_clear() => {
+                "is clear: nothing lies in between; the rule says that it is not: WARNING".into()
+            }
+            Move::Clear(_) => format!(
+                "is clear on the grid of {grid} alone: nothing is proved of the drawing: WARNING"
+            ),
+            _ if !self.truth.is_blocked() => {
+                "is not known to be clear: the disc is not convex: WARNING".into()
+            }
+            _ if rule => {
+                format!("is clear by the rule, and on the grid of {grid} it is not: WARNING")
+            }
+            _ => format!("is not clear on the grid of {grid}: WARNING"),
         };
         format!("The move by {by} from {at} {verdict}.")
     }
@@ -133,11 +150,12 @@ impl Why {
     pub fn by_hand(&self) -> Option<ByHand<'_>> {
         match &self.truth.answer {
             Move::Clear(reason) => Some(ByHand {
-                unit: self.truth.grid.unit(),
+                unit: self.truth.walk.grid.unit(),
+                exact: self.truth.walk.is_exact(),
                 lines: &reason.lines,
-                carrier: &self.truth.carrier,
-                start: &self.truth.start,
-                end: placed(&self.truth.start, self.truth.by),
+                carrier: &self.truth.walk.carrier.spots,
+                start: self.truth.walk.placed(0),
+                end: self.truth.walk.placed(1),
             }),
             _ => None,
         }
@@ -145,8 +163,7 @@ impl Why {
 
     /// What is said of it but for the lines and how far each corner moved to the grid.
     fn captions(&self) -> Vec<String> {
-        let begins =
-            ["by the rule", "on the grid", "all corners", "for the", "in truth", "WARNING"];
+        let begins = ["by the rule", "on the grid", "all corners", "there", "in truth", "WARNING"];
         let told = |line: &&str| begins.iter().any(|begins| line.starts_with(begins));
         self.words().lines().filter(told).map(|line| without_hint(shortened(line))).collect()
     }
@@ -155,7 +172,8 @@ impl Why {
     fn legend(&self) -> String {
         let truth = match self.truth.answer {
             Move::Clear(_) => "; thin dashes: the parting lines",
-            Move::Edge(_) => "; thick: the edge in the way",
+            Move::Edge(_) if self.truth.walk.convex => "; thick: the edge in the way",
+            Move::Edge(_) => "; thick: the edge in the way of the disc's hull",
             Move::Enclosed => "",
         };
         let hit =
@@ -198,10 +216,25 @@ impl Why {
 
 /// The verdict of a line, without the lines that it announces.
 fn shortened(line: &str) -> &str {
-    line.split(", and these lines").next().unwrap_or(line)
+    line.split("; the reason is").next().unwrap_or(line)
 }
 
 impl Truth {
+    /// Whether nothing lies in between, in the drawing itself.
+    fn is_clear(&self) -> bool {
+        matches!(self.answer, Move::Clear(_)) && self.walk.is_exact()
+    }
+
+    /// Whether something is in the way on the grid: of a hull that is not the disc's own
+    /// outline an edge in the way says nothing.
+    fn is_blocked(&self) -> bool {
+        match self.answer {
+            Move::Clear(_) => false,
+            Move::Edge(_) => self.walk.convex,
+            Move::Enclosed => true,
+        }
+    }
+
     /// The lines of the reason as they lie in the plane, no two alike.
     fn lines(&self) -> impl Iterator<Item = (Point, Point)> + '_ {
         let mut lines: Vec<Line> = Vec::new();
@@ -212,7 +245,8 @@ impl Truth {
                 }
             });
         }
-        lines.into_iter().map(|line| (self.grid.in_plane(line.p), self.grid.in_plane(line.q)))
+        let grid = self.walk.grid;
+        lines.into_iter().map(move |line| (grid.in_plane(line.p), grid.in_plane(line.q)))
     }
 }
 
@@ -222,53 +256,39 @@ impl Question {
         moved(&self.start, self.by)
     }
 
-    /// The true answer on the grid that is asked for, or the finest that fits.
-    fn truth(&self, asked: &Words) -> Result<Truth> {
+    /// What is so on the grid that is asked for, or the finest that fits.
+    fn truth(&self, asked: &Words, disc: &[Point], at: Point) -> Result<Truth> {
         let unit = asked.value("unit").map(|_| asked.number("unit")).transpose()?;
-        let all = [&self.carrier[..], &self.start, &self.end(), &[self.by]].concat();
+        let all = [&self.carrier[..], &self.start, &self.end(), disc, &[at, self.by]].concat();
         let grid = Grid::of_or_fitting(unit, &all)?;
-        let [carrier, start, by] =
-            [&self.carrier[..], &self.start, &[self.by]].map(|of| grid.put(of));
-        let (carrier, start, by) = (carrier?, start?, by?);
-        let mut words = put_told(grid, &carrier, &start, &by, Telling::asked(asked));
-        if !start.is_convex(grid)? {
-            words += "there the disc is not convex, and its hull is asked about: clear holds, not \
-                      clear proves nothing\n";
-        }
-        let asides = asides(grid, &[&carrier, &start, &by]);
-        let (carrier, mut start, by) = (carrier.spots, start.spots, by.spots[0]);
-        let mut answer = clear_move(&carrier, &start, by)?;
-        let mut aside = None;
-        if !matches!(answer, Move::Clear(_)) {
-            aside = set_off(asides, &carrier, &start, by);
-        }
-        if let Some((off, reason)) = &aside {
-            start = placed(&start, *off);
-            answer = reason.clone();
-            let far = plain::size(f64::from(off.0).hypot(f64::from(off.1)) * grid.unit());
-            let units = format!("{} {} units", off.0, off.1);
-            words += &format!("for the rounding the disc is set off by {units}, {far}\n");
-        }
-        words += &self.answered(&answer);
-        Ok(Truth { grid, carrier, start, by, answer, aside: aside.is_some(), words })
+        let (carrier, disc) = (grid.put(&self.carrier)?, grid.put(disc)?);
+        let walk = Walk::on(grid, carrier, disc, grid.put_move(at, self.by)?)?;
+        let answer = walk.leg(0)?;
+        let words = put_told(&walk, Telling::asked(asked)) + &self.answered(&walk, &answer);
+        Ok(Truth { walk, answer, words })
     }
 
-    /// The true answer in words, with every line of its reason.
-    fn answered(&self, answer: &Move) -> String {
+    /// What is so, in words, with every line of its reason.
+    fn answered(&self, walk: &Walk, answer: &Move) -> String {
         match answer {
             Move::Clear(reason) => {
                 let line = |(at, line): (usize, &Line)| format!("  edge {at}: {line}\n");
                 let lines: String = reason.lines.iter().enumerate().map(line).collect();
                 format!(
-                    "in truth: clear: nothing lies in between, and these lines tell why\n\
+                    "in truth: {}; the reason is in these lines\n\
                      of each, from p to q, the disc's way lies left or on it, the edge right or on \
-                     it (p.x p.y q.x q.y in units):\n{lines}"
+                     it (p.x p.y q.x q.y in units):\n{lines}",
+                    clear_told(walk)
                 )
             }
             Move::Edge(edge) => {
-                format!("in truth: not clear: {}\n", edge_told(&self.carrier, *edge))
+                let edge = edge_told(&self.carrier, *edge, walk.convex);
+                format!("in truth: {}{edge}\n", blocked_told(walk, true))
             }
-            Move::Enclosed => "in truth: not clear: the disc lies within the carrier\n".into(),
+            Move::Enclosed => {
+                let enclosed = "the disc lies within the carrier";
+                format!("in truth: {}{enclosed}\n", blocked_told(walk, false))
+            }
         }
     }
 
@@ -304,38 +324,29 @@ impl Question {
     }
 }
 
-/// The nearest way aside from which a move is clear, with that answer.
-fn set_off(
-    asides: Vec<whole::Point>,
-    carrier: &[whole::Point],
-    start: &[whole::Point],
-    by: whole::Point,
-) -> Option<(whole::Point, Move)> {
-    let clear = |off: whole::Point| match clear_move(carrier, &placed(start, off), by) {
-        Ok(answer @ Move::Clear(_)) => Some((off, answer)),
-        _ => None,
-    };
-    asides.into_iter().find_map(clear)
+/// What is said of the grid.
+fn put_told(walk: &Walk, telling: Telling) -> String {
+    let unit = walk.grid.told();
+    if walk.is_exact() {
+        return format!("all corners are decimals on the grid of {unit}: none moved\n");
+    }
+    let each = telling
+        .told(&[("carrier's corners", &walk.carrier, true), ("disc's corners", &walk.disc, true)]);
+    format!(
+        "on the grid of {unit}: carrier, {}; disc, {}; the start {}, the end {}{each}",
+        walk.carrier.told("corner", "corners"),
+        walk.disc.told("corner", "corners"),
+        kept_told(walk.path.moved[0]),
+        kept_told(walk.path.moved[1]),
+    )
 }
 
-/// What is said of the grid.
-fn put_told(grid: Grid, carrier: &OnGrid, start: &OnGrid, by: &OnGrid, telling: Telling) -> String {
-    let unit = grid.told();
-    if !(carrier.is_moved() || start.is_moved() || by.is_moved()) {
-        return format!("all corners are on the grid of {unit} already: none moved\n");
+/// How far a position moved.
+fn kept_told(by: f64) -> String {
+    match by > 0.0 {
+        true => format!("is off by {}", plain::at_most(by)),
+        false => "is kept".into(),
     }
-    let each =
-        telling.told(&[("carrier's corners", carrier, true), ("disc's corners", start, true)]);
-    format!(
-        "on the grid of {unit}: carrier, {}; disc, {}; the move {}{each}",
-        carrier.told("corner", "corners"),
-        start.told("corner", "corners"),
-        if by.is_moved() {
-            format!("is off by {}", plain::size(by.moved[0]))
-        } else {
-            "is kept".into()
-        },
-    )
 }
 
 /// The mean of a ring's corners.
