@@ -62,7 +62,7 @@ impl<'a> Rest<'a> {
     fn missing<T>(&self, expected: &str) -> Result<T, Wrong> {
         match self.text.chars().next() {
             Some(other) => self.wrong(format!("{expected} is expected where '{other}' stands")),
-            None => self.wrong(format!("{expected} is expected where the text ends")),
+            None => self.wrong(format!("{expected} is expected where the text ends: add it")),
         }
     }
 
@@ -117,7 +117,9 @@ fn opening(rest: &mut Rest) -> Result<(), Wrong> {
     }
     if !with("") {
         let word = shortened(word);
-        return rest.wrong(format!("\"{word}\" is not known: POLYGON is, or two numbers a line"));
+        return rest.wrong(format!(
+            "\"{word}\" is not known: POLYGON is, or two numbers a line and no heading above them"
+        ));
     }
     match rest.word() {
         "" => {}
