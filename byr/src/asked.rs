@@ -5,6 +5,7 @@ use crate::grid::Grid;
 use crate::jobs::Job;
 use crate::nearest::close;
 use crate::shelf::file_of;
+use crate::text::is_shown;
 use crate::{Fault, Result};
 use byrlygent::nfp_sliding::SlidingNfpConfig;
 use byrlygent::Point;
@@ -194,6 +195,12 @@ impl Asked {
     /// The point of an option, or the origin.
     pub fn point_or_origin(&self, name: &str) -> Result<Point> {
         self.value(name).map_or(Ok((0.0, 0.0)), |value| self.pair(name, value))
+    }
+
+    /// Whether the numbers of an option, if it is given, were read without rounding.
+    pub fn is_shown(&self, name: &str) -> bool {
+        let number = |word: &str| word.trim().parse().is_ok_and(|read| is_shown(word.trim(), read));
+        self.value(name).is_none_or(|value| value.split(',').all(number))
     }
 
     /// Two numbers with a comma between.

@@ -1,6 +1,6 @@
 //! Drawings: files read by what is in them, and written as their name asks for.
 
-use crate::text::{self, Wrong};
+use crate::text::{self, Outlines, Wrong};
 use crate::{foreign, plain, wkt, Result};
 use byrlygent::outline_book::{read_book, write_book};
 use byrlygent::wkb::{read_wkb, write_wkb};
@@ -74,6 +74,30 @@ pub struct Ring {
     pub part: Option<u32>,
     /// Whether the file had its first corner once more at the end.
     pub opened: bool,
+    /// What its numbers are.
+    pub numbers: Numbers,
+}
+
+/// What the numbers of a drawing are, of which floats are kept.
+#[derive(Debug, Clone, Copy, PartialEq, Eq)]
+pub enum Numbers {
+    /// The decimals that the floats are shown as: those of a text.
+    Decimals,
+    /// The floats themselves: those of a binary file, and what is computed.
+    Floats,
+    /// Decimals of which one was rounded as it was read.
+    Rounded,
+}
+
+impl Numbers {
+    /// Those of a text, of which none or some were rounded as they were read.
+    pub fn of_text(shown: bool) -> Self {
+        if shown {
+            Self::Decimals
+        } else {
+            Self::Rounded
+        }
+    }
 }
 
 /// A file of rings.
@@ -91,7 +115,7 @@ pub struct Drawing {
 /// its line.
 enum Held {
     Rings(Kind, Vec<Ring>),
-    Points(Kind, Vec<Vec<(usize, Point)>>),
+    Points(Kind, Outlines),
 }
 
 /// What is found in a file, or what is wrong with it and what to do.
@@ -106,7 +130,9 @@ pub fn rings(bytes: &[u8]) -> Found<(Kind, Vec<Ring>)> {
         Held::Rings(kind, rings) => (kind, rings),
         Held::Points(kind, all) => {
             let ring = if kind == Kind::Text { text_ring } else { closed_ring };
-            (kind, all.into_iter().map(ring).collect::<Found<_>>()?)
+            let numbers = Numbers::of_text(all.shown);
+            let ring = |points| Ok(Ring { numbers, ..ring(points)? });
+            (kind, all.points.into_iter().map(ring).collect::<Found<_>>()?)
         }
     })
 }
@@ -116,11 +142,11 @@ pub fn rings_as_drawn(bytes: &[u8]) -> Found<(Kind, Vec<Ring>)> {
     let as_drawn = |points: Vec<(usize, Point)>| {
         bounded(&points)?;
         let points = points.into_iter().map(|(_, point)| point).collect();
-        Ok(Ring { points, part: None, opened: false })
+        Ok(Ring { points, part: None, opened: false, numbers: Numbers::Floats })
     };
     match held(bytes)? {
         Held::Points(Kind::Text, all) => {
-            Ok((Kind::Text, all.into_iter().map(as_drawn).collect::<Found<_>>()?))
+            Ok((Kind::Text, all.points.into_iter().map(as_drawn).collect::<Found<_>>()?))
         }
         _ => rings(bytes),
     }
@@ -133,29 +159,30 @@ pub fn kind_of(bytes: &[u8]) -> Option<Kind> {
     }
 }
 
-/// The path that these bytes hold, and whether a closing repeat was left off.
-pub fn path(bytes: &[u8]) -> Found<(Vec<Point>, bool)> {
-    let (mut points, mut opened) = match held(bytes)? {
+/// The path that these bytes hold, opened where its first point stood once more at the end.
+pub fn path(bytes: &[u8]) -> Found<Ring> {
+    let mut path = match held(bytes)? {
         Held::Points(Kind::Text, all) => {
-            let points = || all.iter().flatten();
+            let points = || all.points.iter().flatten();
             let far = points().find(|(_, (x, y))| !x.is_finite() || !y.is_finite());
             if let Some((line, _)) = far {
                 return Err(format!("line {line}: the position is not finite"));
             }
-            (points().map(|(_, point)| *point).collect::<Vec<Point>>(), false)
+            let points = points().map(|(_, point)| *point).collect();
+            Ring { points, part: None, opened: false, numbers: Numbers::of_text(all.shown) }
         }
         _ => match &rings(bytes)?.1[..] {
-            [ring] => (ring.points.clone(), ring.opened),
+            [ring] => ring.clone(),
             all => return Err(format!("has {} rings: a path is one of them, #0 on", all.len())),
         },
     };
-    if points.len() > 3 && points.first() == points.last() {
-        points.pop();
-        opened = true;
+    if path.points.len() > 3 && path.points.first() == path.points.last() {
+        path.points.pop();
+        path.opened = true;
     }
-    match PATH.contains(&points.len()) {
-        true => Ok((points, opened)),
-        false => Err(format!("has {} points: a path may have 1 to 10001", points.len())),
+    match PATH.contains(&path.points.len()) {
+        true => Ok(path),
+        false => Err(format!("has {} points: a path may have 1 to 10001", path.points.len())),
     }
 }
 
@@ -178,7 +205,7 @@ fn held(bytes: &[u8]) -> Found<Held> {
     };
     let wkb = match read_wkb(bytes) {
         Ok(points) => {
-            let ring = Ring { points, part: None, opened: true };
+            let ring = Ring { points, part: None, opened: true, numbers: Numbers::Floats };
             return Ok(Held::Rings(Kind::Wkb, vec![ring]));
         }
         Err(refusal) => refusal,
@@ -194,7 +221,7 @@ fn held(bytes: &[u8]) -> Found<Held> {
 
 /// A ring of a book.
 fn of_book((part, points): (u32, Vec<Point>)) -> Ring {
-    Ring { points, part: Some(part), opened: false }
+    Ring { points, part: Some(part), opened: false, numbers: Numbers::Floats }
 }
 
 /// The bytes as text, if they are: no sign in it but blanks and ends of lines is one that
@@ -219,10 +246,10 @@ fn of_text(text: &str) -> Found<Held> {
     let uncommented = text.lines().map(|line| line.split('#').next().unwrap_or_default().trim());
     let first = uncommented.into_iter().find(|line| !line.is_empty()).unwrap_or_default();
     if first.starts_with(|c: char| c.is_alphabetic()) {
-        return Ok(Held::Points(Kind::Wkt, vec![wkt::points(text).map_err(at)?]));
+        return Ok(Held::Points(Kind::Wkt, wkt::outlines(text).map_err(at)?));
     }
     let outlines = text::outlines(text).map_err(at)?;
-    match outlines.is_empty() {
+    match outlines.points.is_empty() {
         true => Err("has no point: look where it came from".into()),
         false => Ok(Held::Points(Kind::Text, outlines)),
     }
@@ -306,7 +333,8 @@ fn text_ring(mut points: Vec<(usize, Point)>) -> Found<Ring> {
             plain::corners(points.len())
         ));
     }
-    Ok(Ring { points: points.into_iter().map(|(_, point)| point).collect(), part: None, opened })
+    let points = points.into_iter().map(|(_, point)| point).collect();
+    Ok(Ring { points, part: None, opened, numbers: Numbers::Floats })
 }
 
 /// The ring of a well-known text, which must be closed.
@@ -326,7 +354,7 @@ fn closed_ring(mut points: Vec<(usize, Point)>) -> Found<Ring> {
     }
     points.pop();
     let points = points.into_iter().map(|(_, point)| point).collect();
-    Ok(Ring { points, part: None, opened: true })
+    Ok(Ring { points, part: None, opened: true, numbers: Numbers::Floats })
 }
 
 /// That all coordinates are in bounds.

@@ -1,6 +1,7 @@
 //! The grid on which the true answer is asked: coordinates as whole multiples of a unit, which
 //! is 1 or a part of it, and how far points moved to get there.
 
+use crate::drawing::{Numbers, Ring};
 use crate::{plain, Fault, Result};
 use byrlygent::whole::{is_simple_polygon, turn};
 use byrlygent::{whole, Point};
@@ -89,37 +90,62 @@ impl Grid {
         (self.multiple(f64::from(x)), self.multiple(f64::from(y)))
     }
 
-    /// The nearest multiple to a coordinate, in units, and by how much the coordinate is more:
-    /// by nothing where it is the float nearest to the multiple.
-    fn nearest(self, x: f64) -> Result<(i32, f64)> {
-        let units = (x * self.in_one).round();
-        match units.abs() <= MOST {
-            true => Ok((units as i32, x - self.multiple(units))),
-            false => Err(self.too_large(x)),
-        }
+    /// Whether its multiples are decimals of six digits behind the point at most, so that a float
+    /// is shown as one of them exactly where it is the nearest to it.
+    fn is_decimal(self) -> bool {
+        1_000_000_u32.is_multiple_of(self.in_one as u32)
     }
 
-    /// These points on the grid, and how far each moved.
-    pub fn put(self, points: &[Point]) -> Result<OnGrid> {
+    /// The nearest multiple to a coordinate, in units, and by how much the coordinate is more. A
+    /// decimal is on a grid of decimals exactly where its float is shown as one of them; else the
+    /// float's exact value counts.
+    fn nearest(self, x: f64, numbers: Numbers) -> Result<(i32, f64)> {
+        let units = (x * self.in_one).round();
+        if units.abs() > MOST {
+            return Err(self.too_large(x));
+        }
+        let off = match numbers == Numbers::Decimals && self.is_decimal() {
+            true => x - self.multiple(units),
+            false => x.mul_add(self.in_one, -units) / self.in_one,
+        };
+        Ok((units as i32, off))
+    }
+
+    /// These points, whose numbers are such, on the grid, and how far each moved.
+    pub fn put(self, points: &[Point], numbers: Numbers) -> Result<OnGrid> {
         let (mut spots, mut off) = (Vec::new(), Vec::new());
         for &(x, y) in points {
-            let ((x, off_x), (y, off_y)) = (self.nearest(x)?, self.nearest(y)?);
+            let ((x, off_x), (y, off_y)) = (self.nearest(x, numbers)?, self.nearest(y, numbers)?);
             spots.push((x, y));
             off.push((off_x, off_y));
         }
-        Ok(OnGrid { spots, off })
+        let most = points.iter().flat_map(|&(x, y)| [x.abs(), y.abs()]).fold(0.0, f64::max);
+        // A decimal is off the float that it was rounded to by less than the next one is.
+        let rounded = if numbers == Numbers::Rounded { most.next_up() - most } else { 0.0 };
+        Ok(OnGrid { spots, off, rounded })
+    }
+
+    /// A ring on the grid.
+    pub fn put_ring(self, ring: &Ring) -> Result<OnGrid> {
+        self.put(&ring.points, ring.numbers)
     }
 
     /// A position and the one that lies this much farther on, each put there by itself.
-    pub fn put_move(self, at: Point, by: Point) -> Result<OnGrid> {
-        let [at, by] = [self.put(&[at])?, self.put(&[by])?];
+    pub fn put_move(self, at: Point, by: Point, numbers: Numbers) -> Result<OnGrid> {
+        let [at, by] = [self.put(&[at], numbers)?, self.put(&[by], numbers)?];
         let ((x, y), (dx, dy)) = (at.spots[0], by.spots[0]);
         let ((off_x, off_y), (more_x, more_y)) = (at.off[0], by.off[0]);
         Ok(OnGrid {
             spots: vec![(x, y), (x + dx, y + dy)],
             off: vec![(off_x, off_y), (off_x + more_x, off_y + more_y)],
+            rounded: at.rounded + by.rounded,
         })
     }
+}
+
+/// How far off a point is at most by this much, each coordinate rounded by so much.
+pub fn at_most((x, y): Point, rounded: f64) -> f64 {
+    (x.abs() + rounded).hypot(y.abs() + rounded)
 }
 
 /// Points on a grid.
@@ -129,17 +155,19 @@ pub struct OnGrid {
     pub spots: Vec<whole::Point>,
     /// By how much the coordinates of each are more than those on the grid.
     pub off: Vec<Point>,
+    /// How far a coordinate was off at most from what was read.
+    pub rounded: f64,
 }
 
 impl OnGrid {
-    /// How far each moved.
+    /// How far each moved at most.
     pub fn moved(&self) -> impl Iterator<Item = f64> + '_ {
-        self.off.iter().map(|(x, y)| x.hypot(*y))
+        self.off.iter().map(|&off| at_most(off, self.rounded))
     }
 
     /// Whether one of them moved.
     pub fn is_moved(&self) -> bool {
-        self.off.iter().any(|&off| off != (0.0, 0.0))
+        self.rounded > 0.0 || self.off.iter().any(|&off| off != (0.0, 0.0))
     }
 
     /// The farthest that one of them moved.
@@ -178,22 +206,37 @@ impl OnGrid {
 
 #[cfg(test)]
 mod tests {
-    use super::Grid;
+    use super::{Grid, Numbers};
 
     #[test]
     fn decimals_lie_on_their_grid() {
         let grid = Grid::of(0.001).expect("a unit");
-        let put = grid.put(&[(0.3, -1.5), (12.0, 3.517)]).expect("in bounds");
+        let put = grid.put(&[(0.3, -1.5), (12.0, 3.517)], Numbers::Decimals).expect("in bounds");
         assert_eq!(put.spots, [(300, -1500), (12_000, 3517)]);
         assert!(!put.is_moved());
-        assert!(grid.put(&[(0.0004, 0.0)]).expect("in bounds").is_moved());
-        assert!(grid.put(&[(1000.001, 0.0)]).is_err());
+        assert!(grid.put(&[(0.0004, 0.0)], Numbers::Decimals).expect("in bounds").is_moved());
+        assert!(grid.put(&[(1000.001, 0.0)], Numbers::Decimals).is_err());
+    }
+
+    #[test]
+    fn a_float_is_not_the_decimal_that_it_is_shown_as() {
+        let is_moved = |unit: f64, x: f64, numbers: Numbers| {
+            let put = Grid::of(unit).and_then(|grid| grid.put(&[(x, 0.0)], numbers));
+            put.expect("in bounds").is_moved()
+        };
+        assert!(is_moved(0.1, 0.3, Numbers::Floats));
+        assert!(!is_moved(0.1, 0.3, Numbers::Decimals));
+        assert!(!is_moved(0.1, 0.5, Numbers::Floats));
+        assert!(is_moved(0.1, 0.5, Numbers::Rounded));
+        assert!(is_moved(0.1, 0.0, Numbers::Rounded));
+        assert!(is_moved(1.0 / 3.0, 1.0 / 3.0, Numbers::Decimals));
+        assert!(!is_moved(1.0 / 3.0, 2.0, Numbers::Decimals));
     }
 
     #[test]
     fn no_float_is_added_to_another() {
         let grid = Grid::of(0.1).expect("a unit");
-        let put = grid.put_move((0.1, 1e-20), (0.2, 0.0)).expect("in bounds");
+        let put = grid.put_move((0.1, 1e-20), (0.2, 0.0), Numbers::Decimals).expect("in bounds");
         assert_eq!(put.spots, [(1, 0), (3, 0)]);
         assert_eq!(put.off, [(0.0, 1e-20), (0.0, 1e-20)]);
     }
@@ -220,7 +263,7 @@ mod tests {
 
     #[test]
     fn a_disc_that_crosses_itself_is_not_flat() {
-        let put = |ring: &[(f64, f64)]| Grid::of(1.0)?.put(ring);
+        let put = |ring: &[(f64, f64)]| Grid::of(1.0)?.put(ring, Numbers::Floats);
         let is_convex = |ring: &[(f64, f64)]| put(ring).and_then(|on| on.is_convex());
         let is_flat = |ring: &[(f64, f64)]| put(ring).and_then(|on| on.is_flat());
         assert_eq!(is_convex(&[(0.0, 0.0), (2.0, 2.0), (2.0, 0.0), (0.0, 2.0)]), Ok(false));

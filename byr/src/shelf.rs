@@ -3,7 +3,6 @@
 
 use crate::drawing::{self, Drawing, Ring};
 use crate::{files, plain, text, Fault, Result};
-use byrlygent::Point;
 use std::collections::BTreeMap;
 use std::path::Path;
 
@@ -74,13 +73,8 @@ impl Shelf {
         Ok(Drawing { name: name.to_string(), kind, rings })
     }
 
-    /// The corners of the one ring of a file.
-    pub fn ring(&mut self, name: &str) -> Result<Vec<Point>> {
-        Ok(self.one_ring(name)?.points)
-    }
-
     /// The one ring of a file.
-    fn one_ring(&mut self, name: &str) -> Result<Ring> {
+    pub fn ring(&mut self, name: &str) -> Result<Ring> {
         let mut drawing = self.drawing(name)?;
         if drawing.rings.len() > 1 {
             let last = drawing.rings.len() - 1;
@@ -90,11 +84,11 @@ impl Shelf {
         Ok(drawing.rings.remove(0).1)
     }
 
-    /// The points of a path, and whether a closing repeat was left off.
-    pub fn path(&mut self, name: &str) -> Result<(Vec<Point>, bool)> {
+    /// The path in a file, opened where its first point stood once more at the end.
+    pub fn path(&mut self, name: &str) -> Result<Ring> {
         let (file, wanted) = asked(name)?;
         if wanted.is_some() {
-            return self.one_ring(name).map(|ring| (ring.points, ring.opened));
+            return self.ring(name);
         }
         drawing::path(self.bytes(file)?).map_err(|words| Fault::of(file, words))
     }

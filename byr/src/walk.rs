@@ -2,7 +2,7 @@
 //! leg. What is found is a fact about the grid, and about the drawing where nothing moved to
 //! get there.
 
-use crate::grid::{Grid, OnGrid};
+use crate::grid::{at_most, Grid, OnGrid};
 use crate::Result;
 use byrlygent::whole::{clear_move, Ground, Move, Point};
 
@@ -75,8 +75,9 @@ impl Walk {
 
     /// The farthest that a corner moved to get to the grid, of the disc's at every position.
     fn farthest(&self) -> f64 {
+        let rounded = self.disc.rounded + self.path.rounded;
         let at = |&(x, y): &(f64, f64)| {
-            self.disc.off.iter().map(move |off| (off.0 + x).hypot(off.1 + y))
+            self.disc.off.iter().map(move |off| at_most((off.0 + x, off.1 + y), rounded))
         };
         self.path.off.iter().flat_map(at).fold(self.carrier.farthest(), f64::max)
     }

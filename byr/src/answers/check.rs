@@ -1,6 +1,7 @@
 //! A path that another program traced: its first fault by the rule, and what is so of its legs.
 
 use super::legs::Legs;
+use crate::drawing::Ring;
 use crate::grid::Grid;
 use crate::Result;
 use byrlygent::nfp_sliding::{check_path, Fault as First, SlidingNfpConfig};
@@ -23,19 +24,20 @@ pub struct Check {
 impl Check {
     /// What comes of a path; a grid that is asked for must fit.
     pub fn of(
-        carrier: Vec<Point>,
-        disc: &[Point],
-        (path, opened): (Vec<Point>, bool),
+        carrier: &Ring,
+        disc: &Ring,
+        path: Ring,
         settings: &SlidingNfpConfig,
         grid: Option<Grid>,
     ) -> Result<Self> {
-        let fault = check_path(&carrier, disc, settings, &path)?;
-        let legs = Legs::of(grid, &carrier, disc, &path, true);
+        let fault = check_path(&carrier.points, &disc.points, settings, &path.points)?;
+        let legs = Legs::of(grid, [carrier, disc, &path], true);
         let legs = match grid {
             Some(_) => Ok(legs?),
             None => legs,
         };
-        Ok(Self { carrier, path, opened, fault, legs })
+        let carrier = carrier.points.clone();
+        Ok(Self { carrier, path: path.points, opened: path.opened, fault, legs })
     }
 
     /// Whether the rule accepts it, and it is known of the drawing that nothing lies in between.

@@ -1,5 +1,6 @@
 //! The legs of a path, each asked whether nothing lies in between.
 
+use crate::drawing::Ring;
 use crate::grid::Grid;
 use crate::walk::{Verdict, Walk};
 use crate::Result;
@@ -19,16 +20,12 @@ pub struct Legs {
 impl Legs {
     /// The legs on the grid that is asked for, or the finest that fits, the one from the last
     /// point to the first too where the path is closed.
-    pub fn of(
-        grid: Option<Grid>,
-        carrier: &[Point],
-        disc: &[Point],
-        path: &[Point],
-        closed: bool,
-    ) -> Result<Self> {
-        let grid = grid.unwrap_or_else(|| Grid::fitting(&places(carrier, disc, path)));
-        let walk = Walk::on(grid, grid.put(carrier)?, grid.put(disc)?, grid.put(path)?)?;
-        let legs = if closed { path.len() } else { path.len() - 1 };
+    pub fn of(grid: Option<Grid>, [carrier, disc, path]: [&Ring; 3], closed: bool) -> Result<Self> {
+        let all = || places(&carrier.points, &disc.points, &path.points);
+        let grid = grid.unwrap_or_else(|| Grid::fitting(&all()));
+        let [on, moved, positions] = [carrier, disc, path].map(|ring| grid.put_ring(ring));
+        let walk = Walk::on(grid, on?, moved?, positions?)?;
+        let legs = if closed { path.points.len() } else { path.points.len() - 1 };
         let mut found = Ground::Clear;
         let mut asked = 0;
         while asked < legs && found == Ground::Clear {

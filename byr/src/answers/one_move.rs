@@ -1,6 +1,7 @@
 //! Is a move clear? What the rule says, and what is so.
 
 use super::moved;
+use crate::drawing::{Numbers, Ring};
 use crate::grid::Grid;
 use crate::walk::{Verdict, Walk};
 use crate::Result;
@@ -26,6 +27,16 @@ pub struct OneMove {
     found: Move,
 }
 
+/// A way that is asked about.
+pub struct Way {
+    /// How far the disc as drawn is moved before.
+    pub at: Point,
+    /// How far it goes on.
+    pub by: Point,
+    /// What the numbers of both are.
+    pub numbers: Numbers,
+}
+
 /// A line of a reason, with the edges that it parts from the way.
 pub struct Parting {
     /// The line.
@@ -37,20 +48,21 @@ pub struct Parting {
 impl OneMove {
     /// What comes of a move of the disc, moved to a position before, past the carrier.
     pub fn of(
-        carrier: Vec<Point>,
-        disc: &[Point],
-        (at, by): (Point, Point),
+        carrier: &Ring,
+        disc: &Ring,
+        Way { at, by, numbers }: Way,
         tolerance: f64,
         grid: Option<Grid>,
     ) -> Result<Self> {
-        let start = moved(disc, at);
-        let rule = explain_collision(&carrier, &start, by, tolerance)?;
-        let all = || [&carrier[..], disc, &start, &moved(&start, by), &[at, by]].concat();
+        let (stays, start) = (carrier.points.clone(), moved(&disc.points, at));
+        let rule = explain_collision(&stays, &start, by, tolerance)?;
+        let end = moved(&start, by);
+        let all = || [&stays[..], &disc.points, &start, &end, &[at, by]].concat();
         let grid = grid.unwrap_or_else(|| Grid::fitting(&all()));
-        let path = grid.put_move(at, by)?;
-        let walk = Walk::on(grid, grid.put(&carrier)?, grid.put(disc)?, path)?;
+        let path = grid.put_move(at, by, numbers)?;
+        let walk = Walk::on(grid, grid.put_ring(carrier)?, grid.put_ring(disc)?, path)?;
         let found = walk.leg(0)?;
-        Ok(Self { carrier, start, at, by, rule, walk, found })
+        Ok(Self { carrier: stays, start, at, by, rule, walk, found })
     }
 
     /// Whether the rule says clear.

@@ -1,6 +1,7 @@
 //! A disc slid round its carrier by the given rule, and what is so of its legs.
 
 use super::legs::Legs;
+use crate::drawing::{Numbers, Ring};
 use crate::grid::Grid;
 use crate::Result;
 use byrlygent::nfp_sliding::{compute_nfp_sliding, Nfp, SlidingNfpConfig, StopReason};
@@ -26,23 +27,26 @@ impl Slide {
     /// The slide of a disc round its carrier that was traced. A grid that is asked for must fit;
     /// where none is, it may be that nothing is known of the legs.
     pub fn of(
-        carrier: Vec<Point>,
-        disc: Vec<Point>,
+        carrier: &Ring,
+        disc: &Ring,
         settings: SlidingNfpConfig,
         nfp: Nfp,
         grid: Option<Grid>,
     ) -> Result<Self> {
         let closed = nfp.stop == StopReason::Closed;
-        let legs = Legs::of(grid, &carrier, &disc, &nfp.polygons[0], closed);
+        let points = nfp.polygons[0].clone();
+        let path = Ring { points, part: None, opened: false, numbers: Numbers::Floats };
+        let legs = Legs::of(grid, [carrier, disc, &path], closed);
         let legs = match grid {
             Some(_) => Ok(legs?),
             None => legs,
         };
         let stands = nfp.stop == StopReason::Passes && {
             let half = SlidingNfpConfig { max_iterations: settings.max_iterations / 2, ..settings };
-            compute_nfp_sliding(&carrier, &disc, &half)
+            compute_nfp_sliding(&carrier.points, &disc.points, &half)
                 .is_ok_and(|half| half.polygons == nfp.polygons)
         };
+        let (carrier, disc) = (carrier.points.clone(), disc.points.clone());
         Ok(Self { carrier, disc, settings, nfp, legs, stands })
     }
 

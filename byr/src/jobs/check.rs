@@ -26,7 +26,7 @@ fn called(asked: &Asked) -> Result<Told> {
     let [carrier, disc, name] = asked.files(["CARRIER", "DISC", "PATH"])?;
     let mut shelf = Shelf::default();
     let (carrier, disc, path) = (shelf.ring(carrier)?, shelf.ring(disc)?, shelf.path(name)?);
-    let check = Check::of(carrier, &disc, path, &asked.settings()?, asked.grid()?)
+    let check = Check::of(&carrier, &disc, path, &asked.settings()?, asked.grid()?)
         .map_err(|fault| Fault::of(name, fault))?;
     Ok(Told { lines: words::check::told(&check, Telling::asked(asked)), well: check.is_well() })
 }

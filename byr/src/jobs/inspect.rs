@@ -5,6 +5,7 @@
 use super::Job;
 use crate::answers::shift::State;
 use crate::asked::Asked;
+use crate::drawing::Ring;
 use crate::shelf::Shelf;
 use crate::told::{printed, Told};
 use crate::{files, print, words, Fault, Result};
@@ -41,7 +42,7 @@ fn called(asked: &Asked) -> Result<Told> {
     }
     asked.apart(&[name], &[file])?;
     files::kept_at(file)?;
-    let (path, opened) = Shelf::default().path(name)?;
+    let Ring { points: path, opened, .. } = Shelf::default().path(name)?;
     let refused = |refusal: byrlygent::Refusal| asked.fault(refusal.to_string());
     // What is no inspection is told before anything is left beside the state.
     state(asked, file, &path, per_shift)?.next().map_err(refused)?;

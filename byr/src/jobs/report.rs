@@ -5,7 +5,7 @@ use crate::answers::same::Sameness;
 use crate::answers::shift::Plan;
 use crate::answers::slide::Slide;
 use crate::asked::Asked;
-use crate::drawing::Drawing;
+use crate::drawing::{Drawing, Ring};
 use crate::files::{self, Form, Out};
 use crate::page::report::{Report, Shown};
 use crate::shelf::Shelf;
@@ -62,7 +62,7 @@ fn answered(asked: &Asked, carrier: &str, disc: &str) -> Result<Report> {
     let slide = asks_slide(asked).then(|| slide(asked, &rings.0, &rings.1)).transpose()?;
     let path = slide.as_ref().and_then(|slide| slide.as_ref().ok()).map(Slide::path);
     let plan = asked.has("per-shift").then(|| plan(asked, path)).transpose()?;
-    let one_move = || why::one_move(asked, rings.0.clone(), &rings.1);
+    let one_move = || why::one_move(asked, &rings.0, &rings.1);
     let one_move = asked.has("by").then(one_move).transpose()?;
     let drawn = shelf.drawing(carrier)?;
     let same = match asked.value("same") {
@@ -89,10 +89,10 @@ fn shown(drawing: Drawing) -> Result<Shown> {
 }
 
 /// The slide, or why there is none: the trace may be too short.
-fn slide(asked: &Asked, carrier: &[Point], disc: &[Point]) -> Result<Result<Slide>> {
+fn slide(asked: &Asked, carrier: &Ring, disc: &Ring) -> Result<Result<Slide>> {
     let (settings, grid) = (asked.settings()?, asked.grid()?);
-    match compute_nfp_sliding(carrier, disc, &settings) {
-        Ok(nfp) => Ok(Ok(Slide::of(carrier.to_vec(), disc.to_vec(), settings, nfp, grid)?)),
+    match compute_nfp_sliding(&carrier.points, &disc.points, &settings) {
+        Ok(nfp) => Ok(Ok(Slide::of(carrier, disc, settings, nfp, grid)?)),
         Err(short @ Refusal::ShortPath { .. }) => Ok(Err(short.into())),
         Err(refusal) => Err(refusal.into()),
     }

@@ -37,8 +37,8 @@ fn called(asked: &Asked) -> Result<Told> {
     let mut shelf = Shelf::default();
     let (carrier, disc) = (shelf.ring(carrier)?, shelf.ring(disc)?);
     let (settings, grid) = (asked.settings()?, asked.grid()?);
-    let nfp = compute_nfp_sliding(&carrier, &disc, &settings)?;
-    let slide = Slide::of(carrier, disc, settings, nfp, grid)?;
+    let nfp = compute_nfp_sliding(&carrier.points, &disc.points, &settings)?;
+    let slide = Slide::of(&carrier, &disc, settings, nfp, grid)?;
     let mut lines = words::slide::told(&slide, Telling::asked(asked));
     let mut files = Vec::new();
     if let Some(out) = path {

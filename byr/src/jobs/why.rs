@@ -1,8 +1,9 @@
 //! Why is a move clear, or not?
 
 use super::Job;
-use crate::answers::one_move::OneMove;
+use crate::answers::one_move::{OneMove, Way};
 use crate::asked::Asked;
+use crate::drawing::{Numbers, Ring};
 use crate::files::{self, Form};
 use crate::shelf::Shelf;
 use crate::told::{Line, Told};
@@ -32,8 +33,7 @@ fn called(asked: &Asked) -> Result<Told> {
     asked.apart(&[carrier, disc], &svg)?;
     let svg = asked.out("svg", Form::Picture)?;
     let mut shelf = Shelf::default();
-    let rings = (shelf.ring(carrier)?, shelf.ring(disc)?);
-    let answer = one_move(asked, rings.0, &rings.1)?;
+    let answer = one_move(asked, &shelf.ring(carrier)?, &shelf.ring(disc)?)?;
     let mut lines = words::one_move::told(&answer, Telling::asked(asked), asked.has("lines"));
     if let Some(out) = svg {
         files::write(&out, pictures::one_move::drawn(&answer, &lines, true).as_bytes())?;
@@ -43,7 +43,9 @@ fn called(asked: &Asked) -> Result<Told> {
 }
 
 /// What comes of the move that the words ask for.
-pub fn one_move(asked: &Asked, carrier: Vec<(f64, f64)>, disc: &[(f64, f64)]) -> Result<OneMove> {
-    let way = (asked.point_or_origin("at")?, asked.point("by")?);
+pub fn one_move(asked: &Asked, carrier: &Ring, disc: &Ring) -> Result<OneMove> {
+    let (at, by) = (asked.point_or_origin("at")?, asked.point("by")?);
+    let numbers = Numbers::of_text(asked.is_shown("at") && asked.is_shown("by"));
+    let way = Way { at, by, numbers };
     OneMove::of(carrier, disc, way, asked.number_or("tolerance", 1e-6)?, asked.grid()?)
 }

@@ -64,7 +64,7 @@ pub fn one_move(walk: &Walk, telling: Telling) -> Vec<Line> {
 fn grid(walk: &Walk, all: &str, positions: &str) -> Line {
     let unit = walk.grid.told();
     Line::plain(match walk.is_exact() {
-        true => format!("all {all} are decimals on the grid of {unit}: none moved"),
+        true => format!("all {all} are on the grid of {unit} already: none moved"),
         false => format!(
             "on the grid of {unit}: carrier, {}; disc, {}; {positions}",
             summary(&walk.carrier, "corner", "corners"),
