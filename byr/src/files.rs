@@ -85,9 +85,10 @@ impl Form {
             front.len() >= words.len()
                 && front[..words.len()].eq_ignore_ascii_case(words.as_bytes())
         };
+        let has = |words: &str| bytes.windows(words.len()).any(|part| part == words.as_bytes());
         match self {
             _ if bytes.trim_ascii().is_empty() => true,
-            Self::Picture => begins("<svg") || begins("<?xml"),
+            Self::Picture => begins("<svg") || begins("<?xml") && has("<svg"),
             Self::Page => begins("<!doctype html") || begins("<html"),
             Self::Path => drawing::is_marked_path(bytes),
             Self::Drawing(kind) => {
@@ -125,9 +126,12 @@ impl Out {
                 let words = format!("{called} is called .{ending}, and this is not: name it so");
                 return Err(Fault::of(name, words));
             }
-            if path.exists() && !form.holds(&read(&path.to_string_lossy())?) {
-                let words = format!("is there already, and is not {called}: name another");
-                return Err(Fault::of(name, words));
+            if path.exists() {
+                writable(name, path)?;
+                if !form.holds(&read(&path.to_string_lossy())?) {
+                    let words = format!("is there already, and is not {called}: name another");
+                    return Err(Fault::of(name, words));
+                }
             }
         }
         Ok(Self { name: name.to_string(), form, place })
@@ -156,6 +160,16 @@ impl Out {
             Form::Drawing(kind) => Some(kind),
             _ => None,
         }
+    }
+}
+
+/// That a file which is there may be written: a rename would not ask.
+fn writable(name: &str, path: &Path) -> Result<()> {
+    let wrong = |error: io::Error| Fault::of(name, spoken(&error));
+    let file = OpenOptions::new().write(true).open(path).map_err(wrong)?;
+    match file.metadata().map_err(wrong)?.permissions().readonly() {
+        true => Err(Fault::of(name, "is there already, and is to be read only: name another")),
+        false => Ok(()),
     }
 }
 
@@ -197,12 +211,16 @@ fn is_standard_output(there: &Metadata) -> bool {
         && (own.dev(), own.ino()) == (there.dev(), there.ino())
 }
 
-/// Whether a name leads through the system's folders of open files and devices.
+/// Whether a name is that of a file that is open already, as /dev/fd/3 is.
 fn is_held_open(name: &str) -> bool {
     let mut path = PathBuf::from(name);
     // As many links as a system follows.
     for _ in 0..40 {
-        if path.starts_with("/dev") || path.starts_with("/proc") {
+        let is_standard =
+            ["/dev/stdin", "/dev/stdout", "/dev/stderr"].iter().any(|s| path == Path::new(s));
+        let in_process =
+            path.starts_with("/proc") && path.parent().is_some_and(|of| of.ends_with("fd"));
+        if is_standard || in_process || path.starts_with("/dev/fd") {
             return true;
         }
         let Ok(to) = fs::read_link(&path) else { return false };
@@ -266,7 +284,7 @@ impl Beside {
     fn of(name: &str, place: &Path, bytes: &[u8], process: &str) -> Result<Self> {
         let dot = if process.is_empty() { "" } else { "." };
         let last = place.file_name().unwrap_or_default().to_string_lossy().into_owned();
-        let file = place.with_file_name(format!(".{last}{dot}{process}.new"));
+        let file = place.with_file_name(format!(".{last}{dot}{process}.byr.new"));
         let beside = Self { name: name.to_string(), place: place.to_path_buf(), file };
         beside.written(bytes).map_err(|error| unwritten(name, &error))?;
         Ok(beside)

@@ -1,7 +1,6 @@
 //! Text with two numbers a line, a comma or blanks between; `#` begins a comment, and an empty
 //! line stands between two outlines.
 
-use crate::plain;
 use byrlygent::Point;
 
 /// A fault of a text: the line, from 1 on, and what is wrong there.
@@ -41,28 +40,28 @@ pub fn outlines(text: &str) -> Result<Outlines, Wrong> {
 /// The point of a line, and whether it was read without rounding.
 fn point(line: &str) -> Result<(Point, bool), String> {
     if line.contains(';') {
-        return Err("';' stands between the numbers: write a blank or a comma there".into());
+        return Err(
+            "';' stands in it: write x and y with a blank between, and decimals with a point"
+                .into(),
+        );
     }
     let parts: Vec<&str> = match line.contains(',') {
         true => line.split(',').map(str::trim).collect(),
         false => line.split_whitespace().collect(),
     };
-    let comma = "a decimal comma is not read: write 4.5 for 4,5";
-    if parts.iter().any(|part| part.contains(char::is_whitespace)) {
-        let part = shortened(line);
-        return Err(format!("\"{part}\" is not two numbers, a comma or blanks between: {comma}"));
-    }
     match parts[..] {
-        [a, b] => {
+        [a, b] if ![a, b].iter().any(|part| part.contains(char::is_whitespace)) => {
             let (x, y) = (number(a)?, number(b)?);
             Ok(((x, y), is_shown(a, x) && is_shown(b, y)))
         }
-        [_, _, _] => Err("it has 3 numbers: take the third column away".into()),
-        [_, _, _, _] if line.contains(',') => Err(format!("it has 4 numbers: {comma}")),
-        _ => {
-            let has = plain::count(parts.len(), "number", "numbers");
-            Err(format!("it has {has}: write two, blanks or a comma between"))
+        [a, b, c] if [a, b, c].into_iter().all(|part| number(part).is_ok()) => {
+            Err("it has 3 numbers: write x and y alone, and decimals with a point".into())
         }
+        _ => Err(format!(
+            "\"{}\" is not two numbers: write x and y with blanks or a comma between, and decimals \
+             with a point",
+            shortened(line)
+        )),
     }
 }
 

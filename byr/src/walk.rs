@@ -18,6 +18,8 @@ pub struct Walk {
     pub path: OnGrid,
     /// Whether the disc is convex there, so that it is not only its hull that is asked about.
     pub convex: bool,
+    /// The corners that are asked about: the disc's, or those of its hull.
+    asked: Vec<Point>,
 }
 
 /// What is known of a leg.
@@ -31,7 +33,7 @@ pub enum Verdict {
     InTheWay(usize),
     /// On the grid the way lies within the ring that stays.
     Enclosed,
-    /// On the grid this edge is so of the hull of a disc that is not convex.
+    /// On the grid this edge is so of the way of the hull of a disc that is not convex.
     NotKnown(usize),
 }
 
@@ -65,7 +67,8 @@ impl Walk {
             return Err(grid.too_flat("disc"));
         }
         let convex = disc.is_convex()?;
-        Ok(Self { grid, carrier, disc, path, convex })
+        let asked = if convex { disc.spots.clone() } else { hull(&disc.spots) };
+        Ok(Self { grid, carrier, disc, path, convex, asked })
     }
 
     /// Whether all was on the grid already.
@@ -84,16 +87,16 @@ impl Walk {
 
     /// The disc's corners at a position.
     pub fn placed(&self, at: usize) -> Vec<Point> {
-        let (x, y) = self.path.spots[at];
-        self.disc.spots.iter().map(|spot| (spot.0 + x, spot.1 + y)).collect()
+        moved(&self.disc.spots, self.path.spots[at])
     }
 
-    /// What the library finds of the leg from a position to the next.
+    /// What the library finds of the leg from a position to the next. A reason for the hull's way
+    /// is one for the disc's: its corners lie in the hull.
     pub fn leg(&self, at: usize) -> Result<Move> {
         let next = (at + 1) % self.path.spots.len();
         let (from, to) = (self.path.spots[at], self.path.spots[next]);
-        let start = self.placed(at);
-        self.grid.holds(start.iter().chain(&self.placed(next)))?;
+        let start = moved(&self.asked, from);
+        self.grid.holds(start.iter().chain(&moved(&self.asked, to)))?;
         Ok(clear_move(&self.carrier.spots, &start, (to.0 - from.0, to.1 - from.1))?)
     }
 
@@ -106,5 +109,52 @@ impl Walk {
             Ground::Edge(edge) => Verdict::NotKnown(edge),
             Ground::Enclosed => Verdict::Enclosed,
         }
+    }
+}
+
+/// The corners with this much added.
+fn moved(spots: &[Point], (x, y): Point) -> Vec<Point> {
+    spots.iter().map(|spot| (spot.0 + x, spot.1 + y)).collect()
+}
+
+/// The hull of some corners that do not all lie on a line, counter-clockwise.
+fn hull(spots: &[Point]) -> Vec<Point> {
+    let mut sorted = spots.to_vec();
+    sorted.sort_unstable();
+    sorted.dedup();
+    let half = |spots: &mut dyn Iterator<Item = Point>| {
+        let mut chain: Vec<Point> = Vec::new();
+        for spot in spots {
+            while let [.., a, b] = chain[..] {
+                if turns_left(a, b, spot) {
+                    break;
+                }
+                chain.pop();
+            }
+            chain.push(spot);
+        }
+        chain.pop();
+        chain
+    };
+    let mut ring = half(&mut sorted.iter().copied());
+    ring.extend(half(&mut sorted.iter().rev().copied()));
+    ring
+}
+
+/// Whether three corners turn to the left.
+fn turns_left(a: Point, b: Point, c: Point) -> bool {
+    let [ax, ay, bx, by, cx, cy] = [a.0, a.1, b.0, b.1, c.0, c.1].map(i64::from);
+    (bx - ax) * (cy - ay) > (by - ay) * (cx - ax)
+}
+
+#[cfg(test)]
+mod tests {
+    use super::hull;
+
+    #[test]
+    fn a_hull_has_no_corner_inside_or_on_an_edge() {
+        let ell = [(0, 0), (20, 0), (20, 5), (5, 5), (5, 20), (0, 20), (0, 10)];
+        assert_eq!(hull(&ell), [(0, 0), (20, 0), (20, 5), (5, 20), (0, 20)]);
+        assert_eq!(hull(&[(2, 2), (0, 4), (2, 0), (4, 1)]), [(0, 4), (2, 0), (4, 1)]);
     }
 }

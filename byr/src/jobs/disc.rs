@@ -1,6 +1,7 @@
 //! Makes a disc.
 
 use super::Job;
+use crate::answers::outline::Outline;
 use crate::asked::Asked;
 use crate::drawing::{written, Kind, Numbers, Ring};
 use crate::files::{self, Out};
@@ -43,6 +44,7 @@ fn called(asked: &Asked) -> Result<Told> {
     let large = |_| asked.fault("--part is at most 4294967295");
     let part = part.map(u32::try_from).transpose().map_err(large)?;
     let second = plain::point(points[1]);
+    let together = Outline::of(&points)?.warns();
     let rings = [Ring { points, part, opened: false, numbers: Numbers::Floats }];
     let bytes = written(kind, &rings).map_err(|words| Fault::of(out.name(), words))?;
     files::write(&out, &bytes)?;
@@ -51,5 +53,10 @@ fn called(asked: &Asked) -> Result<Told> {
         format!("a disc of {corners} corners, radius {radius} about {centre}, its second corner at {second}"),
         format!("{}: {kind}, {} bytes", out.name(), bytes.len()),
     ];
-    Ok(Told::of(lines.map(Line::plain).to_vec()))
+    let warning = together.then(|| {
+        Line::warning(
+            "its corners fall together or cross: the radius is too small so far from (0, 0)",
+        )
+    });
+    Ok(Told::of(lines.map(Line::plain).into_iter().chain(warning).collect()))
 }

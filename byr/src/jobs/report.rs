@@ -1,5 +1,6 @@
 //! Writes the auditor's file: what an auditor asks about, in one page that prints.
 
+use super::slide::traced;
 use super::{inspect, show, why, Job};
 use crate::answers::same::Sameness;
 use crate::answers::shift::Plan;
@@ -12,8 +13,7 @@ use crate::shelf::Shelf;
 use crate::told::{Line, Told};
 use crate::words::moved::Telling;
 use crate::Result;
-use byrlygent::nfp_sliding::compute_nfp_sliding;
-use byrlygent::{Point, Refusal};
+use byrlygent::Point;
 
 pub const JOB: Job = Job {
     name: "report",
@@ -26,7 +26,7 @@ pub const JOB: Job = Job {
            every line and how to check it by hand, the inspection plan and what was given out so far,\n\
            versions and refusals. With --by the slide is left out, unless --slide or one of its\n\
            options asks for it. Each corner that moved to the grid is told, with --moved each point\n\
-           of the path too. Status 1: there is a WARNING in it.",
+           of the path too. Status 1: there is a WARNING in it, or the move is not known to be clear.",
     example: "byr report audit.html carrier.wkt disc.wkb --same thursday.txt --at 20,38 --by 10,0",
     valued: &[
         "same", "at", "by", "grid", "per-shift", "state", "tolerance", "passes", "least-move",
@@ -91,10 +91,9 @@ fn shown(drawing: Drawing) -> Result<Shown> {
 /// The slide, or why there is none: the trace may be too short.
 fn slide(asked: &Asked, carrier: &Ring, disc: &Ring) -> Result<Result<Slide>> {
     let (settings, grid) = (asked.settings()?, asked.grid()?);
-    match compute_nfp_sliding(&carrier.points, &disc.points, &settings) {
+    match traced(carrier, disc, &settings)? {
         Ok(nfp) => Ok(Ok(Slide::of(carrier, disc, settings, nfp, grid)?)),
-        Err(short @ Refusal::ShortPath { .. }) => Ok(Err(short.into())),
-        Err(refusal) => Err(refusal.into()),
+        Err(short) => Ok(Err(short)),
     }
 }
 

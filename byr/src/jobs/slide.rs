@@ -3,12 +3,14 @@
 use super::Job;
 use crate::answers::slide::Slide;
 use crate::asked::Asked;
+use crate::drawing::Ring;
 use crate::files::{self, Form};
 use crate::shelf::Shelf;
 use crate::told::{Line, Told};
 use crate::words::moved::Telling;
-use crate::{pictures, plain, words, Result};
-use byrlygent::nfp_sliding::compute_nfp_sliding;
+use crate::{pictures, plain, words, Fault, Result};
+use byrlygent::nfp_sliding::{compute_nfp_sliding, Nfp, SlidingNfpConfig};
+use byrlygent::Refusal;
 
 pub const JOB: Job = Job {
     name: "slide",
@@ -28,6 +30,17 @@ pub const JOB: Job = Job {
     call: called,
 };
 
+/// The trace of a disc round its carrier, or why it is too short to be one.
+pub fn traced(carrier: &Ring, disc: &Ring, settings: &SlidingNfpConfig) -> Result<Result<Nfp>> {
+    match compute_nfp_sliding(&carrier.points, &disc.points, settings) {
+        Ok(nfp) => Ok(Ok(nfp)),
+        Err(Refusal::ShortPath { passes, stop }) => {
+            Ok(Err(Fault::new(words::slide::too_short(passes, stop, settings))))
+        }
+        Err(refusal) => Err(refusal.into()),
+    }
+}
+
 /// Slides the disc that the words name round its carrier.
 fn called(asked: &Asked) -> Result<Told> {
     let [carrier, disc] = asked.files(["CARRIER", "DISC"])?;
@@ -37,8 +50,7 @@ fn called(asked: &Asked) -> Result<Told> {
     let mut shelf = Shelf::default();
     let (carrier, disc) = (shelf.ring(carrier)?, shelf.ring(disc)?);
     let (settings, grid) = (asked.settings()?, asked.grid()?);
-    let nfp = compute_nfp_sliding(&carrier.points, &disc.points, &settings)?;
-    let slide = Slide::of(&carrier, &disc, settings, nfp, grid)?;
+    let slide = Slide::of(&carrier, &disc, settings, traced(&carrier, &disc, &settings)??, grid)?;
     let mut lines = words::slide::told(&slide, Telling::asked(asked));
     let mut files = Vec::new();
     if let Some(out) = path {

@@ -194,8 +194,8 @@ fn inspection(page: &mut Sections, plan: &Plan) {
 fn refusals(page: &mut Sections) {
     page.heading("What is refused, and in what words");
     page.paragraph(
-        "A question that cannot be answered is refused by its number, never answered wrongly. 1, 4 \
-         and 5 speak of lists and rooms that this command always lends whole.",
+        "A question that cannot be answered is refused by its number. 1, 4 and 5 speak of lists and \
+         rooms that this command always lends whole.",
     );
     let row = |refusal: Refusal| vec![refusal.number().to_string(), refusal.to_string()];
     page.table(&["number", "for example"], &examples().map(row));

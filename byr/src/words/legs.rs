@@ -35,7 +35,7 @@ pub fn verdict(walk: &Walk, verdict: Verdict, carrier: &[Point]) -> String {
 pub fn basis(walk: &Walk, verdict: Verdict) -> Option<Line> {
     let of = match walk.is_exact() {
         true => "",
-        false => ", and is said of the grid and not of the drawing",
+        false => "; it is said of the grid and not of the drawing",
     };
     let basis = match verdict {
         Verdict::Clear | Verdict::ClearOnGrid(_) => return None,
@@ -47,7 +47,10 @@ pub fn basis(walk: &Walk, verdict: Verdict) -> Option<Line> {
             "within rests on a count of the edges that the way looks down on, which is tested and \
              not proved"
         }
-        Verdict::NotKnown(_) => "a hull's way that is not clear says nothing of the disc's",
+        Verdict::NotKnown(_) => {
+            "in the way rests on a search whose completeness is tested and not proved, and a hull's \
+             way that is not clear says nothing of the disc's"
+        }
     };
     Some(Line::plain(format!("{basis}{of}")))
 }

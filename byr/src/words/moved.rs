@@ -66,7 +66,7 @@ fn grid(walk: &Walk, all: &str, positions: &str) -> Line {
     Line::plain(match walk.is_exact() {
         true => format!("all {all} are on the grid of {unit} already: none moved"),
         false => format!(
-            "on the grid of {unit}: carrier, {}; disc, {}; {positions}",
+            "on the grid of {unit}: carrier, {}; disc, {}; {positions} (to three digits)",
             summary(&walk.carrier, "corner", "corners"),
             summary(&walk.disc, "corner", "corners"),
         ),

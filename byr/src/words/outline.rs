@@ -14,21 +14,39 @@ pub fn drawing(drawing: &Drawing) -> Line {
 
 /// How a ring is measured.
 pub fn ring(at: usize, ring: &Ring, outline: &Outline) -> Line {
-    let way = match outline.area {
-        area if area > 0.0 => "counter-clockwise",
-        area if area < 0.0 => "clockwise",
-        _ => "neither way round",
-    };
     let part = ring.part.map_or(String::new(), |part| format!(", part {part}"));
     let closed = if ring.opened { ", closed in the file" } else { "" };
     let corners = plain::corners(ring.points.len());
-    let (area, told) = (outline.area.abs(), plain::size(outline.area.abs()));
-    let about = if outline.exact && told.parse() == Ok(area) { "" } else { "about " };
-    Line::plain(format!("ring {at}{part}: {corners}, {way}, area {about}{told}{closed}"))
+    Line::plain(format!("ring {at}{part}: {corners}, {}{closed}", measured(outline)))
+}
+
+/// Which way round an outline goes, and its area: three digits of it, where so many are known.
+fn measured(outline: &Outline) -> String {
+    let Outline { area, off, .. } = *outline;
+    let way = match area {
+        _ if area.abs() <= off && off > 0.0 => {
+            return format!("no area that its digits tell, at most {}", plain::at_most(2.0 * off))
+        }
+        _ if area > 0.0 => "counter-clockwise",
+        _ if area < 0.0 => "clockwise",
+        _ => "neither way round",
+    };
+    let (area, told) = (area.abs(), plain::size(area.abs()));
+    match off {
+        _ if off == 0.0 && told.parse() == Ok(area) => format!("{way}, area {told}"),
+        _ if 2000.0 * off < area => format!("{way}, area about {told}"),
+        _ => format!("{way}, area at most {}", plain::at_most(area + off)),
+    }
 }
 
 /// What is to be mended of a ring, by the file that it is in.
 pub fn warning(which: &str, name: &str, outline: &Outline) -> Option<Line> {
+    if outline.collapsed {
+        return Some(Line::warning(format!(
+            "{which} is a point or a line: fewer than three of its points differ from their \
+             neighbours"
+        )));
+    }
     if outline.repeats > 0 {
         let points = plain::count(outline.repeats, "point", "points");
         let (repeat, drops) = match outline.repeats {
@@ -41,8 +59,8 @@ pub fn warning(which: &str, name: &str, outline: &Outline) -> Option<Line> {
     }
     outline.crosses.then(|| {
         Line::warning(format!(
-            "{which} touches or crosses itself: byr show {name} --svg OUT.svg shows it, and it is \
-             to be drawn anew"
+            "{which} touches or crosses itself, or comes as near as 1e-9: byr show {name} --svg \
+             OUT.svg shows it"
         ))
     })
 }

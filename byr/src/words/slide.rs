@@ -2,14 +2,11 @@
 
 use super::legs::{basis, sentence};
 use super::moved::{self, Telling};
-use crate::answers::slide::Slide;
+use crate::answers::slide::{Slide, MOST_PASSES};
 use crate::drawing::PATH_MARK;
 use crate::plain;
 use crate::told::Line;
-use byrlygent::nfp_sliding::StopReason;
-
-/// The most passes that can be allowed.
-const MOST_PASSES: usize = 10_000;
+use byrlygent::nfp_sliding::{SlidingNfpConfig, StopReason};
 
 /// Whether it comes round and is clear, and behind it what was traced and what moved to the
 /// grid.
@@ -28,7 +25,7 @@ pub fn told(slide: &Slide, telling: Telling) -> Vec<Line> {
 /// Whether it comes round, and what is known of its legs.
 pub fn verdict(slide: &Slide) -> Vec<Line> {
     let known = sentence(&slide.legs, &slide.carrier);
-    if slide.is_closed() {
+    if slide.goes_round {
         return vec![Line::weighed(!slide.is_well(), format!("comes round: {known}"))];
     }
     let clear = slide.legs.as_ref().is_ok_and(|legs| legs.verdict.is_clear());
@@ -45,9 +42,16 @@ fn stopped(slide: &Slide) -> String {
     let place = plain::point(path[last]);
     let limit = slide.settings.max_iterations;
     match slide.nfp.stop {
+        StopReason::Closed => "it ended back at its start, and its path does not lead round the \
+                               carrier: another --tolerance may lead round"
+            .into(),
         StopReason::Passes if slide.stands => format!(
-            "it came to a standstill at point {last}, {place}, from where the second half of its \
-             {limit} passes led no farther: try another --tolerance, or widen what it stands in"
+            "it came to a standstill at point {last}, {place}, and {} lead no farther: try another \
+             --tolerance, or widen what it stands in",
+            match limit < MOST_PASSES {
+                true => "10000 passes",
+                false => "the last 5000 of its passes",
+            }
         ),
         StopReason::Passes => format!(
             "all {limit} passes were used up on the way, at point {last}, {place}: {}",
@@ -72,7 +76,7 @@ fn traced(slide: &Slide) -> Vec<Line> {
     let passes = plain::count(slide.nfp.passes as usize, "pass", "passes");
     let (limit, stop) = (slide.settings.max_iterations, slide.nfp.stop);
     [
-        format!("a disc of {disc}, slid round a carrier of {carrier} by the given rule"),
+        format!("a disc of {disc}, slid along a carrier of {carrier} by the given rule"),
         format!("the path has {points}, from {first} to {last}"),
         format!("{passes} of at most {limit}, ended {stop}"),
     ]
@@ -85,4 +89,16 @@ pub fn path_file(slide: &Slide) -> String {
     let warnings = verdict(slide).into_iter().filter(Line::warns);
     let head: String = warnings.map(|warning| format!("# {warning}\n")).collect();
     format!("{head}{PATH_MARK}\n{}", plain::lines(slide.path()))
+}
+
+/// Why there is no slide: the trace was too short, and what to do about it.
+pub fn too_short(passes: u64, stop: StopReason, settings: &SlidingNfpConfig) -> String {
+    let more = match stop {
+        StopReason::Passes if settings.max_iterations < MOST_PASSES => "more --passes",
+        _ => "another --tolerance or --least-move",
+    };
+    let passes = plain::count(passes as usize, "pass", "passes");
+    format!(
+        "the trace stored fewer than three points in {passes} and ended {stop}: {more} may lead on"
+    )
 }
