@@ -1,13 +1,12 @@
 //! Drawings: files read by what is in them, and written as their name asks for.
 
-use crate::text::{self, Wrong};
-use crate::{files, plain, wkt, Fault, Result};
+use crate::text::{self, Outlines, Wrong};
+use crate::{foreign, plain, wkt, Result};
 use byrlygent::outline_book::{read_book, write_book};
 use byrlygent::wkb::{read_wkb, write_wkb};
 use byrlygent::{Point, Refusal};
 use std::fmt;
 use std::ops::RangeInclusive;
-use std::path::Path;
 
 /// How many corners a ring may have, and how many points a path.
 const CORNERS: RangeInclusive<usize> = 3..=256;
@@ -31,25 +30,38 @@ pub enum Kind {
 
 impl fmt::Display for Kind {
     fn fmt(&self, f: &mut fmt::Formatter<'_>) -> fmt::Result {
-        f.write_str(match self {
-            Self::Book => "a book",
-            Self::Wkb => "well-known binary",
-            Self::Wkt => "well-known text",
-            Self::Text => "text",
-        })
+        f.write_str(self.called())
     }
 }
 
 impl Kind {
-    /// The kind that a file of this name is written as.
-    pub fn named(name: &str) -> Self {
-        let ending = name.rsplit_once('.').map_or("", |(_, ending)| ending);
-        match ending.to_ascii_lowercase().as_str() {
-            "book" => Self::Book,
-            "wkb" => Self::Wkb,
-            "wkt" => Self::Wkt,
-            _ => Self::Text,
+    /// All of them.
+    const ALL: [Self; 4] = [Self::Book, Self::Wkb, Self::Wkt, Self::Text];
+
+    /// What it is called.
+    pub fn called(self) -> &'static str {
+        match self {
+            Self::Book => "a book",
+            Self::Wkb => "well-known binary",
+            Self::Wkt => "well-known text",
+            Self::Text => "text",
         }
+    }
+
+    /// How the name of such a file ends.
+    pub fn ending(self) -> &'static str {
+        match self {
+            Self::Book => "book",
+            Self::Wkb => "wkb",
+            Self::Wkt => "wkt",
+            Self::Text => "txt",
+        }
+    }
+
+    /// The kind that a file of this name is written as, if its end says one.
+    pub fn named(name: &str) -> Option<Self> {
+        let (_, end) = name.rsplit_once('.')?;
+        Self::ALL.into_iter().find(|kind| end.eq_ignore_ascii_case(kind.ending()))
     }
 }
 
@@ -62,6 +74,30 @@ pub struct Ring {
     pub part: Option<u32>,
     /// Whether the file had its first corner once more at the end.
     pub opened: bool,
+    /// What its numbers are.
+    pub numbers: Numbers,
+}
+
+/// What the numbers of a drawing are, of which floats are kept.
+#[derive(Debug, Clone, Copy, PartialEq, Eq)]
+pub enum Numbers {
+    /// The decimals that the floats are shown as: those of a text.
+    Decimals,
+    /// The floats themselves: those of a binary file, and what is computed.
+    Floats,
+    /// Decimals of which one was rounded as it was read.
+    Rounded,
+}
+
+impl Numbers {
+    /// Those of a text, of which none or some were rounded as they were read.
+    pub fn of_text(shown: bool) -> Self {
+        if shown {
+            Self::Decimals
+        } else {
+            Self::Rounded
+        }
+    }
 }
 
 /// A file of rings.
@@ -75,135 +111,91 @@ pub struct Drawing {
     pub rings: Vec<(usize, Ring)>,
 }
 
-/// What is in a file: rings that are open, or the points of a text as they stand, each
-/// with its line.
+/// What is in a file: rings that are open, or the points of outlines as they stand, each with
+/// its line.
 enum Held {
     Rings(Kind, Vec<Ring>),
-    Points(Kind, Vec<(usize, Point)>),
+    Points(Kind, Outlines),
 }
 
-/// The rings of a file, or the one that `#N` behind its name asks for.
-pub fn read(name: &str) -> Result<Drawing> {
-    let (file, wanted) = asked(name)?;
-    let (kind, rings) = rings(&files::read(file)?).map_err(|words| Fault::of(file, words))?;
-    let all = rings.len();
-    let mut rings: Vec<(usize, Ring)> = rings.into_iter().enumerate().collect();
-    if let Some(wanted) = wanted {
-        rings.retain(|(at, _)| *at == wanted);
-        if rings.is_empty() {
-            let has = plain::count(all, "ring", "rings");
-            return Err(Fault::of(file, format!("has {has}, from #0 on, and no ring #{wanted}")));
-        }
-    }
-    Ok(Drawing { name: name.to_string(), kind, rings })
-}
+/// What is found in a file, or what is wrong with it and what to do.
+type Found<T> = std::result::Result<T, String>;
 
-/// The one ring of a file.
-pub fn read_ring(name: &str) -> Result<Ring> {
-    let mut drawing = read(name)?;
-    if drawing.rings.len() > 1 {
-        let words = format!("has {} rings: say which, {name}#0 to ", drawing.rings.len());
-        let last = drawing.rings.len() - 1;
-        return Err(Fault::of(name, format!("{words}{name}#{last}")));
-    }
-    Ok(drawing.rings.remove(0).1)
-}
+/// What finds rings in the bytes of a file.
+pub type Reader = fn(&[u8]) -> Found<(Kind, Vec<Ring>)>;
 
-/// The rings of a file with the repeated points that it has, for mending; of a text the
-/// closing one too.
-pub fn read_as_drawn(name: &str) -> Result<(Kind, Vec<Ring>)> {
-    let (file, wanted) = asked(name)?;
-    if wanted.is_some() {
-        let drawing = read(name)?;
-        return Ok((drawing.kind, drawing.rings.into_iter().map(|(_, ring)| ring).collect()));
-    }
-    let held = held(&files::read(file)?).map_err(|words| Fault::of(file, words))?;
-    Ok(match held {
+/// The rings that these bytes hold, or what is wrong with them and what to do.
+pub fn rings(bytes: &[u8]) -> Found<(Kind, Vec<Ring>)> {
+    Ok(match held(bytes)? {
         Held::Rings(kind, rings) => (kind, rings),
-        Held::Points(Kind::Text, points) => {
-            bounded(&points).map_err(|words| Fault::of(file, words))?;
-            let points = points.into_iter().map(|(_, point)| point).collect();
-            (Kind::Text, vec![Ring { points, part: None, opened: false }])
-        }
-        Held::Points(kind, points) => {
-            let ring = closed_ring(points).map_err(|words| Fault::of(file, words))?;
-            (kind, vec![ring])
+        Held::Points(kind, all) => {
+            let ring = if kind == Kind::Text { text_ring } else { closed_ring };
+            let numbers = Numbers::of_text(all.shown);
+            let ring = |points| Ok(Ring { numbers, ..ring(points)? });
+            (kind, all.points.into_iter().map(ring).collect::<Found<_>>()?)
         }
     })
 }
 
-/// The points of a path, and whether a closing repeat was left off.
-pub fn read_path(name: &str) -> Result<(Vec<Point>, bool)> {
-    let (file, wanted) = asked(name)?;
-    if wanted.is_some() {
-        return read_ring(name).map(|ring| (ring.points, ring.opened));
-    }
-    path(&files::read(file)?).map_err(|words| Fault::of(file, words))
-}
-
-/// The name of a file, and the ring that is asked for behind a `#`; a file that has such
-/// a name itself is taken whole.
-fn asked(name: &str) -> Result<(&str, Option<usize>)> {
-    let there = |file: &str| Path::new(file).exists();
-    match name.rsplit_once('#') {
-        Some((file, ring)) if !file.is_empty() && !there(name) => match ring.parse() {
-            Ok(ring) => Ok((file, Some(ring))),
-            Err(_) if file == "-" || there(file) => {
-                let ring = text::shortened(ring);
-                let words = format!("#{ring} is no ring: rings are counted, {file}#0 on");
-                Err(Fault::of(file, words))
-            }
-            Err(_) => Ok((name, None)),
-        },
-        _ => Ok((name, None)),
-    }
-}
-
-/// The file that a name is of, without the ring that is asked for.
-pub fn file_of(name: &str) -> &str {
-    asked(name).map_or(name, |(file, _)| file)
-}
-
-/// The rings that these bytes hold, or what is wrong with them and what to do.
-pub fn rings(bytes: &[u8]) -> std::result::Result<(Kind, Vec<Ring>), String> {
+/// The same with the repeated points that the file has; of a text the closing one too.
+pub fn rings_as_drawn(bytes: &[u8]) -> Found<(Kind, Vec<Ring>)> {
+    let as_drawn = |points: Vec<(usize, Point)>| {
+        bounded(&points)?;
+        let points = points.into_iter().map(|(_, point)| point).collect();
+        Ok(Ring { points, part: None, opened: false, numbers: Numbers::Floats })
+    };
     match held(bytes)? {
-        Held::Rings(kind, rings) => Ok((kind, rings)),
-        Held::Points(Kind::Text, points) => Ok((Kind::Text, vec![text_ring(points)?])),
-        Held::Points(kind, points) => Ok((kind, vec![closed_ring(points)?])),
+        Held::Points(Kind::Text, all) => {
+            Ok((Kind::Text, all.points.into_iter().map(as_drawn).collect::<Found<_>>()?))
+        }
+        _ => rings(bytes),
     }
 }
 
-/// The path that these bytes hold, and whether a closing repeat was left off.
-pub fn path(bytes: &[u8]) -> std::result::Result<(Vec<Point>, bool), String> {
-    let (mut points, mut opened) = match held(bytes)? {
-        Held::Rings(_, rings) => match &rings[..] {
-            [ring] => (ring.points.clone(), ring.opened),
-            _ => return Err(format!("has {} rings: a path is one of them, #0 on", rings.len())),
-        },
-        Held::Points(Kind::Text, points) => {
-            let far = points.iter().find(|(_, (x, y))| !x.is_finite() || !y.is_finite());
+/// What a file with these bytes holds, if it is a drawing.
+pub fn kind_of(bytes: &[u8]) -> Option<Kind> {
+    match held(bytes).ok()? {
+        Held::Rings(kind, _) | Held::Points(kind, _) => Some(kind),
+    }
+}
+
+/// The path that these bytes hold, opened where its first point stood once more at the end.
+pub fn path(bytes: &[u8]) -> Found<Ring> {
+    let mut path = match held(bytes)? {
+        Held::Points(Kind::Text, all) => {
+            let points = || all.points.iter().flatten();
+            let far = points().find(|(_, (x, y))| !x.is_finite() || !y.is_finite());
             if let Some((line, _)) = far {
                 return Err(format!("line {line}: the position is not finite"));
             }
-            (points.into_iter().map(|(_, point)| point).collect(), false)
+            let points = points().map(|(_, point)| *point).collect();
+            Ring { points, part: None, opened: false, numbers: Numbers::of_text(all.shown) }
         }
-        Held::Points(_, points) => {
-            let ring = closed_ring(points)?;
-            (ring.points, true)
-        }
+        _ => match &rings(bytes)?.1[..] {
+            [ring] => ring.clone(),
+            all => return Err(format!("has {} rings: a path is one of them, #0 on", all.len())),
+        },
     };
-    if points.len() > 3 && points.first() == points.last() {
-        points.pop();
-        opened = true;
+    if path.points.len() > 3 && path.points.first() == path.points.last() {
+        path.points.pop();
+        path.opened = true;
     }
-    match PATH.contains(&points.len()) {
-        true => Ok((points, opened)),
-        false => Err(format!("has {} points: a path may have 1 to 10001", points.len())),
+    match PATH.contains(&path.points.len()) {
+        true => Ok(path),
+        false => Err(format!("has {} points: a path may have 1 to 10001", path.points.len())),
     }
 }
 
+/// The comment by which a path that was written here is told from an outline.
+pub const PATH_MARK: &str = "# the x and y by which the disc, as drawn, is moved";
+
+/// Whether these bytes are a path that was written here.
+pub fn is_marked_path(bytes: &[u8]) -> bool {
+    words(bytes).is_some_and(|text| text.lines().any(|line| line == PATH_MARK))
+}
+
 /// What these bytes hold.
-fn held(bytes: &[u8]) -> std::result::Result<Held, String> {
+fn held(bytes: &[u8]) -> Found<Held> {
     if bytes.is_empty() {
         return Err("is empty: look where it came from".into());
     }
@@ -213,20 +205,23 @@ fn held(bytes: &[u8]) -> std::result::Result<Held, String> {
     };
     let wkb = match read_wkb(bytes) {
         Ok(points) => {
-            let ring = Ring { points, part: None, opened: true };
+            let ring = Ring { points, part: None, opened: true, numbers: Numbers::Floats };
             return Ok(Held::Rings(Kind::Wkb, vec![ring]));
         }
         Err(refusal) => refusal,
     };
+    if let Some(other) = foreign::named(bytes) {
+        return Err(other.into());
+    }
     match words(bytes) {
-        Some(text) => of_text(text).map_err(|(line, words)| format!("line {line}: {words}")),
+        Some(text) => of_text(text),
         None => Err(unlike(bytes, book, wkb)),
     }
 }
 
 /// A ring of a book.
 fn of_book((part, points): (u32, Vec<Point>)) -> Ring {
-    Ring { points, part: Some(part), opened: false }
+    Ring { points, part: Some(part), opened: false, numbers: Numbers::Floats }
 }
 
 /// The bytes as text, if they are: no sign in it but blanks and ends of lines is one that
@@ -238,21 +233,26 @@ fn words(bytes: &[u8]) -> Option<&str> {
 }
 
 /// What a text holds.
-fn of_text(text: &str) -> std::result::Result<Held, Wrong> {
+fn of_text(text: &str) -> Found<Held> {
     let trimmed = text.trim();
     let hex = trimmed.len() >= 26 && trimmed.bytes().all(|byte| byte.is_ascii_hexdigit());
     if hex && (trimmed.starts_with("00") || trimmed.starts_with("01")) {
-        return Err((
-            1,
-            "is well-known binary in hex digits: write it as bytes, by xxd -r -p".into(),
-        ));
+        return Err("is well-known binary in hex digits: write it as bytes, by xxd -r -p".into());
     }
+    if let Some(other) = foreign::named_text(text) {
+        return Err(other.into());
+    }
+    let at = |(line, words): Wrong| format!("line {line}: {words}");
     let uncommented = text.lines().map(|line| line.split('#').next().unwrap_or_default().trim());
     let first = uncommented.into_iter().find(|line| !line.is_empty()).unwrap_or_default();
     if first.starts_with(|c: char| c.is_alphabetic()) {
-        return Ok(Held::Points(Kind::Wkt, wkt::points(text)?));
+        return Ok(Held::Points(Kind::Wkt, wkt::outlines(text).map_err(at)?));
     }
-    Ok(Held::Points(Kind::Text, text::points(text)?))
+    let outlines = text::outlines(text).map_err(at)?;
+    match outlines.points.is_empty() {
+        true => Err("has no point: look where it came from".into()),
+        false => Ok(Held::Points(Kind::Text, outlines)),
+    }
 }
 
 /// What to say of bytes that are nothing known: of what they are most like.
@@ -262,9 +262,6 @@ fn unlike(bytes: &[u8], book: Refusal, wkb: Refusal) -> String {
     }
     if like_wkb(bytes) {
         return wkb.to_string();
-    }
-    if bytes.starts_with(b"\xff\xfe") || bytes.starts_with(b"\xfe\xff") {
-        return "byte 0: is text in UTF-16: save it in UTF-8".into();
     }
     let fault = |refusal: Refusal| match refusal {
         Refusal::Book { place } | Refusal::Wkb { place, .. } => format!("at byte {place}"),
@@ -320,8 +317,9 @@ fn like_wkb(bytes: &[u8]) -> bool {
 }
 
 /// The ring of a text: opened, if its last point repeats the first.
-fn text_ring(mut points: Vec<(usize, Point)>) -> std::result::Result<Ring, String> {
+fn text_ring(mut points: Vec<(usize, Point)>) -> Found<Ring> {
     bounded(&points)?;
+    let line = points.first().map_or(1, |(line, _)| *line);
     // As `open_ring` does it, which takes no ring that has 257 points before it is opened.
     let ends = [points.first(), points.last()].map(|end| end.map(|(_, point)| *point));
     let opened = points.len() > 3 && ends[0] == ends[1];
@@ -329,30 +327,38 @@ fn text_ring(mut points: Vec<(usize, Point)>) -> std::result::Result<Ring, Strin
         points.pop();
     }
     if !CORNERS.contains(&points.len()) {
-        return Err(format!("has {}: a ring may have 3 to 256", plain::corners(points.len())));
-    }
-    Ok(Ring { points: points.into_iter().map(|(_, point)| point).collect(), part: None, opened })
-}
-
-/// The ring of a well-known text, which must be closed.
-fn closed_ring(mut points: Vec<(usize, Point)>) -> std::result::Result<Ring, String> {
-    bounded(&points)?;
-    let has = points.len();
-    if !(4..=257).contains(&has) {
-        return Err(format!("its ring has {has} points, and may have 4 to 257, the last counted"));
-    }
-    let (line, last) = points.pop().expect("there are four");
-    if last != points[0].1 {
         return Err(format!(
-            "line {line}: the last point does not equal the first: close the ring"
+            "line {line}: the outline that begins there has {}, and may have 3 to 256: an empty \
+             line ends an outline",
+            plain::corners(points.len())
         ));
     }
     let points = points.into_iter().map(|(_, point)| point).collect();
-    Ok(Ring { points, part: None, opened: true })
+    Ok(Ring { points, part: None, opened, numbers: Numbers::Floats })
+}
+
+/// The ring of a well-known text, which must be closed.
+fn closed_ring(mut points: Vec<(usize, Point)>) -> Found<Ring> {
+    bounded(&points)?;
+    let has = points.len();
+    let ends = points.first().zip(points.last()).map(|(first, last)| (first.1, *last));
+    if let Some((first, (line, last))) = ends.filter(|(first, (_, last))| first != last) {
+        let [first, last] = [first, last].map(plain::point);
+        return Err(format!(
+            "line {line}: the ring is not closed, its last point is {last}: write its first, \
+             {first}, once more at the end"
+        ));
+    }
+    if !(4..=257).contains(&has) {
+        return Err(format!("its ring has {has} points, and may have 4 to 257, the last counted"));
+    }
+    points.pop();
+    let points = points.into_iter().map(|(_, point)| point).collect();
+    Ok(Ring { points, part: None, opened: true, numbers: Numbers::Floats })
 }
 
 /// That all coordinates are in bounds.
-fn bounded(points: &[(usize, Point)]) -> std::result::Result<(), String> {
+fn bounded(points: &[(usize, Point)]) -> Found<()> {
     let far = |(_, (x, y)): &&(usize, Point)| !(x.abs() <= LARGEST && y.abs() <= LARGEST);
     match points.iter().find(far) {
         None => Ok(()),
@@ -362,23 +368,24 @@ fn bounded(points: &[(usize, Point)]) -> std::result::Result<(), String> {
     }
 }
 
-/// The bytes of a file of this name that holds these rings.
-pub fn written(name: &str, rings: &[Ring]) -> Result<Vec<u8>> {
-    let kind = Kind::named(name);
+/// The bytes of a file of this kind that holds these rings.
+pub fn written(kind: Kind, rings: &[Ring]) -> Found<Vec<u8>> {
     if kind == Kind::Book {
         let rings: Vec<(u32, &[Point])> =
             rings.iter().map(|ring| (ring.part.unwrap_or(0), &ring.points[..])).collect();
-        return write_book(&rings).map_err(|refusal| Fault::of(name, refusal));
+        return write_book(&rings).map_err(|refusal| refusal.to_string());
+    }
+    if kind == Kind::Text {
+        let rings: Vec<String> = rings.iter().map(|ring| plain::lines(&ring.points)).collect();
+        return Ok(rings.join("\n").into_bytes());
     }
     let [ring] = rings else {
-        let words = format!("{kind} holds one ring, and there are {}: name it .book", rings.len());
-        return Err(Fault::of(name, words));
+        return Err(format!("{kind} holds one ring, and there are {}: name it .book", rings.len()));
     };
-    Ok(match kind {
-        Kind::Wkb => write_wkb(&ring.points).map_err(|refusal| Fault::of(name, refusal))?,
-        Kind::Wkt => wkt::written(&ring.points).into_bytes(),
-        _ => plain::lines(&ring.points).into_bytes(),
-    })
+    match kind {
+        Kind::Wkb => write_wkb(&ring.points).map_err(|refusal| refusal.to_string()),
+        _ => Ok(wkt::written(&ring.points).into_bytes()),
+    }
 }
 
 /// The least reading of a ring, as a book holds it.

@@ -1,26 +1,32 @@
-//! The shop's own command: each subcommand does one job that a person has, reads files
-//! by what is in them, and says in words what it did. What is computed comes from the
-//! proved library; here files are read and written, and answers put into words and
-//! pictures.
+//! The shop's own command: each job is one that a person has. It reads files by what is in
+//! them, computes an answer, and says it in words, pictures and pages. What is computed comes
+//! from the proved library; here files are read and written, and answers told.
 //!
-//! The status is 0 where all is well, 1 where the answer is no (not the same, not clear,
-//! not closed, a fault), and 2 where there is no answer: then one line says why.
+//! `jobs` read what is asked for and write what is wanted, `answers` are values, `words` turn
+//! them into lines, `pictures` into drawings and `page` into the auditor's file.
+//!
+//! The status is 0 where all is well, 1 where the answer is no or something warns, and 2 where
+//! there is no answer: then one line says why.
 
 #![forbid(unsafe_code)]
 
-mod by_hand;
-mod commands;
+mod answers;
+mod asked;
 pub mod drawing;
 mod fault;
 mod files;
+mod foreign;
 mod grid;
 mod help;
-mod html;
-mod legs;
+mod jobs;
 mod nearest;
-mod picture;
+mod page;
+mod pictures;
 mod plain;
+mod shelf;
 mod text;
+mod told;
+mod walk;
 mod wkt;
 mod words;
 
@@ -29,26 +35,12 @@ pub use fault::{Fault, Result};
 use std::ffi::OsString;
 use std::io::{ErrorKind, Write};
 use std::process::ExitCode;
-
-/// What a subcommand has to say, and whether the answer is yes.
-pub(crate) struct Said {
-    /// The words for standard output.
-    pub words: String,
-    /// Whether all is well.
-    pub yes: bool,
-}
-
-impl Said {
-    /// Words after which all is well.
-    pub fn well(words: String) -> Self {
-        Self { words, yes: true }
-    }
-}
+use told::Told;
 
 /// Does what the arguments ask for; the status of the command.
 pub fn run(arguments: impl Iterator<Item = OsString>) -> ExitCode {
     match answered(arguments) {
-        Ok(said) => ExitCode::from(u8::from(!said.yes)),
+        Ok(told) => ExitCode::from(u8::from(!told.well)),
         Err(fault) => {
             // Where standard error is closed nobody can be told.
             let _ = writeln!(std::io::stderr(), "byr: {fault}");
@@ -57,8 +49,8 @@ pub fn run(arguments: impl Iterator<Item = OsString>) -> ExitCode {
     }
 }
 
-/// The words of the arguments' subcommand, once they are on standard output.
-fn answered(arguments: impl Iterator<Item = OsString>) -> Result<Said> {
+/// What the arguments' job says, once it is on standard output.
+fn answered(arguments: impl Iterator<Item = OsString>) -> Result<Told> {
     // A word with such a sign, the name of a file say, would spoil the lines that tell of it.
     let unseen = |word: &str| word.contains(char::is_control);
     let text = |word: OsString| match word.into_string() {
@@ -69,12 +61,12 @@ fn answered(arguments: impl Iterator<Item = OsString>) -> Result<Said> {
         Err(word) => Err(Fault::new(format!("{word:?} is no text: name it otherwise"))),
     };
     let arguments = arguments.map(text).collect::<Result<Vec<String>>>()?;
-    let said = commands::called(&arguments)?;
-    match print(&said.words) {
+    let told = jobs::called(&arguments)?;
+    match print(&told::printed(&told.lines)) {
         // A reader that has seen enough, as `head`, is no fault.
-        Err(error) if error.kind() == ErrorKind::BrokenPipe => Ok(said),
+        Err(error) if error.kind() == ErrorKind::BrokenPipe => Ok(told),
         Err(error) => Err(Fault::of("standard output", files::spoken(&error))),
-        Ok(()) => Ok(said),
+        Ok(()) => Ok(told),
     }
 }
 

@@ -1,7 +1,7 @@
 //! Well-known text: a polygon of one ring, `POLYGON ((0 0, 4 0, 0 3, 0 0))`.
 
 use crate::plain;
-use crate::text::{number, shortened, Wrong};
+use crate::text::{is_shown, number, shortened, Outlines, Wrong};
 use byrlygent::Point;
 
 /// What is left of a text, with its lines counted.
@@ -62,12 +62,12 @@ impl<'a> Rest<'a> {
     fn missing<T>(&self, expected: &str) -> Result<T, Wrong> {
         match self.text.chars().next() {
             Some(other) => self.wrong(format!("{expected} is expected where '{other}' stands")),
-            None => self.wrong(format!("{expected} is expected where the text ends")),
+            None => self.wrong(format!("{expected} is expected where the text ends: add it")),
         }
     }
 
-    /// The number here.
-    fn number(&mut self) -> Result<f64, Wrong> {
+    /// The number here, and whether it was read without rounding.
+    fn number(&mut self) -> Result<(f64, bool), Wrong> {
         self.blanks();
         let end = self.text.find(|c: char| c.is_whitespace() || "(),#".contains(c));
         if end == Some(0) || self.text.is_empty() {
@@ -75,18 +75,20 @@ impl<'a> Rest<'a> {
         }
         let line = self.line;
         let word = self.skip(end.unwrap_or(self.text.len()));
-        number(word).map_err(|words| (line, words))
+        let read = number(word).map_err(|words| (line, words))?;
+        Ok((read, is_shown(word, read)))
     }
 }
 
-/// The points of the ring, the closing one too, each with its line.
-pub fn points(text: &str) -> Result<Vec<(usize, Point)>, Wrong> {
+/// The ring, with its points, the closing one too.
+pub fn outlines(text: &str) -> Result<Outlines, Wrong> {
     let mut rest = Rest { text, line: 1 };
     opening(&mut rest)?;
-    let mut points = Vec::new();
+    let (mut points, mut shown) = (Vec::new(), true);
     loop {
-        let (x, y) = (rest.number()?, rest.number()?);
+        let ((x, x_shown), (y, y_shown)) = (rest.number()?, rest.number()?);
         points.push((rest.line, (x, y)));
+        shown &= x_shown && y_shown;
         if rest.sign(')') {
             break;
         }
@@ -100,7 +102,7 @@ pub fn points(text: &str) -> Result<Vec<(usize, Point)>, Wrong> {
     rest.expect(')')?;
     rest.blanks();
     match rest.text.is_empty() {
-        true => Ok(points),
+        true => Ok(Outlines { points: vec![points], shown }),
         false => rest.wrong("more stands behind the polygon: put each into a file of its own"),
     }
 }
@@ -117,7 +119,9 @@ fn opening(rest: &mut Rest) -> Result<(), Wrong> {
     }
     if !with("") {
         let word = shortened(word);
-        return rest.wrong(format!("\"{word}\" is not known: POLYGON is, or two numbers a line"));
+        return rest.wrong(format!(
+            "\"{word}\" is not known: POLYGON is, or two numbers a line and no heading above them"
+        ));
     }
     match rest.word() {
         "" => {}

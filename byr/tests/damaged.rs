@@ -126,7 +126,7 @@ fn damaged_files_are_told_or_read() {
             let file = whole(kind, &mut seeded);
             let file = seeded.damaged(file);
             told += usize::from(!judge(rings(&file).map(|(_, rings)| rings)));
-            if let Ok((points, _)) = path(&file) {
+            if let Ok(Ring { points, .. }) = path(&file) {
                 assert!(points.iter().all(|(x, y)| x.is_finite() && y.is_finite()));
             }
         }

@@ -40,7 +40,9 @@ fn every_drawing_goes_through_or_is_told_with_its_byte() {
             }
             told += 1;
         } else {
-            assert_eq!([show.0, write.0], [0, 0], "{name}");
+            for (status, words) in [show, write] {
+                assert_eq!(status, i32::from(words.contains("\nWARNING: ring 0")), "{name}");
+            }
             assert!(byr(&["same", book, &name]).1.starts_with("the same\n"), "{name}");
             through += 1;
         }

@@ -2,6 +2,7 @@
 //! tells for a check by hand.
 
 use byrlygent::wkb::read_wkb;
+use std::collections::BTreeMap;
 use std::path::Path;
 use std::process::Command;
 
@@ -21,18 +22,26 @@ fn units(name: &str, (x, y): Spot) -> Vec<Spot> {
 /// The lines that are printed for a move to the right of so many millimetres.
 fn lines(by: i64) -> Vec<[i64; 4]> {
     let output = Command::new(env!("CARGO_BIN_EXE_byr"))
-        .args(["why", "neighbour.wkb", "rubber.wkb", "--at", "0,15", "--unit", "0.001"])
+        .args(["why", "neighbour.wkb", "rubber.wkb", "--at", "0,15", "--grid", "0.001", "--lines"])
         .args(["--by", &format!("{by},0")])
         .current_dir(SHOP)
         .output()
         .expect("run");
     let text = String::from_utf8(output.stdout).expect("text");
-    let line = |line: &str| {
-        let (_, numbers) = line.strip_prefix("  edge ")?.split_once(": ")?;
+    let mut lines = BTreeMap::new();
+    for line in text.lines().filter_map(|line| line.strip_prefix("  edges ")) {
+        let (edges, numbers) = line.split_once(": ").expect("edges and numbers");
         let numbers: Vec<i64> = numbers.split(' ').map(|n| n.parse().expect("whole")).collect();
-        numbers.try_into().ok()
-    };
-    text.lines().filter_map(line).collect()
+        for run in edges.split(", ") {
+            let (first, last) = run.split_once('-').unwrap_or((run, run));
+            let [first, last] = [first, last].map(|n| n.parse::<usize>().expect("an edge"));
+            for edge in first..=last {
+                let numbers: [i64; 4] = numbers.clone().try_into().expect("four numbers");
+                assert_eq!(lines.insert(edge, numbers), None, "edge {edge} has one line");
+            }
+        }
+    }
+    lines.into_values().collect()
 }
 
 /// Whether these lines part each edge from the way, and balance.

@@ -34,7 +34,7 @@ fn kept(folder: &Path, word: &str) -> u64 {
 
 /// What stands beside the state while a new one is written.
 fn beside(folder: &Path) -> PathBuf {
-    folder.join(".places.state.new")
+    folder.join(".places.state.byr.new")
 }
 
 /// Kills a shift as soon as its moment has come, or it has ended; how many shifts the state

@@ -17,7 +17,7 @@ const JOBS: [&str; 12] = [
     "disc made.wkb --centre 0,0 --radius 8 --corners 32",
     "slide carrier.wkt disc.wkb --path path.txt --svg slide.svg",
     "slide notched.wkt disc.wkb",
-    "why neighbour.wkb rubber.wkb --at 0,15 --by 31,0 --unit 0.001 --svg why.svg",
+    "why neighbour.wkb rubber.wkb --at 0,15 --by 31,0 --grid 0.001 --svg why.svg",
     "check carrier.wkt disc.wkb path.txt",
     "inspect path.txt --per-shift 5 --state places.state",
     "report audit.html carrier.wkt disc.wkb --same monday.wkt --at 20,38 --by 10,0 --per-shift 5",

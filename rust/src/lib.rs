@@ -65,6 +65,9 @@ pub mod scalar;
 pub mod whole;
 pub mod wkb;
 
+/// The number of the library's interface: no library of another one is called.
+pub const INTERFACE: u32 = ffi::ABI_VERSION;
+
 pub use lists::{Entries, List};
 pub use refusal::{Refusal, Result};
 

@@ -3,6 +3,7 @@
 //! arrows, parting lines thin and dashed, and what is told is heaviest. Each picture says
 //! its captions in text as well, and below itself what is drawn how.
 
+use crate::told::Line;
 use byrlygent::Point;
 
 /// The width of a picture, the most height of what is shown, and the margin round it.
@@ -46,8 +47,8 @@ const STYLE: &str = "<style>\
 pub struct Captions<'a> {
     /// What it is of.
     pub title: &'a str,
-    /// What it shows.
-    pub lines: Vec<String>,
+    /// What it shows: of these lines those that are not one of many.
+    pub lines: &'a [Line],
     /// What is drawn how.
     pub legend: String,
     /// Whether title and lines stand above it; else they stand beside it already.
@@ -93,7 +94,7 @@ impl Picture {
         let height = above + MARGIN + (high.1 - low.1) * scale + MARGIN;
         Self {
             title: said.title.to_string(),
-            told: said.lines.join(" "),
+            told: said.main().map(Line::to_string).collect::<Vec<String>>().join(" "),
             captions,
             legend: broken(&said.legend, SMALL_LETTERS),
             low,
@@ -298,20 +299,22 @@ impl Picture {
 }
 
 impl Captions<'_> {
+    /// The lines that a picture has.
+    fn main(&self) -> impl Iterator<Item = &Line> {
+        self.lines.iter().filter(|line| line.is_main())
+    }
+
     /// The lines above a picture, and whether each is heavy, as the title is.
     fn shown(&self) -> Vec<(bool, String)> {
         if !self.above {
             return Vec::new();
         }
-        let heavy = |text: &str| broken(text, HEAVY_LETTERS).into_iter().map(|line| (true, line));
-        let plain = |text: &str| broken(text, LETTERS).into_iter().map(|line| (false, line));
-        let line = |text: &String| -> Vec<(bool, String)> {
-            match text.contains("WARNING") {
-                true => heavy(text).collect(),
-                false => plain(text).collect(),
-            }
+        let set = |heavy: bool, text: &str| -> Vec<(bool, String)> {
+            let letters = if heavy { HEAVY_LETTERS } else { LETTERS };
+            broken(text, letters).into_iter().map(|line| (heavy, line)).collect()
         };
-        heavy(self.title).chain(self.lines.iter().flat_map(line)).collect()
+        let line = |line: &Line| set(line.warns(), &line.to_string());
+        set(true, self.title).into_iter().chain(self.main().flat_map(line)).collect()
     }
 }
 

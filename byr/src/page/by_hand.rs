@@ -1,25 +1,31 @@
 //! How to check by hand that nothing lay in between: the rules, an edge worked out, and
 //! the numbers that they need, in units of the grid.
 
+use crate::answers::one_move::OneMove;
+use crate::plain;
+use crate::words::one_move::parting;
 use byrlygent::whole::{Line, Point};
 
 /// A reason, with what it is the reason for.
 pub struct ByHand<'a> {
-    /// The unit of the grid.
-    pub unit: f64,
-    /// Whether all was on it already.
-    pub exact: bool,
+    /// The move.
+    of: &'a OneMove,
     /// The line of each edge of the carrier.
-    pub lines: &'a [Line],
+    lines: &'a [Line],
     /// The carrier's corners.
-    pub carrier: &'a [Point],
-    /// The disc's corners at the start of the move.
-    pub start: Vec<Point>,
-    /// The same at its end.
-    pub end: Vec<Point>,
+    carrier: &'a [Point],
+    /// The disc's corners at the start of the move, and at its end.
+    start: Vec<Point>,
+    end: Vec<Point>,
 }
 
-impl ByHand<'_> {
+impl<'a> ByHand<'a> {
+    /// The reason of a move, where there is one.
+    pub fn of(of: &'a OneMove) -> Option<Self> {
+        let [start, end] = of.way();
+        Some(Self { of, lines: of.lines()?, carrier: &of.walk.carrier.spots, start, end })
+    }
+
     /// The disc's corners, at the start and at the end.
     fn way(&self) -> impl Iterator<Item = Point> + '_ {
         self.start.iter().chain(&self.end).copied()
@@ -44,7 +50,7 @@ impl ByHand<'_> {
 
     /// The rules, with edge 0 and the balance worked out.
     pub fn rules(&self) -> [String; 5] {
-        let (unit, line) = (self.unit, &self.lines[0]);
+        let (unit, line) = (self.of.walk.grid.told(), &self.lines[0]);
         let least = self.way().map(|v| side(line, v)).min().unwrap_or(0);
         let [first, second] = self.edge(0).map(|v| side(line, v));
         let (low, ups, downs) = self.balance();
@@ -71,7 +77,7 @@ impl ByHand<'_> {
                 "If all this is so, at no time of the move does a point of an edge lie inside the \
                  disc, and at every time each point inside the disc is outside the carrier: that \
                  is proved, whoever made the lines, of these numbers. {}",
-                match self.exact {
+                match self.of.walk.is_exact() {
                     true => "They are the drawing's own.",
                     false => "They are not the drawing's: of the drawing nothing is proved.",
                 }
@@ -80,12 +86,18 @@ impl ByHand<'_> {
     }
 
     /// The numbers, with their headings.
-    pub fn tables(&self) -> [(&'static str, String); 4] {
+    pub fn tables(&self) -> [(String, Vec<String>); 4] {
+        let partings = self.of.partings();
+        let lines = plain::count(partings.len(), "line", "lines");
+        let edges = plain::count(self.lines.len(), "edge", "edges");
         [
-            ("The lines, p.x p.y q.x q.y, by edge", numbered(self.lines, Line::to_string)),
-            ("The carrier's corners: edge 0 leads from 0 to 1", corners(self.carrier)),
-            ("The disc's corners at the start", corners(&self.start)),
-            ("The disc's corners at the end", corners(&self.end)),
+            (
+                format!("The reason, {lines} for {edges}: p.x p.y q.x q.y"),
+                partings.iter().map(parting).collect(),
+            ),
+            ("The carrier's corners: edge 0 leads from 0 to 1".into(), corners(self.carrier)),
+            ("The disc's corners at the start".into(), corners(&self.start)),
+            ("The disc's corners at the end".into(), corners(&self.end)),
         ]
     }
 }
@@ -97,13 +109,8 @@ fn side(line: &Line, v: Point) -> i64 {
     (qx - px) * (vy - py) - (qy - py) * (vx - px)
 }
 
-/// A line for each of a list, with its number.
-fn numbered<T>(list: &[T], shown: impl Fn(&T) -> String) -> String {
-    let line = |(at, one): (usize, &T)| format!("{at:>4}  {}\n", shown(one));
-    list.iter().enumerate().map(line).collect()
-}
-
-/// The corners, a line for each.
-fn corners(spots: &[Point]) -> String {
-    numbered(spots, |spot| format!("{} {}", spot.0, spot.1))
+/// The corners, a line for each, with its number.
+fn corners(spots: &[Point]) -> Vec<String> {
+    let line = |(at, spot): (usize, &Point)| format!("{at:>4}  {} {}", spot.0, spot.1);
+    spots.iter().enumerate().map(line).collect()
 }

@@ -1,6 +1,7 @@
 //! A page of HTML in one file: nothing is loaded from outside, and it prints on A4.
 
-use crate::picture::escaped;
+use crate::pictures::canvas::escaped;
+use crate::told::Line;
 
 /// How a page looks, on the screen and on paper.
 const STYLE: &str = "\
@@ -40,26 +41,31 @@ impl Sections {
         self.body += &format!("<h3>{}</h3>\n", escaped(words));
     }
 
-    /// A paragraph; a warning is one that nobody can miss.
+    /// A paragraph.
     pub fn paragraph(&mut self, words: &str) {
-        let class = if words.contains("WARNING") { " class=\"warning\"" } else { "" };
-        self.body += &format!("<p{class}>{}</p>\n", escaped(words));
+        self.body += &format!("<p>{}</p>\n", escaped(words));
+    }
+
+    /// A line as a paragraph; a warning is one that nobody can miss.
+    pub fn told(&mut self, line: &Line) {
+        let class = if line.warns() { " class=\"warning\"" } else { "" };
+        self.body += &format!("<p{class}>{}</p>\n", escaped(&line.to_string()));
     }
 
     /// Lines as they are printed, those of a warning heavy.
-    pub fn lines(&mut self, words: &str) {
-        let line = |line: &str| match line.contains("WARNING") {
-            true => format!("<b>{}</b>\n", escaped(line)),
-            false => format!("{}\n", escaped(line)),
+    pub fn lines<'a>(&mut self, lines: impl IntoIterator<Item = &'a Line>) {
+        let line = |line: &Line| match line.warns() {
+            true => format!("<b>{}</b>\n", escaped(&line.to_string())),
+            false => format!("{}\n", escaped(&line.to_string())),
         };
-        let whole = whole(words.lines().count());
-        let words: String = words.lines().map(line).collect();
-        self.body += &format!("<pre{whole}>{words}</pre>\n");
+        let words: Vec<String> = lines.into_iter().map(line).collect();
+        let whole = whole(words.len());
+        self.body += &format!("<pre{whole}>{}</pre>\n", words.concat());
     }
 
     /// Short lines, in columns.
-    pub fn columns(&mut self, words: &str) {
-        let words: Vec<String> = words.lines().map(escaped).collect();
+    pub fn columns(&mut self, words: &[String]) {
+        let words: Vec<String> = words.iter().map(|line| escaped(line)).collect();
         self.body += &format!("<pre class=\"columns\">{}</pre>\n", words.join("\n"));
     }
 
@@ -95,10 +101,10 @@ fn whole(lines: usize) -> &'static str {
     }
 }
 
-/// The whole file of these sections, one behind the other.
-pub fn page(title: &str, all: &[Sections]) -> String {
+/// The whole file of these sections.
+pub fn page(title: &str, sections: &Sections) -> String {
     let title = escaped(title);
-    let body: String = all.iter().map(|sections| sections.body.as_str()).collect();
+    let body = &sections.body;
     format!(
         "<!DOCTYPE html>\n<html lang=\"en\">\n<head>\n<meta charset=\"utf-8\">\n\
          <meta name=\"viewport\" content=\"width=device-width\">\n<title>{title}</title>\n\

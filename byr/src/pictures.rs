@@ -1,0 +1,6 @@
+//! Answers drawn as pictures.
+
+pub mod canvas;
+pub mod one_move;
+pub mod outline;
+pub mod slide;
