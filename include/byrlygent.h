@@ -70,7 +70,7 @@ extern "C" {
  *     if (byr_abi_version() != BYR_ABI_VERSION) { .. header and archive are not of one tree .. }
  *
  * An archive from before there was a number does not link with such a program. */
-#define BYR_ABI_VERSION 4
+#define BYR_ABI_VERSION 5
 
 /* The interface of the archive. This function itself stays as it is. */
 uint32_t byr_abi_version(void);

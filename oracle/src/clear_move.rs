@@ -98,6 +98,12 @@ fn squares(x: f64, y: f64) -> [Vec<f64>; 2] {
     [square(4.0), placed(&square(2.0), 1.0, x, y)]
 }
 
+/// A triangle between the wings of a bow tie, where each edge has a line of its own.
+fn between_the_wings(by: Spot) -> Vec<u8> {
+    let bow = vec![0.0, 0.0, 8.0, 8.0, 8.0, 0.0, 0.0, 8.0];
+    input_of(by, &[bow, vec![3.0, 9.0, 5.0, 9.0, 4.0, 6.0]])
+}
+
 /// The input of the gate: a disc slides 31 mm along its neighbour, which it touches.
 pub fn example() -> Vec<u8> {
     input_of((0, 31_000), &[disc_at(0.0, 0.0), disc_at(30_000.0, -15_500.0)])
@@ -112,7 +118,6 @@ fn clear() -> Cases {
     let corner = [placed(&square(4.0), 1.0, -1e6, -1e6), placed(&square(4.0), 1.0, far, -1e6)];
     let part = placed(&square(10.0), 1.0, 0.0, 60.0);
     let wound = [square(12.0), vec![0.0, 0.0, 0.0, 12.0, 12.0, 12.0, 12.0, 0.0]].concat();
-    let bow = vec![0.0, 0.0, 8.0, 8.0, 8.0, 0.0, 0.0, 8.0];
     let large = [placed(&disc(256, 4e5), 1.0, -5e5, 0.0), placed(&disc(256, 4e5), 1.0, 4e5, 0.0)];
     let large = large.map(|ring| ring.iter().map(|x| x.round()).collect::<Vec<f64>>());
     vec![
@@ -122,7 +127,7 @@ fn clear() -> Cases {
         ("slot_one_wider", input_of((1, -60), &[slot(11.0), part])),
         ("third_ring_unused", input_of((9, 9), &[&squares(7.0, 0.0)[..], &[square(3.0)]].concat())),
         ("round_and_back", input_of((1, 1), &[wound, placed(&square(2.0), 1.0, 3.0, 3.0)])),
-        ("between_the_wings", input_of((0, -2), &[bow, vec![3.0, 9.0, 5.0, 9.0, 4.0, 6.0]])),
+        ("between_the_wings", between_the_wings((0, -2))),
         ("from_end_to_end", input_of((0, 1_996_000), &corner)),
         (
             "disc_to_its_neighbour",
@@ -214,7 +219,7 @@ fn with_line(text: &str, place: usize, line: &str) -> String {
 
 /// Inputs with outputs that are no reason for them, by their names.
 pub fn spoilt() -> Vec<(&'static str, Vec<u8>, String)> {
-    let input = input_of((0, 9), &squares(4.0, 0.0));
+    let input = between_the_wings((0, -2));
     let text = printed(&input);
     let first = text.lines().nth(1).expect("a line for each edge").to_string();
     let lines: Vec<&str> = text.lines().skip(1).collect();
@@ -226,7 +231,7 @@ pub fn spoilt() -> Vec<(&'static str, Vec<u8>, String)> {
     let mirrored = "clear\n0 4 0 0\n4 4 0 4\n4 0 4 4\n0 0 4 0\n".to_string();
     let exchanged = format!("clear\n{}\n{}\n{}\n{}\n", lines[1], lines[2], lines[3], lines[0]);
     vec![
-        ("one_number_off", input.clone(), with_line(&text, 3, "4 4 5 0")),
+        ("one_number_off", input.clone(), with_line(&text, 2, "0 8 8 1")),
         ("one_point_twice", input.clone(), with_line(&text, 2, "9 9 9 9")),
         ("one_line_turned", input.clone(), with_line(&text, 1, &turned)),
         ("lines_exchanged", input.clone(), exchanged),
@@ -235,7 +240,7 @@ pub fn spoilt() -> Vec<(&'static str, Vec<u8>, String)> {
         ("no_reason", input.clone(), "clear\n".to_string()),
         ("no_number", input.clone(), with_line(&text, 1, "0 0 0 x")),
         ("another_word", input.clone(), text.replacen("clear", "edge 0", 1)),
-        ("another_move", input_of((-1, 9), &squares(4.0, 0.0)), text),
+        ("another_move", between_the_wings((0, -3)), text),
         ("not_balanced", input_of((0, 0), &[square(4.0), square(4.0)]), mirrored.clone()),
         ("not_balanced_within", input_of((1, 1), &squares(1.0, 1.0)), mirrored),
         ("way_right_of_the_lines", input_of((0, 0), &[square(4.0), square(4.0)]), own),

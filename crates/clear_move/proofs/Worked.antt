@@ -18,8 +18,8 @@ use Rattle.reasons.specs.Lowest.{lower, lowSpot}
 use Rattle.reasons.specs.First.{firstFrom}
 use Rattle.reasons.specs.Check as found
 use Rattle.reasons.specs.Check.{balance}
-use Rattle.reason_search.specs.Lines.{sixth, wayLine, lineOf}
-use Rattle.reason_search.specs.Search.{firstLine, reached, searchOf}
+use Rattle.reason_search.specs.Lines.{boxLow, boxHigh, boxLine, eitherWay, wayLine, lineOf}
+use Rattle.reason_search.specs.Search.{firstLine, onward, lineAt, reached, searchOf}
 use Rattle.reason_search.specs.Room.{linesTo}
 use Rattle.whole_input.specs.Whole.{isWhole}
 use Rattle.clear_calls.specs.Rows.{ofWholeMove}
@@ -45,19 +45,19 @@ Q = pos 0 ∷ negsuc 1 ∷ pos 0 ∷ pos 0 ∷ pos 2 ∷ pos 0 ∷ pos 2 ∷ neg
 abbrev S : List ℤ
 S = pos 0 ∷ pos 0 ∷ pos 0 ∷ pos 4 ∷ pos 4 ∷ pos 4 ∷ pos 4 ∷ pos 0 ∷ []
 
--- "clear", "0 0 0 -2", "0 0 2 0", "0 0 2 0", "0 -2 2 -2"
+-- "clear", and "0 0 1 0", the bottom of the way's box, for each of four edges
 slide : pairText Q S (pos 2) (pos 0)
     ≡ (99 ∷ 108 ∷ 101 ∷ 97 ∷ 114 ∷ 10 ∷ [])
-    ++ ((48 ∷ 32 ∷ 48 ∷ 32 ∷ 48 ∷ 32 ∷ 45 ∷ 50 ∷ 10 ∷ [])
-    ++ ((48 ∷ 32 ∷ 48 ∷ 32 ∷ 50 ∷ 32 ∷ 48 ∷ 10 ∷ [])
-    ++ ((48 ∷ 32 ∷ 48 ∷ 32 ∷ 50 ∷ 32 ∷ 48 ∷ 10 ∷ [])
-    ++ ((48 ∷ 32 ∷ 45 ∷ 50 ∷ 32 ∷ 50 ∷ 32 ∷ 45 ∷ 50 ∷ 10 ∷ [])))))
-unfolding pairText judgedText groundText reasonLines reasonLine signed digits upTo ofWholeMove allInBounds movedBy upOf shortFor linesTo searchOf reached firstLine lineOf wayLine sixth found.judged balance firstFrom parts wayLeft edgeRight differ leftOn rightOn each lowSpot lower marksUp marksDown mark
+    ++ ((48 ∷ 32 ∷ 48 ∷ 32 ∷ 49 ∷ 32 ∷ 48 ∷ 10 ∷ [])
+    ++ ((48 ∷ 32 ∷ 48 ∷ 32 ∷ 49 ∷ 32 ∷ 48 ∷ 10 ∷ [])
+    ++ ((48 ∷ 32 ∷ 48 ∷ 32 ∷ 49 ∷ 32 ∷ 48 ∷ 10 ∷ [])
+    ++ ((48 ∷ 32 ∷ 48 ∷ 32 ∷ 49 ∷ 32 ∷ 48 ∷ 10 ∷ [])))))
+unfolding pairText judgedText groundText reasonLines reasonLine signed digits upTo ofWholeMove allInBounds movedBy upOf shortFor linesTo searchOf reached lineAt onward firstLine lineOf wayLine eitherWay boxLine boxLow boxHigh found.judged balance firstFrom parts wayLeft edgeRight differ leftOn rightOn each lowSpot lower marksUp marksDown mark
 slide = refl
 
 -- "edge 1"
 blocked : pairText Q S (pos 0) (negsuc 0) ≡ 101 ∷ 100 ∷ 103 ∷ 101 ∷ 32 ∷ 49 ∷ 10 ∷ []
-unfolding pairText judgedText groundText edgeLine digits upTo ofWholeMove allInBounds movedBy upOf shortFor searchOf reached firstLine lineOf wayLine sixth found.judged balance firstFrom parts wayLeft edgeRight differ leftOn rightOn each lowSpot lower marksUp marksDown mark
+unfolding pairText judgedText groundText edgeLine digits upTo ofWholeMove allInBounds movedBy upOf shortFor searchOf reached lineAt onward firstLine lineOf wayLine eitherWay boxLine boxLow boxHigh found.judged balance firstFrom parts wayLeft edgeRight differ leftOn rightOn each lowSpot lower marksUp marksDown mark
 blocked = refl
 
 -- ---- refusals
