@@ -5,9 +5,7 @@ use Rattle.reason_search.proofs.take.Statement.{statement}
 use Rattle.reason_search.proofs.take.Tie as tie
 
 edge-right-requires : tie.Need-edge-right-requires
-edge-right-requires c κs =
-    let p = c .before .before .before .pre in
-    (p .4 .from-small, p .4 .to-small, p .2, p .3)
+edge-right-requires c κs = search needs
 
 returns : tie.Need-returns
 returns c =
