@@ -45,10 +45,10 @@ Q = pos 0 ∷ negsuc 1 ∷ pos 0 ∷ pos 0 ∷ pos 2 ∷ pos 0 ∷ pos 2 ∷ neg
 abbrev S : List ℤ
 S = pos 0 ∷ pos 0 ∷ pos 0 ∷ pos 4 ∷ pos 4 ∷ pos 4 ∷ pos 4 ∷ pos 0 ∷ []
 
--- "clear", and "0 0 1 0", the bottom of the way's box, for each of four edges
+-- "clear", "0 1 0 0", the left side of the way's box, and "0 0 1 0", its bottom, for each of three edges
 slide : pairText Q S (pos 2) (pos 0)
     ≡ (99 ∷ 108 ∷ 101 ∷ 97 ∷ 114 ∷ 10 ∷ [])
-    ++ ((48 ∷ 32 ∷ 48 ∷ 32 ∷ 49 ∷ 32 ∷ 48 ∷ 10 ∷ [])
+    ++ ((48 ∷ 32 ∷ 49 ∷ 32 ∷ 48 ∷ 32 ∷ 48 ∷ 10 ∷ [])
     ++ ((48 ∷ 32 ∷ 48 ∷ 32 ∷ 49 ∷ 32 ∷ 48 ∷ 10 ∷ [])
     ++ ((48 ∷ 32 ∷ 48 ∷ 32 ∷ 49 ∷ 32 ∷ 48 ∷ 10 ∷ [])
     ++ ((48 ∷ 32 ∷ 48 ∷ 32 ∷ 49 ∷ 32 ∷ 48 ∷ 10 ∷ [])))))
