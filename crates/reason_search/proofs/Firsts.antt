@@ -65,6 +65,11 @@ module _ (a b : List ℕ) (s t : Spot) where
   pub parts-leaves : (l : Line) → partsBy a b s t l ≡ true → leaves (spotAt a) (spotAt b) (length a / 2) l ≡ true
   parts-leaves l h = both _ (edgeRight (l .p) (l .q) s t) (sym (parts-both l) ∙ h) .0
 
+  -- of a line of the way
+  pub unnoted : (c : ℕ) {l : Line} {x : Bool} → l ≡ lineIn a b c → x ≡ partsBy a b s t l → x ≡ helpful a b s t c
+  unfolding helpful useful
+  unnoted c e h = h ∙ ap (partsBy a b s t) e ∙ parts-both (lineIn a b c)
+
 -- ---- the lines of an edge, one after the other
 
 module _ (a b : List ℕ) (s t : Spot) where

@@ -73,6 +73,16 @@ module _ {a b held : List ℕ} (flags : List ℕ) (R : Ready a b held) (same : l
         record { moved = R .moved; most = R .most; room = omega (arith, R .most); noted = still },
       )
 
+-- an edge has asked
+pub asked : {a b : List ℕ} (flags : List ℕ) → Ready a b flags → Ready a b (set flags 1536 2)
+asked flags R = record {
+  moved = R .moved;
+  some = R .some;
+  most = R .most;
+  room = simp length-set (R .room);
+  marked = λ h. let e = getD-set-same flags 1536 2 0 (R .room) in absurd (omega (arith, e, h));
+}
+
 -- ---- used
 
 one-true : (x : Bool) → one x ≡ 1 → x ≡ true

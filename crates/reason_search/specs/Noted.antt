@@ -58,7 +58,7 @@ pub record Prepared (a b flags : List ℕ) : Type 0 where
   pub room : wayLines a ≤ length flags
   pub noted : Noted a b flags (wayLines a)
 
--- a way of 1 to 256 corners with room for its flags, which stand there once number 1536 is 1
+-- a way of 1 to 256 corners with room for its flags, which stand there once number 1536 is 1; it is 0 until an edge asks for one
 pub record Ready (a b flags : List ℕ) : Type 0 where
   pub moved : WayLent a b
   pub some : 0 < length a / 2

@@ -232,6 +232,45 @@ fn first_of_way(a: &[u64], b: &[u64], flags: &[u8], s: Spot, t: Spot) -> usize
     c
 }
 
+// Whether line c of the way parts the edge from s to t, without the notes. The edge is looked at first.
+fn helps_unnoted(a: &[u64], b: &[u64], s: Spot, t: Spot, c: usize) -> bool
+    requires { ⌜ WayLent (now a) (now b) × Small s × Small t × (c < wayLines (now a)) ⌝ }
+    ensures { λ r. ⌜ r ≡ helpful (now (a .entry)) (now (b .entry)) s t c ⌝ }
+{
+    let l = way_line(a, b, c);
+    parts(a, b, s, t, l.p, l.q)
+}
+
+// The first line of the way that does, or the number of all.
+fn first_unnoted(a: &[u64], b: &[u64], s: Spot, t: Spot) -> usize
+    requires { ⌜ WayLent (now a) (now b) × (length (now a) ≤ 512) × Small s × Small t ⌝ }
+    ensures { λ r. ⌜ (r ≡ firstOfWay (now (a .entry)) (now (b .entry)) s t) × (r ≤ wayLines (now (a .entry))) ⌝ }
+{
+    let most = 6 * (a.len() / 2);
+    let mut c = 0;
+    while c < most {
+        if helps_unnoted(a, b, s, t, c) {
+            return c;
+        }
+        c += 1;
+    }
+    c
+}
+
+// The same with the notes, but for the first edge that asks: where a move is not clear, it is often the only one.
+fn first_helping(a: &[u64], b: &[u64], flags: &mut [u8], s: Spot, t: Spot) -> usize
+    requires { ⌜ Ready (now a) (now b) (now flags) × Small s × Small t ⌝ }
+    ensures { λ r. ⌜ (r ≡ firstOfWay (now (a .entry)) (now (b .entry)) s t) × (r ≤ wayLines (now (a .entry))) ⌝ }
+    ensures { λ _. ⌜ Ready (now (a .entry)) (now (b .entry)) (now (flags .exit)) ⌝ }
+{
+    if flags[1536] == 0 {
+        flags[1536] = 2;
+        return first_unnoted(a, b, s, t);
+    }
+    prepare(a, b, flags);
+    first_of_way(a, b, flags, s, t)
+}
+
 // The first line that parts the edge from s to t: a side of the way's box, which has the way on its left whatever the way, a line
 // of the way, or the edge's own; the last of them where none does.
 fn take_anew(a: &[u64], b: &[u64], x: Span, flags: &mut [u8], s: Spot, t: Spot) -> Taken
@@ -247,8 +286,7 @@ fn take_anew(a: &[u64], b: &[u64], x: Span, flags: &mut [u8], s: Spot, t: Spot) 
             parted: true,
         };
     }
-    prepare(a, b, flags);
-    let i = first_of_way(a, b, flags, s, t);
+    let i = first_helping(a, b, flags, s, t);
     if i < 6 * (a.len() / 2) {
         return Taken {
             line: way_line(a, b, i),

@@ -24,21 +24,15 @@ returns c =
     (c .before .if1 .taken) (c .side .ensures) in
     (r .0, (r .1, p .0))
 
-prepare-requires : tie.Need-prepare-requires
-prepare-requires c κs = search needs
-
-first-of-way-requires : tie.Need-first-of-way-requires
-first-of-way-requires c κs =
-    let y = c .before .before .before in
-    let p = y .before .before .before .before .before .before .before .pre in
-    (y .prepare .ensures .1, p .2, p .3)
+first-helping-requires : tie.Need-first-helping-requires
+first-helping-requires c κs = search needs
 
 mul-if2 : tie.Need-mul-if2
 mul-if2 c = omega arith
 
 way-line-requires : tie.Need-way-line-requires
 way-line-requires c κs =
-    let p = c .before .before .before .before .before .before .before .before .before .before .before .before .pre in
+    let p = c .before .before .before .before .before .before .before .before .before .before .pre in
     (p .0 .moved, c .if2 .taken)
 
 same-length : tie.Need-same-length
@@ -47,18 +41,17 @@ same-length c = search needs
 returns-2 : tie.Need-returns-2
 returns-2 c =
     let i = c .before in
-    let w = i .before in
-    let y = w .before .before .before .before in
-    let s = y .before .before in
+    let w = i .before .before .before in
+    let s = w .before .before in
     let f = s .before in
     let g = f .before .before .before .before in
     let r = anew-way (g .args .a .now) (g .args .b .now) _ _ (g .pre .1 .0) (g .pre .1 .1) (f .first-side .ensures .0) (s .if1 .left)
-    (w .first-of-way .ensures .0) (i .if2 .taken) (c .way-line .ensures .0) in
-    (r .0, (r .1, y .prepare .ensures .0))
+    (w .first-helping .ensures .0 .0) (i .if2 .taken) (c .way-line .ensures .0) in
+    (r .0, (r .1, w .first-helping .ensures .1))
 
 parts-requires : tie.Need-parts-requires
 parts-requires c κs =
-    let p = c .before .before .before .before .before .before .before .before .before .before .before .before .pre in
+    let p = c .before .before .before .before .before .before .before .before .before .before .pre in
     (p .0 .moved, p .2, p .3, p .2, p .3)
 
 same-length-2 : tie.Need-same-length-2
@@ -68,19 +61,18 @@ returns-3 : tie.Need-returns-3
 returns-3 c =
     let o = c .before in
     let i = o .before in
-    let w = i .before in
-    let y = w .before .before .before .before in
-    let s = y .before .before in
+    let w = i .before .before .before in
+    let s = w .before .before in
     let f = s .before in
     let g = f .before .before .before .before in
     let r = anew-own (g .args .a .now) (g .args .b .now) _ _ (g .pre .1 .0) (g .pre .1 .1) (f .first-side .ensures .0) (s .if1 .left)
-    (w .first-of-way .ensures .0) (i .if2 .left) (o .parts .ensures) (c .if3 .taken) in
-    (r .0, (r .1, y .prepare .ensures .0))
+    (w .first-helping .ensures .0 .0) (i .if2 .left) (o .parts .ensures) (c .if3 .taken) in
+    (r .0, (r .1, w .first-helping .ensures .1))
 
 parts-requires-2 : tie.Need-parts-requires-2
 parts-requires-2 c κs =
     let e = c .before .before in
-    let p = e .before .before .before .before .before .before .before .before .before .before .before .before .pre in
+    let p = e .before .before .before .before .before .before .before .before .before .before .pre in
     (p .0 .moved, p .2, p .3, p .3, p .2)
 
 same-length-3 : tie.Need-same-length-3
@@ -91,14 +83,13 @@ returns-4 c =
     let n = c .before in
     let o = n .before in
     let i = o .before in
-    let w = i .before in
-    let y = w .before .before .before .before in
-    let s = y .before .before in
+    let w = i .before .before .before in
+    let s = w .before .before in
     let f = s .before in
     let g = f .before .before .before .before in
     let r = anew-last (g .args .a .now) (g .args .b .now) _ _ (g .pre .1 .0) (g .pre .1 .1) (f .first-side .ensures .0) (s .if1 .left)
-    (w .first-of-way .ensures .0) (i .if2 .left) (o .parts .ensures) (n .if3 .left) in
-    (r, (c .parts2 .ensures, y .prepare .ensures .0))
+    (w .first-helping .ensures .0 .0) (i .if2 .left) (o .parts .ensures) (n .if3 .left) in
+    (r, (c .parts2 .ensures, w .first-helping .ensures .1))
 
 pub take-anew-spec : {M : Type 1} → statement M
 take-anew-spec =
@@ -107,8 +98,7 @@ take-anew-spec =
     first-side-requires
     side-requires
     returns
-    prepare-requires
-    first-of-way-requires
+    first-helping-requires
     mul-if2
     way-line-requires
     same-length
