@@ -56,31 +56,31 @@ unmarked L = record {
   marked = λ h. absurd (omega (arith, h));
 }
 
-pub already : {a b flags : List ℕ} → Ready a b flags → getD flags 1536 0 ≡ 1 → Prepared a b flags
+pub already : {a b flags : List ℕ} → Ready a b flags → getD flags 1536 0 ≡ 255 → Prepared a b flags
 already R h =
     record { moved = R .moved; most = R .most; room = omega (arith, R .most, R .room); noted = R .marked h }
 
 module _ {a b held : List ℕ} (flags : List ℕ) (R : Ready a b held) (same : length flags ≡ length held)
     (N : Noted a b flags (wayLines a)) where
-  still : Noted a b (set flags 1536 1) (wayLines a)
+  still : Noted a b (set flags 1536 255) (wayLines a)
   still c h =
-      getD-set-other flags 1536 c 1 0 (λ r. omega (arith, R .most)) ∙ N c h
+      getD-set-other flags 1536 c 255 0 (λ r. omega (arith, R .most)) ∙ N c h
 
-  pub now-noted : Ready a b (set flags 1536 1) × Prepared a b (set flags 1536 1)
+  pub now-noted : Ready a b (set flags 1536 255) × Prepared a b (set flags 1536 255)
   now-noted =
-      let l : 1536 < length (set flags 1536 1) = simp length-set (omega (arith, R .room)) in (
+      let l : 1536 < length (set flags 1536 255) = simp length-set (omega (arith, R .room)) in (
         record { moved = R .moved; some = R .some; most = R .most; room = l; marked = λ h. still },
         record { moved = R .moved; most = R .most; room = omega (arith, R .most); noted = still },
       )
 
--- an edge has asked
-pub asked : {a b : List ℕ} (flags : List ℕ) → Ready a b flags → Ready a b (set flags 1536 2)
-asked flags R = record {
+-- an edge asks
+pub asked : {a b : List ℕ} (flags : List ℕ) (f : ℕ) → f < 255 → Ready a b flags → Ready a b (set flags 1536 f)
+asked flags f l R = record {
   moved = R .moved;
   some = R .some;
   most = R .most;
   room = simp length-set (R .room);
-  marked = λ h. let e = getD-set-same flags 1536 2 0 (R .room) in absurd (omega (arith, e, h));
+  marked = λ h. let e = getD-set-same flags 1536 f 0 (R .room) in absurd (omega (arith, e, h, l));
 }
 
 -- ---- used

@@ -58,13 +58,14 @@ pub record Prepared (a b flags : List ℕ) : Type 0 where
   pub room : wayLines a ≤ length flags
   pub noted : Noted a b flags (wayLines a)
 
--- a way of 1 to 256 corners with room for its flags, which stand there once number 1536 is 1; it is 0 until an edge asks for one
+-- a way of 1 to 256 corners with room for its flags, which stand there once number 1536 is 255; below 8 it counts the edges that
+-- asked for them
 pub record Ready (a b flags : List ℕ) : Type 0 where
   pub moved : WayLent a b
   pub some : 0 < length a / 2
   pub most : length a ≤ 512
   pub room : 1536 < length flags
-  pub marked : getD flags 1536 0 ≡ 1 → Noted a b flags (wayLines a)
+  pub marked : getD flags 1536 0 ≡ 255 → Noted a b flags (wayLines a)
 
 -- line c of the way is of use, and the edge from s to t right of it or on it
 unfoldable pub helpful : List ℕ → List ℕ → Spot → Spot → ℕ → Bool

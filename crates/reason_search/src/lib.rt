@@ -196,11 +196,11 @@ fn prepare(a: &[u64], b: &[u64], flags: &mut [u8])
     ensures { λ _. ⌜ Ready (now (a .entry)) (now (b .entry)) (now (flags .exit)) ⌝ }
     ensures { λ _. ⌜ Prepared (now (a .entry)) (now (b .entry)) (now (flags .exit)) ⌝ }
 {
-    if flags[1536] == 1 {
+    if flags[1536] == 255 {
         return;
     }
     note(a, b, flags);
-    flags[1536] = 1;
+    flags[1536] = 255;
 }
 
 // Whether line c of the way is noted, and the edge from s to t right of it or on it.
@@ -257,14 +257,15 @@ fn first_unnoted(a: &[u64], b: &[u64], s: Spot, t: Spot) -> usize
     c
 }
 
-// The same with the notes, but for the first edge that asks: where a move is not clear, it is often the only one.
+// The same, without the notes for the first eight edges that ask, and then with them: most rings ask less often.
 fn first_helping(a: &[u64], b: &[u64], flags: &mut [u8], s: Spot, t: Spot) -> usize
     requires { ⌜ Ready (now a) (now b) (now flags) × Small s × Small t ⌝ }
     ensures { λ r. ⌜ (r ≡ firstOfWay (now (a .entry)) (now (b .entry)) s t) × (r ≤ wayLines (now (a .entry))) ⌝ }
     ensures { λ _. ⌜ Ready (now (a .entry)) (now (b .entry)) (now (flags .exit)) ⌝ }
 {
-    if flags[1536] == 0 {
-        flags[1536] = 2;
+    let asked = flags[1536];
+    if asked < 8 {
+        flags[1536] = asked + 1;
         return first_unnoted(a, b, s, t);
     }
     prepare(a, b, flags);

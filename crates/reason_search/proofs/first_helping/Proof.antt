@@ -1,12 +1,16 @@
--- `reason_search::first_helping` meets its contract: without the notes for the first edge that asks, and then with them. Assumes
+-- `reason_search::first_helping` meets its contract: without the notes for the first edges that ask, and then with them. Assumes
 -- nothing.
+use native.Mathlib.Omega.{arith}
 use borrow.Author.Needs.{needs}
 use Rattle.reason_search.proofs.Flags.{asked}
 use Rattle.reason_search.proofs.first_helping.Statement.{statement}
 use Rattle.reason_search.proofs.first_helping.Tie as tie
 
-slice-read-if1 : tie.Need-slice-read-if1
-slice-read-if1 c = search needs
+slice-read-asked : tie.Need-slice-read-asked
+slice-read-asked c = search needs
+
+add-flags : tie.Need-add-flags
+add-flags c = search needs
 
 slice-write-flags : tie.Need-slice-write-flags
 slice-write-flags c = search needs
@@ -19,8 +23,9 @@ same-length c = search needs
 
 returns : tie.Need-returns
 returns c =
-    let g = c .before .before .before .before .before .before in
-    (c .first-unnoted .ensures, asked (g .args .flags .now) (g .pre .0))
+    let i = c .before in
+    let g = i .before .before .before .before .before in
+    (c .first-unnoted .ensures, asked (g .args .flags .now) _ (omega (arith, i .if1 .taken)) (g .pre .0))
 
 prepare-requires : tie.Need-prepare-requires
 prepare-requires c κs = search needs
@@ -38,7 +43,8 @@ pub first-helping-spec : {M : Type 1} → statement M
 first-helping-spec =
     tie.close
     (tie.spec
-    slice-read-if1
+    slice-read-asked
+    add-flags
     slice-write-flags
     first-unnoted-requires
     same-length
