@@ -3,7 +3,7 @@
 //! that a person reads.
 
 use byrlygent::whole::{
-    check_reason, clear_move, clear_path, Ground, Legs, Line, Move, Point, Reason,
+    check_reason, clear_move, clear_path, Ground, Legs, Line, Move, Point, Reason, Shared,
 };
 use byrlygent::{Entries, List, Refusal};
 
@@ -75,7 +75,7 @@ fn one_line_is_given_where_one_will_do() {
         let neighbour = disc(corners, 15_000.0, 62_000, 15_000);
         let found = reason(&neighbour, &disc(32, 15_000.0, 0, 15_000), (31_000, 0));
         let line = Line { p: (46_000, 0), q: (46_000, 1) };
-        assert_eq!(found.shared(), [(line, (0..corners as usize).collect())]);
+        assert_eq!(found.shared(), [Shared { line, edges: (0..corners as usize).collect() }]);
         assert_eq!(found.to_string(), format!("edges 0-{}: 46000 0 46000 1\n", corners - 1));
     }
     // In a gap as wide as the square there is a line for each wall, and one for its floor.

@@ -57,12 +57,12 @@ impl Reason {
     }
 
     /// Each line once, in the order of the first edge that has it, with all that have it.
-    pub fn shared(&self) -> Vec<(Line, Vec<usize>)> {
-        let mut shared: Vec<(Line, Vec<usize>)> = vec![];
+    pub fn shared(&self) -> Vec<Shared> {
+        let mut shared: Vec<Shared> = vec![];
         for (edge, &line) in self.lines.iter().enumerate() {
-            match shared.iter_mut().find(|(other, _)| *other == line) {
-                Some((_, edges)) => edges.push(edge),
-                None => shared.push((line, vec![edge])),
+            match shared.iter_mut().find(|other| other.line == line) {
+                Some(other) => other.edges.push(edge),
+                None => shared.push(Shared { line, edges: vec![edge] }),
             }
         }
         shared
@@ -81,8 +81,23 @@ impl Reason {
 
 impl fmt::Display for Reason {
     fn fmt(&self, f: &mut fmt::Formatter<'_>) -> fmt::Result {
-        let all = self.shared();
-        all.iter().try_for_each(|(line, edges)| writeln!(f, "edges {}: {line}", ranges(edges)))
+        self.shared().iter().try_for_each(|shared| writeln!(f, "{shared}"))
+    }
+}
+
+/// A line of a reason, with the edges that it parts from the way; it is written with these
+/// as ranges, `edges 0-14, 22: 46000 0 46000 1`.
+#[derive(Debug, Clone, PartialEq, Eq)]
+pub struct Shared {
+    /// The line.
+    pub line: Line,
+    /// The edges, rising.
+    pub edges: Vec<usize>,
+}
+
+impl fmt::Display for Shared {
+    fn fmt(&self, f: &mut fmt::Formatter<'_>) -> fmt::Result {
+        write!(f, "edges {}: {}", ranges(&self.edges), self.line)
     }
 }
 
