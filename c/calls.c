@@ -719,8 +719,10 @@ static void clear_moves(void) {
     CHECK(moved_as(&m, BYR_MOVE_CLEAR, HELD_COUNT, HELD_COUNT, HELD_COUNT, 16));
     CHECK(searched(&m, BLOCK, 8, BESIDE, 8, 0, 9, 20) == 0);
     CHECK(moved_as(&m, BYR_MOVE_CLEAR, HELD_COUNT, HELD_COUNT, HELD_COUNT, 16));
-    /* The right edge's own line, down. */
-    CHECK(m.room[4] == 4 && m.room[5] == 4 && m.room[6] == 4 && m.room[7] == 0);
+    /* One line for all, the left side of the way's box, down. */
+    for (i = 0; i < 16; i += 4) {
+        CHECK(m.room[i] == 4 && m.room[i + 1] == 1 && m.room[i + 2] == 4 && m.room[i + 3] == 0);
+    }
     CHECK(searched(&m, BLOCK, 8, BESIDE, 8, -1, 9, 0) == 0);
     CHECK(moved_as(&m, BYR_MOVE_EDGE, HELD_COUNT, 1, HELD_COUNT, 0));
     CHECK(searched(&m, BLOCK, 8, BLOCK, 8, 0, 0, 20) == 0);

@@ -70,7 +70,7 @@ extern "C" {
  *     if (byr_abi_version() != BYR_ABI_VERSION) { .. header and archive are not of one tree .. }
  *
  * An archive from before there was a number does not link with such a program. */
-#define BYR_ABI_VERSION 4
+#define BYR_ABI_VERSION 5
 
 /* The interface of the archive. This function itself stays as it is. */
 uint32_t byr_abi_version(void);
@@ -316,9 +316,11 @@ uint32_t byr_whole_signed_area2(const int32_t *ring, size_t n, int64_t *area2, u
  * ground, a BYR_MOVE_: with BYR_MOVE_CLEAR the room's front holds the reason, p.x, p.y,
  * q.x and q.y for each stationary edge; with BYR_MOVE_EDGE edge is the first that no
  * line tried parts from the way; with BYR_MOVE_ENCLOSED every edge is parted, and the
- * lines do not balance. The lines tried for an edge are, in this order, the edge's own,
- * and for each orbiting vertex the edge to the next at the start, that edge at the end,
- * and the vertex's own way, each there and back; the first that parts is taken.
+ * lines do not balance. The lines tried for an edge are, in this order, that of the edge
+ * before; the sides of the way's box, from x, y to X, Y: right X 0 X 1, top 1 Y 0 Y,
+ * left x 1 x 0, bottom 0 y 1 y; each orbiting vertex's own way, there and back; each
+ * orbiting edge, at the start there and back, then at the end; and the edge's own, there
+ * and back. The first that parts is taken, so one line may serve many edges.
  *
  * Refusals: 1, 8, 9; 2, also for a corner out of bounds at the end of the move; 5 where
  * the move is clear and the room holds fewer than 4 numbers an edge. With a refusal the

@@ -76,6 +76,21 @@ impl Way {
     fn lowest(&self) -> i64 {
         self.corners().map(|(_, y)| y).min().expect("a polygon has corners")
     }
+
+    /// The sides of its box, each with the way on its left: right, top, left, bottom.
+    fn sides(&self) -> [Line; 4] {
+        let (mut low, mut high) = (self.start[0], self.start[0]);
+        for (x, y) in self.corners() {
+            low = (low.0.min(x), low.1.min(y));
+            high = (high.0.max(x), high.1.max(y));
+        }
+        [
+            [(high.0, 0), (high.0, 1)],
+            [(1, high.1), (0, high.1)],
+            [(low.0, 1), (low.0, 0)],
+            [(0, low.1), (1, low.1)],
+        ]
+    }
 }
 
 /// Which side of the line p to q the point lies on: above 0 left, below 0 right, 0 on it.
@@ -112,20 +127,23 @@ fn judged(stationary: &[Place], way: &Way, lines: &[Line]) -> Ground {
     }
 }
 
-/// The lines that the search tries for an edge, in their order: the edge's own; then for
-/// each orbiting corner its edge at the start, that edge at the end and its own way; each
-/// there and back.
+/// The lines that the search tries anew for an edge, in their order: the sides of the
+/// way's box; each orbiting corner's own way; each orbiting edge at the start and at the
+/// end; the edge's own. All but the sides there and back.
 fn tried(edge: [Place; 2], way: &Way) -> impl Iterator<Item = Line> + '_ {
-    let corners = edges(&way.start).zip(edges(&way.end));
-    let theirs = corners.flat_map(|(start, end)| [start, end, [start[0], end[0]]]);
-    std::iter::once(edge).chain(theirs).flat_map(|[p, q]| [[p, q], [q, p]])
+    let ways = way.start.iter().zip(&way.end).map(|(&start, &end)| [start, end]);
+    let theirs = edges(&way.start).zip(edges(&way.end)).flat_map(|(start, end)| [start, end]);
+    let through = ways.chain(theirs).chain(std::iter::once(edge));
+    way.sides().into_iter().chain(through.flat_map(|[p, q]| [[p, q], [q, p]]))
 }
 
-/// A line for each edge up to the first that none parts, and the ground.
+/// A line for each edge up to the first that none parts, that of the edge before where it
+/// will do, and the ground.
 fn searched(stationary: &[Place], way: &Way) -> (Vec<Line>, Ground) {
-    let mut lines = Vec::new();
+    let mut lines: Vec<Line> = Vec::new();
     for (place, edge) in edges(stationary).enumerate() {
-        match tried(edge, way).find(|&line| parts(line, way, edge)) {
+        let before = lines.last().copied().into_iter();
+        match before.chain(tried(edge, way)).find(|&line| parts(line, way, edge)) {
             Some(line) => lines.push(line),
             None => return (lines, Ground::Edge(place)),
         }

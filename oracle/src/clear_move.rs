@@ -54,11 +54,31 @@ pub fn printed(input: &[u8]) -> String {
     }
 }
 
-/// What is printed of a reason: a line for each edge.
+/// What is printed of a reason: how many lines there are, and each once, with the edges
+/// that have it.
 fn clear_text(reason: &[i32]) -> String {
-    let line = |n: &[i32]| format!("{} {} {} {}\n", n[0], n[1], n[2], n[3]);
-    let lines: String = reason.chunks_exact(4).map(line).collect();
-    format!("clear\n{lines}")
+    let mut lines: Vec<(&[i32], Vec<usize>)> = vec![];
+    for (edge, line) in reason.chunks_exact(4).enumerate() {
+        match lines.iter_mut().find(|(other, _)| *other == line) {
+            Some((_, edges)) => edges.push(edge),
+            None => lines.push((line, vec![edge])),
+        }
+    }
+    let shown = |(n, edges): &(&[i32], Vec<usize>)| {
+        format!("edges {}: {} {} {} {}\n", ranges(edges), n[0], n[1], n[2], n[3])
+    };
+    let each: String = lines.iter().map(shown).collect();
+    format!("clear lines {}\n{each}", lines.len())
+}
+
+/// Rising numbers, each run of them by its first and its last.
+fn ranges(numbers: &[usize]) -> String {
+    let runs = numbers.chunk_by(|a, b| a + 1 == *b);
+    let shown = |run: &[usize]| match run {
+        [one] => one.to_string(),
+        _ => format!("{}-{}", run[0], run[run.len() - 1]),
+    };
+    runs.map(shown).collect::<Vec<_>>().join(", ")
 }
 
 // ---------------------------------------------------------------------------
@@ -98,6 +118,12 @@ fn squares(x: f64, y: f64) -> [Vec<f64>; 2] {
     [square(4.0), placed(&square(2.0), 1.0, x, y)]
 }
 
+/// A triangle between the wings of a bow tie, where each edge has a line of its own.
+fn between_the_wings(by: Spot) -> Vec<u8> {
+    let bow = vec![0.0, 0.0, 8.0, 8.0, 8.0, 0.0, 0.0, 8.0];
+    input_of(by, &[bow, vec![3.0, 9.0, 5.0, 9.0, 4.0, 6.0]])
+}
+
 /// The input of the gate: a disc slides 31 mm along its neighbour, which it touches.
 pub fn example() -> Vec<u8> {
     input_of((0, 31_000), &[disc_at(0.0, 0.0), disc_at(30_000.0, -15_500.0)])
@@ -112,7 +138,6 @@ fn clear() -> Cases {
     let corner = [placed(&square(4.0), 1.0, -1e6, -1e6), placed(&square(4.0), 1.0, far, -1e6)];
     let part = placed(&square(10.0), 1.0, 0.0, 60.0);
     let wound = [square(12.0), vec![0.0, 0.0, 0.0, 12.0, 12.0, 12.0, 12.0, 0.0]].concat();
-    let bow = vec![0.0, 0.0, 8.0, 8.0, 8.0, 0.0, 0.0, 8.0];
     let large = [placed(&disc(256, 4e5), 1.0, -5e5, 0.0), placed(&disc(256, 4e5), 1.0, 4e5, 0.0)];
     let large = large.map(|ring| ring.iter().map(|x| x.round()).collect::<Vec<f64>>());
     vec![
@@ -122,7 +147,7 @@ fn clear() -> Cases {
         ("slot_one_wider", input_of((1, -60), &[slot(11.0), part])),
         ("third_ring_unused", input_of((9, 9), &[&squares(7.0, 0.0)[..], &[square(3.0)]].concat())),
         ("round_and_back", input_of((1, 1), &[wound, placed(&square(2.0), 1.0, 3.0, 3.0)])),
-        ("between_the_wings", input_of((0, -2), &[bow, vec![3.0, 9.0, 5.0, 9.0, 4.0, 6.0]])),
+        ("between_the_wings", between_the_wings((0, -2))),
         ("from_end_to_end", input_of((0, 1_996_000), &corner)),
         (
             "disc_to_its_neighbour",
@@ -205,40 +230,48 @@ pub fn cases() -> Cases {
 // Spoilt outputs
 // ---------------------------------------------------------------------------
 
-/// The text with one of its lines replaced.
-fn with_line(text: &str, place: usize, line: &str) -> String {
-    let mut lines: Vec<&str> = text.lines().collect();
-    lines[place] = line;
-    lines.join("\n") + "\n"
-}
-
 /// Inputs with outputs that are no reason for them, by their names.
 pub fn spoilt() -> Vec<(&'static str, Vec<u8>, String)> {
-    let input = input_of((0, 9), &squares(4.0, 0.0));
-    let text = printed(&input);
-    let first = text.lines().nth(1).expect("a line for each edge").to_string();
-    let lines: Vec<&str> = text.lines().skip(1).collect();
-    let turned = {
-        let n: Vec<&str> = first.split(' ').collect();
-        [n[2], n[3], n[0], n[1]].join(" ")
+    let slide = |by| input_of(by, &[slot(10.0), placed(&square(10.0), 1.0, 0.0, 60.0)]);
+    let text = "clear lines 3\nedges 0-2: 0 1 0 0\nedges 3, 7: 0 0 1 0\nedges 4-6: 10 0 10 1\n";
+    assert_eq!(printed(&slide((0, -60))), text);
+    // One part of the text replaced by another.
+    let with = |part: &str, other: &str| {
+        assert_eq!(text.matches(part).count(), 1, "{part}");
+        (slide((0, -60)), text.replace(part, other))
     };
-    let own = "clear\n0 0 0 4\n0 4 4 4\n4 4 4 0\n4 0 0 0\n".to_string();
-    let mirrored = "clear\n0 4 0 0\n4 4 0 4\n4 0 4 4\n0 0 4 0\n".to_string();
-    let exchanged = format!("clear\n{}\n{}\n{}\n{}\n", lines[1], lines[2], lines[3], lines[0]);
+    let more = "edges 4-6: 10 0 10 1\nedges 0-2: 0 1 0 0\n";
+    let own =
+        "clear lines 4\nedges 0: 0 0 0 4\nedges 1: 0 4 4 4\nedges 2: 4 4 4 0\nedges 3: 4 0 0 0\n";
+    let mirrored =
+        "clear lines 4\nedges 0: 0 4 0 0\nedges 1: 4 4 0 4\nedges 2: 4 0 4 4\nedges 3: 0 0 4 0\n";
+    let named = |name, (input, text)| (name, input, text);
+    let of = |name, input, text: &str| (name, input, text.to_string());
     vec![
-        ("one_number_off", input.clone(), with_line(&text, 3, "4 4 5 0")),
-        ("one_point_twice", input.clone(), with_line(&text, 2, "9 9 9 9")),
-        ("one_line_turned", input.clone(), with_line(&text, 1, &turned)),
-        ("lines_exchanged", input.clone(), exchanged),
-        ("one_line_missing", input.clone(), text.replacen(&format!("{first}\n"), "", 1)),
-        ("one_line_more", input.clone(), format!("{text}{first}\n")),
-        ("no_reason", input.clone(), "clear\n".to_string()),
-        ("no_number", input.clone(), with_line(&text, 1, "0 0 0 x")),
-        ("another_word", input.clone(), text.replacen("clear", "edge 0", 1)),
-        ("another_move", input_of((-1, 9), &squares(4.0, 0.0)), text),
-        ("not_balanced", input_of((0, 0), &[square(4.0), square(4.0)]), mirrored.clone()),
-        ("not_balanced_within", input_of((1, 1), &squares(1.0, 1.0)), mirrored),
-        ("way_right_of_the_lines", input_of((0, 0), &[square(4.0), square(4.0)]), own),
+        named("one_number_off", with("10 0 10 1", "10 0 11 1")),
+        named("one_point_twice", with("0 0 1 0", "9 9 9 9")),
+        named("one_line_turned", with("0 1 0 0", "0 0 0 1")),
+        named(
+            "lines_exchanged",
+            with(
+                "edges 0-2: 0 1 0 0\nedges 3, 7: 0 0 1 0",
+                "edges 0-2: 0 0 1 0\nedges 3, 7: 0 1 0 0",
+            ),
+        ),
+        named("one_line_missing", with("edges 3, 7: 0 0 1 0\n", "")),
+        named("one_line_more", with("edges 4-6: 10 0 10 1\n", more)),
+        named("edge_left_out", with("edges 4-6", "edges 4-5")),
+        named("edge_listed_twice", with("edges 3, 7", "edges 2-3, 7")),
+        named("edge_past_the_last", with("edges 3, 7", "edges 3, 7-8")),
+        named("range_turned", with("edges 4-6", "edges 6-4")),
+        named("other_number_of_lines", with("clear lines 3", "clear lines 8")),
+        of("no_reason", slide((0, -60)), "clear lines 0\n"),
+        named("no_number", with("10 0 10 1", "10 0 10 x")),
+        named("another_word", with("clear lines 3", "edge 0")),
+        of("another_move", slide((0, -61)), text),
+        of("not_balanced", input_of((0, 0), &[square(4.0), square(4.0)]), mirrored),
+        of("not_balanced_within", input_of((1, 1), &squares(1.0, 1.0)), mirrored),
+        of("way_right_of_the_lines", input_of((0, 0), &[square(4.0), square(4.0)]), own),
     ]
 }
 

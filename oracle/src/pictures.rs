@@ -48,12 +48,20 @@ fn moved(corners: &[i32], by: Spot) -> Vec<i32> {
     corners.chunks_exact(2).flat_map(|p| [p[0] + by.0, p[1] + by.1]).collect()
 }
 
-/// The line through these points, as far as the picture goes and farther.
+/// The line through these points, as far as the picture goes.
 fn line(n: &[i32]) -> String {
-    let (dx, dy) = (n[2] - n[0], n[3] - n[1]);
-    let times = 150_000 / dx.abs().max(dy.abs()) + 1;
-    let end = |times: i32| (n[0] + times * dx, n[1] + times * dy);
-    segment(end(-times), end(times), "line")
+    let [x, y, width, height] = VIEW.map(f64::from);
+    let [px, py, qx, qy] = [n[0], n[1], n[2], n[3]].map(f64::from);
+    // Where the line comes to the frame's sides, counted from p in steps to q.
+    let (mut first, mut last) = (f64::NEG_INFINITY, f64::INFINITY);
+    for (from, step, low, size) in [(px, qx - px, x, width), (py, qy - py, y, height)] {
+        if step != 0.0 {
+            let [a, b] = [(low - from) / step, (low + size - from) / step];
+            (first, last) = (first.max(a.min(b)), last.min(a.max(b)));
+        }
+    }
+    let end = |t: f64| ((px + t * (qx - px)).round() as i32, (py + t * (qy - py)).round() as i32);
+    segment(end(first), end(last), "line")
 }
 
 /// The lines of the reason that parts the way from this ring, no two alike.
@@ -141,7 +149,7 @@ pub fn files() -> Files {
         names.clone(),
         words(
             (-20_000, 39_000),
-            "clear: each line has the way on one side, and an edge on the other",
+            "clear: each line has the way on one side, and edges on the other",
         ),
     ];
     let edge = told(&tab, &start);

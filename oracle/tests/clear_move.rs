@@ -12,24 +12,47 @@ fn of(name: &str) -> String {
     printed(&input)
 }
 
+/// The numbers of a printed reason of so many edges; nothing of what is none.
+fn numbers(text: &str, edges: usize) -> Option<Vec<i32>> {
+    let mut lines = text.lines();
+    let count: usize = lines.next()?.strip_prefix("clear lines ")?.parse().ok()?;
+    let mut reason: Vec<Option<[i32; 4]>> = vec![None; edges];
+    for line in lines.clone() {
+        let (which, words) = line.strip_prefix("edges ")?.split_once(": ")?;
+        let numbers = words.split(' ').map(str::parse).collect::<Result<Vec<i32>, _>>().ok()?;
+        for run in which.split(", ") {
+            let (first, last) = run.split_once('-').unwrap_or((run, run));
+            let [first, last] = [first, last].map(|word| word.parse::<usize>().ok());
+            for edge in first?..=last? {
+                let cell = reason.get_mut(edge)?;
+                if cell.replace(numbers.clone().try_into().ok()?).is_some() {
+                    return None;
+                }
+            }
+        }
+    }
+    let all: Vec<[i32; 4]> = reason.into_iter().collect::<Option<_>>()?;
+    (lines.count() == count).then(|| all.concat())
+}
+
 /// The ground of a printed reason for an input; nothing of what is no reason at all.
 fn judged(input: &[u8], text: &str) -> Option<Ground> {
-    let lines = text.strip_prefix("clear\n")?;
-    let numbers = lines.split_whitespace().map(|word| word.parse::<i32>());
-    let reason: Vec<i32> = numbers.collect::<Result<_, _>>().ok()?;
     let word = |at: usize| i32::from_le_bytes(input[at..at + 4].try_into().expect("a word"));
     let (mut coordinates, mut counts) = ([0.0; 4096], [0; 8]);
     read_book(&input[8..], &mut coordinates, &mut counts, &mut [0; 8]).ok()?;
     let [n, m] = [counts[0], counts[1]].map(|n| 2 * n as usize);
-    let numbers = coordinates.map(|x| x as i32);
-    check_reason(&numbers[..n], &numbers[n..n + m], (word(0), word(4)), &reason).ok()
+    let reason = numbers(text, n / 2)?;
+    let whole = coordinates.map(|x| x as i32);
+    check_reason(&whole[..n], &whole[n..n + m], (word(0), word(4)), &reason).ok()
 }
 
 #[test]
 fn the_cases_end_in_every_way() {
     let first = |text: String| text.lines().next().expect("a line").to_string();
     let ends: BTreeSet<_> = cases().iter().map(|(_, input)| first(printed(input))).collect();
-    for end in ["clear", "enclosed", "refused 2", "refused 7 0", "refused 8 1"] {
+    for end in
+        ["clear lines 1", "clear lines 4", "enclosed", "refused 2", "refused 7 0", "refused 8 1"]
+    {
         assert!(ends.contains(end), "{end}");
     }
     let starting = |with: &str| ends.iter().filter(|end| end.starts_with(with)).count();
@@ -41,7 +64,7 @@ fn what_is_printed_of_a_clear_move_is_its_reason() {
     let mut inputs: Vec<Vec<u8>> = cases().into_iter().map(|(_, input)| input).collect();
     inputs.push(example());
     let texts = inputs.iter().map(|input| (input, printed(input)));
-    let clear: Vec<_> = texts.filter(|(_, text)| text.starts_with("clear\n")).collect();
+    let clear: Vec<_> = texts.filter(|(_, text)| text.starts_with("clear ")).collect();
     assert_eq!(clear.len(), 12);
     for (input, text) in clear {
         assert_eq!(judged(input, &text), Some(Ground::Clear), "{text}");
@@ -74,8 +97,8 @@ fn a_short_input_comes_first_then_the_book_the_rings_and_the_numbers() {
 #[test]
 fn slots_and_discs() {
     for (name, answer) in [
-        ("slot_as_wide", "clear"),
-        ("slot_one_wider", "clear"),
+        ("slot_as_wide", "clear lines 3"),
+        ("slot_one_wider", "clear lines 3"),
         ("slot_one_narrower", "edge 4"),
         ("slot_one_too_deep", "edge 3"),
         ("disc_one_nearer", "edge 15"),
@@ -83,5 +106,6 @@ fn slots_and_discs() {
     ] {
         assert_eq!(of(name).lines().next(), Some(answer), "{name}");
     }
-    assert_eq!(printed(&example()).lines().count(), 33);
+    assert_eq!(printed(&example()), "clear lines 1\nedges 0-31: 15000 1 15000 0\n");
+    assert_eq!(of("round_and_back").lines().nth(1), Some("edges 0, 7: 3 1 3 0"));
 }

@@ -6,7 +6,7 @@
 #![allow(clippy::too_many_arguments)]
 
 /// The interface that is declared here: `BYR_ABI_VERSION` of the header.
-pub const ABI_VERSION: u32 = 4;
+pub const ABI_VERSION: u32 = 5;
 
 /// Panics unless the archive has the interface that is declared here.
 pub fn hold_interface() {

@@ -23,7 +23,7 @@
 
 mod clear;
 
-pub use clear::{check_reason, clear_move, clear_path, Ground, Legs, Line, Move, Reason};
+pub use clear::{check_reason, clear_move, clear_path, Ground, Legs, Line, Move, Reason, Shared};
 
 use crate::refusal::{among, plain};
 use crate::{ffi, Entries, List, Result};

@@ -3,7 +3,7 @@
 //! that a person reads.
 
 use byrlygent::whole::{
-    check_reason, clear_move, clear_path, Ground, Legs, Line, Move, Point, Reason,
+    check_reason, clear_move, clear_path, Ground, Legs, Line, Move, Point, Reason, Shared,
 };
 use byrlygent::{Entries, List, Refusal};
 
@@ -62,6 +62,29 @@ fn moves_are_clear_or_not() {
     }
 }
 
+/// A disc of so many corners about this point.
+fn disc(corners: u32, radius: f64, x: i32, y: i32) -> Vec<Point> {
+    let angle = |i: u32| std::f64::consts::TAU * f64::from(i) / f64::from(corners);
+    let at = |x: i32, part: f64| x + (radius * part).round() as i32;
+    (0..corners).map(|i| (at(x, angle(i).cos()), at(y, angle(i).sin()))).collect()
+}
+
+#[test]
+fn one_line_is_given_where_one_will_do() {
+    for corners in [32, 256] {
+        let neighbour = disc(corners, 15_000.0, 62_000, 15_000);
+        let found = reason(&neighbour, &disc(32, 15_000.0, 0, 15_000), (31_000, 0));
+        let line = Line { p: (46_000, 0), q: (46_000, 1) };
+        assert_eq!(found.shared(), [Shared { line, edges: (0..corners as usize).collect() }]);
+        assert_eq!(found.to_string(), format!("edges 0-{}: 46000 0 46000 1\n", corners - 1));
+    }
+    // In a gap as wide as the square there is a line for each wall, and one for its floor.
+    let block = [(-9, 0), (0, 0), (0, 9), (4, 9), (4, 0), (20, 0), (20, 20), (-9, 20)];
+    let found = reason(&block, &square(4, 0, -4), (0, 9));
+    let words = "edges 0-1, 7: 0 1 0 0\nedges 2, 6: 1 9 0 9\nedges 3-5: 4 0 4 1\n";
+    assert_eq!(found.to_string(), words);
+}
+
 #[test]
 fn a_lent_reason_is_judged_line_by_line() {
     let (s, beside) = (square(4, 0, 0), square(4, 4, 0));
@@ -81,7 +104,7 @@ fn a_lent_reason_is_judged_line_by_line() {
     assert_eq!(own.check(&s, &s, (0, 0)), Ok(Ground::Enclosed));
     assert_eq!(own.check(&s, &square(2, 1, 1), (1, 1)), Ok(Ground::Enclosed));
     assert_eq!(own.check(&s, &square(2, 1, 1), (1, 2)), Ok(Ground::Edge(2)));
-    // One line for all edges will do, and is none of the search.
+    // The line that the search takes for all edges, by other points.
     let one = Reason { lines: vec![Line { p: (4, M), q: (4, -M) }; 4] };
     assert_eq!(one.check(&s, &beside, (0, 9)), Ok(Ground::Clear));
 }
@@ -185,8 +208,8 @@ fn grounds_have_the_numbers_of_the_library_and_words() {
 }
 
 #[test]
-fn a_reason_is_written_a_line_to_an_edge() {
+fn a_reason_is_written_with_the_edges_of_each_line() {
     let line = |p, q| Line { p, q };
     let reason = Reason { lines: vec![line((0, -1), (M, 7)), line((-M, 0), (3, 4))] };
-    assert_eq!(reason.to_string(), "0 -1 1000000 7\n-1000000 0 3 4\n");
+    assert_eq!(reason.to_string(), "edges 0: 0 -1 1000000 7\nedges 1: -1000000 0 3 4\n");
 }

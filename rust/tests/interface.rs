@@ -9,7 +9,7 @@ use std::{env, fs};
 const ARCHIVE: &str = env!("BYRLYGENT_ARCHIVE");
 
 /// The interface that this package is written for.
-const OWN: u32 = 4;
+const OWN: u32 = 5;
 
 /// Runs a command that must succeed.
 fn done(program: &str, words: &[&str]) {

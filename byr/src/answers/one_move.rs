@@ -6,7 +6,7 @@ use crate::grid::Grid;
 use crate::walk::{Verdict, Walk};
 use crate::Result;
 use byrlygent::nfp_sliding::{explain_collision, CollisionEvent, ContactType, Explanation, Ground};
-use byrlygent::whole::{self, Line, Move};
+use byrlygent::whole::{self, Line, Move, Shared};
 use byrlygent::Point;
 
 /// A move, and both answers.
@@ -35,14 +35,6 @@ pub struct Way {
     pub by: Point,
     /// What the numbers of both are.
     pub numbers: Numbers,
-}
-
-/// A line of a reason, with the edges that it parts from the way.
-pub struct Parting {
-    /// The line.
-    pub line: Line,
-    /// The edges, rising.
-    pub edges: Vec<usize>,
 }
 
 impl OneMove {
@@ -93,16 +85,12 @@ impl OneMove {
         }
     }
 
-    /// The lines of the reason, each once.
-    pub fn partings(&self) -> Vec<Parting> {
-        let mut all: Vec<Parting> = Vec::new();
-        for (edge, line) in self.lines().unwrap_or_default().iter().enumerate() {
-            match all.iter_mut().find(|parting| parting.line == *line) {
-                Some(parting) => parting.edges.push(edge),
-                None => all.push(Parting { line: *line, edges: vec![edge] }),
-            }
+    /// The lines of the reason, each once with the edges that it parts from the way.
+    pub fn partings(&self) -> Vec<Shared> {
+        match &self.found {
+            Move::Clear(reason) => reason.shared(),
+            _ => Vec::new(),
         }
-        all
     }
 
     /// The disc's corners on the grid, at the start and at the end.

@@ -3,8 +3,7 @@
 
 use crate::answers::one_move::OneMove;
 use crate::plain;
-use crate::words::one_move::parting;
-use byrlygent::whole::{Line, Point};
+use byrlygent::whole::{Line, Point, Shared};
 
 /// A reason, with what it is the reason for.
 pub struct ByHand<'a> {
@@ -93,7 +92,7 @@ impl<'a> ByHand<'a> {
         [
             (
                 format!("The reason, {lines} for {edges}: p.x p.y q.x q.y"),
-                partings.iter().map(parting).collect(),
+                partings.iter().map(Shared::to_string).collect(),
             ),
             ("The carrier's corners: edge 0 leads from 0 to 1".into(), corners(self.carrier)),
             ("The disc's corners at the start".into(), corners(&self.start)),

@@ -2,7 +2,7 @@
 
 use super::legs::{basis, verdict};
 use super::moved::{self, Telling};
-use crate::answers::one_move::{OneMove, Parting};
+use crate::answers::one_move::OneMove;
 use crate::plain;
 use crate::told::Line;
 use crate::walk::Verdict;
@@ -43,24 +43,10 @@ fn reason(of: &OneMove, lines: bool) -> Vec<Line> {
         "of each line, from p to q, the disc's way lies left or on it, and these edges right or on \
          it (p.x p.y q.x q.y in units)",
     );
-    [first, how].into_iter().chain(partings.iter().map(parting).map(Line::detail)).collect()
-}
-
-/// A line with the edges that it parts, those that follow each other by the first and the last.
-pub fn parting(parting: &Parting) -> String {
-    let mut runs: Vec<(usize, usize)> = Vec::new();
-    for &edge in &parting.edges {
-        match runs.last_mut() {
-            Some((_, last)) if *last + 1 == edge => *last = edge,
-            _ => runs.push((edge, edge)),
-        }
-    }
-    let run = |&(first, last): &(usize, usize)| match first == last {
-        true => first.to_string(),
-        false => format!("{first}-{last}"),
-    };
-    let runs: Vec<String> = runs.iter().map(run).collect();
-    format!("edges {}: {}", runs.join(", "), parting.line)
+    [first, how]
+        .into_iter()
+        .chain(partings.iter().map(|shared| Line::detail(shared.to_string())))
+        .collect()
 }
 
 /// What the rule says.

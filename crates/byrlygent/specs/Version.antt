@@ -2,4 +2,4 @@
 use Prim.Native.Nat.{ℕ}
 
 abbrev pub abiVersion : ℕ
-abiVersion = 4
+abiVersion = 5

@@ -3,7 +3,7 @@ ghost use mathlib.Core.Path.{_≡_};
 ghost use Rattle.byrlygent.specs.Version.{abiVersion};
 
 // The interface of this archive. It is raised by each change of an exported function's parameters or of what it returns.
-const ABI_VERSION: u32 = 4;
+const ABI_VERSION: u32 = 5;
 
 // The interface's number. This function itself stays as it is.
 #[no_mangle]

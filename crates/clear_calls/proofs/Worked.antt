@@ -16,8 +16,8 @@ use Rattle.reasons.specs.Lowest.{lower, lowSpot}
 use Rattle.reasons.specs.First.{firstFrom}
 use Rattle.reasons.specs.Check as found
 use Rattle.reasons.specs.Check.{clear, edge, enclosed, balance, groundOf}
-use Rattle.reason_search.specs.Lines.{sixth, wayLine, lineOf}
-use Rattle.reason_search.specs.Search.{firstLine, reached, searchOf}
+use Rattle.reason_search.specs.Lines.{boxLow, boxHigh, boxLine, eitherWay, wayLine, lineOf}
+use Rattle.reason_search.specs.Search.{firstLine, onward, lineAt, reached, searchOf}
 use Rattle.reason_search.specs.Room.{linesTo}
 use Rattle.clear_calls.specs.Rows.{ofWholeMove, ofReason}
 use Rattle.clear_calls.specs.Calls.{shortFor, writtenFor, clearMoveCall, clearMoveRoom, checkReasonCall}
@@ -34,6 +34,10 @@ abbrev lines : (a b c d : ℤ) → List ℤ → List ℤ
 lines a b c d rest =
     pos 4 ∷ pos 0 ∷ pos 0 ∷ pos 0 ∷ pos 4 ∷ pos 0 ∷ pos 4 ∷ pos 4 ∷ pos 4 ∷ pos 4 ∷ pos 0 ∷ pos 4 ∷ a ∷ b ∷ c ∷ d ∷ rest
 
+-- the line that the search takes for every edge, the top of the way's box, and then what follows
+abbrev top : List ℤ → List ℤ
+top rest = pos 1 ∷ pos 0 ∷ pos 0 ∷ pos 0 ∷ rest
+
 -- a room of 15 numbers, and then what follows
 abbrev room : List ℤ → List ℤ
 room rest =
@@ -42,25 +46,25 @@ room rest =
 -- ---- `clear_move`
 
 slide : clearMoveCall S Q (pos 2) (pos 0) 16 ≡ answers clear
-unfolding ofWholeMove allInBounds movedBy upOf shortFor searchOf reached firstLine lineOf wayLine sixth found.judged balance firstFrom parts wayLeft edgeRight differ leftOn rightOn each lowSpot lower marksUp marksDown mark
+unfolding ofWholeMove allInBounds movedBy upOf shortFor searchOf reached lineAt onward firstLine lineOf wayLine eitherWay boxLine boxLow boxHigh found.judged balance firstFrom parts wayLeft edgeRight differ leftOn rightOn each lowSpot lower marksUp marksDown mark
 slide = refl
 
 -- the lines, and the last number of the room as it was
-slide-reason : clearMoveRoom S Q (pos 2) (pos 0) (room (pos 7 ∷ pos 7 ∷ [])) ≡ lines (pos 0) (pos 4) (pos 0) (pos 0) (pos 7 ∷ [])
-unfolding ofWholeMove allInBounds movedBy upOf shortFor writtenFor linesTo searchOf reached firstLine lineOf wayLine sixth found.judged balance firstFrom parts wayLeft edgeRight differ leftOn rightOn each lowSpot lower marksUp marksDown mark
+slide-reason : clearMoveRoom S Q (pos 2) (pos 0) (room (pos 7 ∷ pos 7 ∷ [])) ≡ top (top (top (top (pos 7 ∷ []))))
+unfolding ofWholeMove allInBounds movedBy upOf shortFor writtenFor linesTo searchOf reached lineAt onward firstLine lineOf wayLine eitherWay boxLine boxLow boxHigh found.judged balance firstFrom parts wayLeft edgeRight differ leftOn rightOn each lowSpot lower marksUp marksDown mark
 slide-reason = refl
 
 one-short : clearMoveCall S Q (pos 2) (pos 0) 15 ≡ refuses (refuse 5 0)
-unfolding ofWholeMove allInBounds movedBy upOf shortFor searchOf reached firstLine lineOf wayLine sixth found.judged balance firstFrom parts wayLeft edgeRight differ leftOn rightOn each lowSpot lower marksUp marksDown mark
+unfolding ofWholeMove allInBounds movedBy upOf shortFor searchOf reached lineAt onward firstLine lineOf wayLine eitherWay boxLine boxLow boxHigh found.judged balance firstFrom parts wayLeft edgeRight differ leftOn rightOn each lowSpot lower marksUp marksDown mark
 one-short = refl
 
 one-short-kept : clearMoveRoom S Q (pos 2) (pos 0) (room []) ≡ room []
-unfolding ofWholeMove allInBounds movedBy upOf shortFor writtenFor searchOf reached firstLine lineOf wayLine sixth found.judged balance firstFrom parts wayLeft edgeRight differ leftOn rightOn each lowSpot lower marksUp marksDown mark
+unfolding ofWholeMove allInBounds movedBy upOf shortFor writtenFor searchOf reached lineAt onward firstLine lineOf wayLine eitherWay boxLine boxLow boxHigh found.judged balance firstFrom parts wayLeft edgeRight differ leftOn rightOn each lowSpot lower marksUp marksDown mark
 one-short-kept = refl
 
 -- no room is asked for where it is not clear
 blocked : clearMoveCall S Q (pos 0) (pos 2) 0 ≡ answers (edge 0)
-unfolding ofWholeMove allInBounds movedBy upOf shortFor searchOf reached firstLine lineOf wayLine sixth found.judged balance firstFrom parts wayLeft edgeRight differ leftOn rightOn each lowSpot lower marksUp marksDown mark
+unfolding ofWholeMove allInBounds movedBy upOf shortFor searchOf reached lineAt onward firstLine lineOf wayLine eitherWay boxLine boxLow boxHigh found.judged balance firstFrom parts wayLeft edgeRight differ leftOn rightOn each lowSpot lower marksUp marksDown mark
 blocked = refl
 
 -- a corner of Q is moved to (1,000,001, 0)

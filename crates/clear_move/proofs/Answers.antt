@@ -1,10 +1,10 @@
 -- What is said of the call's answer: the reason stands at the front of the room, and its lines don't depend on what follows there.
 -- Assumes nothing.
-use Prim.Native.Nat.{ℕ, zero, suc, _+_, _*_, _/_, _≤_}
+use Prim.Native.Nat.{ℕ, _+_, _*_, _/_, _≤_}
 use native.Mathlib.Omega.{arith}
 use mathlib.Core.Path.{_≡_, refl, ap, _∙_}
 use mathlib.Core.Bool.{Bool, true, false, cond}
-use mathlib.Core.List.{List, _∷_, _++_, map}
+use mathlib.Core.List.{List, _++_, map}
 use lib.ListN.{length, drop, replicate, length-map, length-replicate, List·getD-append}
 use lib.IntN.{ℤ, pos}
 use Rattle.refusals.specs.Refusals.{passed}
@@ -16,8 +16,10 @@ use Rattle.reasons.specs.Check.{Ground, clear, edge, enclosed}
 use Rattle.reason_search.specs.Room.{linesTo}
 use Rattle.reason_search.proofs.Laying.{length-lines}
 use Rattle.clear_calls.specs.Calls.{foundOf, reasonOf, ofClearMove, clearMoveCall, writtenFor, clearMoveRoom}
-use Rattle.clear_move.specs.Lines.{reasonLine, reasonLines, groundText, judgedText}
+use Rattle.clear_move.specs.Shared.{owner}
+use Rattle.clear_move.specs.Lines.{reasonLine, groundText, judgedText}
 use Rattle.clear_move.specs.Said.{roomSize, pairText}
+use Rattle.clear_move.proofs.Alike.{text-same, owner-front}
 
 module _ (ls rest : List ℤ) where
   line-front : (j : ℕ) → 4 * j + 4 ≤ length ls → reasonLine (ls ++ rest) j ≡ reasonLine ls j
@@ -30,15 +32,12 @@ module _ (ls rest : List ℤ) where
         List·getD-append ls rest (pos 0) (4 * j + 3) (omega arith),
       )
 
-  lines-front : (m : ℕ) → 4 * m ≤ length ls → reasonLines (ls ++ rest) m ≡ reasonLines ls m
-  unfolding reasonLines
-  lines-front zero h = refl
-  lines-front (suc m) h = rw (lines-front m (omega arith), line-front m (omega arith))
-
 ground-said : (g : Ground) (ls room : List ℤ) (m : ℕ) → 4 * m ≤ length ls
     → groundText g (writtenFor g ls room) m ≡ groundText g ls m
 unfolding groundText writtenFor
-ground-said clear ls room m h = ap (λ (l : List ℕ). 99 ∷ 108 ∷ 101 ∷ 97 ∷ 114 ∷ 10 ∷ l) (lines-front ls (drop (length ls) room) m h)
+ground-said clear ls room m h =
+    let rest = drop (length ls) room in
+    text-same (owner (ls ++ rest)) (owner ls) m (owner-front ls rest m h) (ls ++ rest) ls (λ j l. line-front ls rest j (omega arith))
 ground-said (edge j) ls room m h = refl
 ground-said enclosed ls room m h = refl
 

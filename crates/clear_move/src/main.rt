@@ -2,6 +2,7 @@
 // then a book whose first ring is the stationary polygon and whose second is the orbiting one, at the start; all coordinates are
 // whole.
 mod say;
+mod shared;
 
 use book_layout::BOOK_MOST;
 use book_layout::NUMBERS_MOST;
@@ -39,12 +40,12 @@ const POLYGON_MOST: usize = 512;
 
 const REASON_MOST: usize = 1024;
 
-// Bytes of the longest text: a heading, and 256 lines of at most 88 bytes.
-const TEXT_MOST: usize = 23000;
+// Bytes of the longest text: a heading, 256 lines of at most 96 bytes, and 22 for each edge.
+const TEXT_MOST: usize = 31000;
 
 // What is printed for two polygons and a move.
 fn put_pair(stationary: &[i32], orbiting: &[i32], dx: i32, dy: i32, out: &mut [u8]) -> usize
-    requires { ⌜ (length (now stationary) ≤ 512) × (23000 ≤ length (now out)) ⌝ }
+    requires { ⌜ (length (now stationary) ≤ 512) × (31000 ≤ length (now out)) ⌝ }
     ensures { λ r.
         ⌜ Put (now (out .entry)) 0 (pairText (now (stationary .entry)) (now (orbiting .entry)) dx dy) (now (out .exit)) r ⌝ }
 {
@@ -57,7 +58,7 @@ fn put_pair(stationary: &[i32], orbiting: &[i32], dx: i32, dy: i32, out: &mut [u
 fn put_polygons(stationary: &[f64], orbiting: &[f64], dx: i32, dy: i32, out: &mut [u8]) -> usize
     requires { ⌜ (length (now stationary) ≤ 512) × (coordinates (now stationary) ≡ true) ⌝ }
     requires { ⌜ (length (now orbiting) ≤ 512) × (coordinates (now orbiting) ≡ true) ⌝ }
-    requires { ⌜ 23000 ≤ length (now out) ⌝ }
+    requires { ⌜ 31000 ≤ length (now out) ⌝ }
     ensures { λ r.
         ⌜ Put (now (out .entry)) 0 (pairText (wholes (now (stationary .entry))) (wholes (now (orbiting .entry))) dx dy)
         (now (out .exit)) r ⌝ }
@@ -72,7 +73,7 @@ fn put_polygons(stationary: &[f64], orbiting: &[f64], dx: i32, dy: i32, out: &mu
 // The same for the first n vertices of a list and the m after them.
 fn put_two(xs: &[f64], n: usize, m: usize, dx: i32, dy: i32, out: &mut [u8]) -> usize
     requires { ⌜ (n ≤ verticesMost) × (m ≤ verticesMost) × (2 * n + 2 * m ≤ length (now xs)) ⌝ }
-    requires { ⌜ (coordinates (now xs) ≡ true) × (23000 ≤ length (now out)) ⌝ }
+    requires { ⌜ (coordinates (now xs) ≡ true) × (31000 ≤ length (now out)) ⌝ }
     ensures { λ r.
         ⌜ Put (now (out .entry)) 0
         (pairText (wholes (firstPart (now (xs .entry)) n)) (wholes (secondPart (now (xs .entry)) n m)) dx dy) (now (out .exit)) r ⌝ }
@@ -93,7 +94,7 @@ fn put_rings(
     out: &mut [u8],
 ) -> usize
     requires { ⌜ (n ≤ verticesMost) × (m ≤ verticesMost) × (2 * n + 2 * m ≤ length (now xs)) ⌝ }
-    requires { ⌜ (coordinates (now xs) ≡ true) × (23000 ≤ length (now out)) ⌝ }
+    requires { ⌜ (coordinates (now xs) ≡ true) × (31000 ≤ length (now out)) ⌝ }
     ensures { λ r.
         ⌜ Put (now (out .entry)) 0
         (ringsText rings (now (xs .entry)) (firstPart (now (xs .entry)) n) (secondPart (now (xs .entry)) n m) dx dy)
@@ -111,7 +112,7 @@ fn put_rings(
 
 // What is printed for a book. What the room holds beyond the book's numbers is 0, and whole.
 fn put_book(book: &[u8], dx: i32, dy: i32, out: &mut [u8]) -> usize
-    requires { ⌜ 23000 ≤ length (now out) ⌝ }
+    requires { ⌜ 31000 ≤ length (now out) ⌝ }
     ensures { λ r. ⌜ Put (now (out .entry)) 0 (bookText (now (book .entry)) dx dy) (now (out .exit)) r ⌝ }
 {
     let mut room = [0.0; NUMBERS_MOST];
@@ -133,7 +134,7 @@ fn put_book(book: &[u8], dx: i32, dy: i32, out: &mut [u8]) -> usize
 
 // What is printed for an input. What is too short for the move is refused before any book.
 fn put_input(input: &[u8], out: &mut [u8]) -> usize
-    requires { ⌜ 23000 ≤ length (now out) ⌝ }
+    requires { ⌜ 31000 ≤ length (now out) ⌝ }
     ensures { λ r. ⌜ Put (now (out .entry)) 0 (inputText (now (input .entry))) (now (out .exit)) r ⌝ }
 {
     if input.len() < MOVE_BYTES {

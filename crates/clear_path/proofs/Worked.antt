@@ -15,8 +15,8 @@ use Rattle.reasons.specs.Parting.{leftOn, rightOn, wayLeft, edgeRight, differ, 
 use Rattle.reasons.specs.Lowest.{lower, lowSpot}
 use Rattle.reasons.specs.First.{firstFrom}
 use Rattle.reasons.specs.Check.{balance, judged}
-use Rattle.reason_search.specs.Lines.{sixth, wayLine, lineOf}
-use Rattle.reason_search.specs.Search.{firstLine, reached, searchOf}
+use Rattle.reason_search.specs.Lines.{boxLow, boxHigh, boxLine, eitherWay, wayLine, lineOf}
+use Rattle.reason_search.specs.Search.{firstLine, onward, lineAt, reached, searchOf}
 use Rattle.clear_path.specs.Rows.{ofWholePath}
 use Rattle.clear_path.specs.Path.{legFound, orElse, firstLeg}
 use Rattle.clear_path.specs.Calls.{clearPathCall}
@@ -30,18 +30,18 @@ R = pos 0 ∷ pos 0 ∷ pos 3 ∷ pos 0 ∷ pos 3 ∷ pos 1 ∷ pos 0 ∷ pos 1 
 
 -- (1, -1), (1, 1), (-3, 1), (-3, -1)
 round-it : clearPathCall S R (pos 1 ∷ negsuc 0 ∷ pos 1 ∷ pos 1 ∷ negsuc 2 ∷ pos 1 ∷ negsuc 2 ∷ negsuc 0 ∷ []) ≡ answers Clear
-unfolding ofWholePath allInBounds movedBy upOf each firstLeg orElse legFound searchOf reached firstLine lineOf wayLine sixth judged balance firstFrom parts wayLeft edgeRight differ leftOn rightOn lowSpot lower marksUp marksDown mark
+unfolding ofWholePath allInBounds movedBy upOf each firstLeg orElse legFound searchOf reached lineAt onward firstLine lineOf wayLine eitherWay boxLine boxLow boxHigh judged balance firstFrom parts wayLeft edgeRight differ leftOn rightOn lowSpot lower marksUp marksDown mark
 round-it = refl
 
 -- from (-2, 1) straight down to (-2, -1)
 through-it : clearPathCall S R (pos 1 ∷ negsuc 0 ∷ pos 1 ∷ pos 1 ∷ negsuc 1 ∷ pos 1 ∷ negsuc 1 ∷ negsuc 0 ∷ []) ≡ answers (Edge 2 0)
-unfolding ofWholePath allInBounds movedBy upOf each firstLeg orElse legFound searchOf reached firstLine lineOf wayLine sixth judged balance firstFrom parts wayLeft edgeRight differ leftOn rightOn lowSpot lower marksUp marksDown mark
+unfolding ofWholePath allInBounds movedBy upOf each firstLeg orElse legFound searchOf reached lineAt onward firstLine lineOf wayLine eitherWay boxLine boxLow boxHigh judged balance firstFrom parts wayLeft edgeRight differ leftOn rightOn lowSpot lower marksUp marksDown mark
 through-it = refl
 
 -- from the last point to the first
 through-it-at-last : clearPathCall S R (negsuc 1 ∷ negsuc 0 ∷ pos 1 ∷ negsuc 0 ∷ pos 1 ∷ pos 1 ∷ negsuc 1 ∷ pos 1 ∷ [])
     ≡ answers (Edge 3 0)
-unfolding ofWholePath allInBounds movedBy upOf each firstLeg orElse legFound searchOf reached firstLine lineOf wayLine sixth judged balance firstFrom parts wayLeft edgeRight differ leftOn rightOn lowSpot lower marksUp marksDown mark
+unfolding ofWholePath allInBounds movedBy upOf each firstLeg orElse legFound searchOf reached lineAt onward firstLine lineOf wayLine eitherWay boxLine boxLow boxHigh judged balance firstFrom parts wayLeft edgeRight differ leftOn rightOn lowSpot lower marksUp marksDown mark
 through-it-at-last = refl
 
 -- R a million further left: the path's own numbers are not bounded
@@ -51,12 +51,12 @@ far = negsuc 999999 ∷ pos 0 ∷ negsuc 999996 ∷ pos 0 ∷ negsuc 999996 ∷ 
 from-afar : clearPathCall S far
     (pos 1000001 ∷ negsuc 0 ∷ pos 1000001 ∷ pos 1 ∷ pos 999997 ∷ pos 1 ∷ pos 999997 ∷ negsuc 0 ∷ [])
     ≡ answers Clear
-unfolding ofWholePath allInBounds movedBy upOf each firstLeg orElse legFound searchOf reached firstLine lineOf wayLine sixth judged balance firstFrom parts wayLeft edgeRight differ leftOn rightOn lowSpot lower marksUp marksDown mark
+unfolding ofWholePath allInBounds movedBy upOf each firstLeg orElse legFound searchOf reached lineAt onward firstLine lineOf wayLine eitherWay boxLine boxLow boxHigh judged balance firstFrom parts wayLeft edgeRight differ leftOn rightOn lowSpot lower marksUp marksDown mark
 from-afar = refl
 
 -- S on itself, and no move
 on-its-equal : clearPathCall S S (pos 0 ∷ pos 0 ∷ pos 0 ∷ pos 0 ∷ pos 0 ∷ pos 0 ∷ []) ≡ answers (Enclosed 0)
-unfolding ofWholePath allInBounds movedBy upOf each firstLeg orElse legFound searchOf reached firstLine lineOf wayLine sixth judged balance firstFrom parts wayLeft edgeRight differ leftOn rightOn lowSpot lower marksUp marksDown mark
+unfolding ofWholePath allInBounds movedBy upOf each firstLeg orElse legFound searchOf reached lineAt onward firstLine lineOf wayLine eitherWay boxLine boxLow boxHigh judged balance firstFrom parts wayLeft edgeRight differ leftOn rightOn lowSpot lower marksUp marksDown mark
 on-its-equal = refl
 
 two-points : clearPathCall S R (pos 1 ∷ negsuc 0 ∷ pos 1 ∷ pos 1 ∷ []) ≡ refuses (refuse 8 2)

@@ -98,7 +98,7 @@ pub fn parts(a: &[u64], b: &[u64], s: Spot, t: Spot, p: Spot, q: Spot) -> bool
 }
 
 // The smaller of two numbers.
-fn smaller(x: u64, y: u64) -> u64
+pub fn smaller(x: u64, y: u64) -> u64
     ensures { λ r. ⌜ r ≡ min x y ⌝ }
 {
     if y < x { y } else { x }

@@ -18,11 +18,11 @@ use Rattle.reasons.specs.Parting.{parts}
 use Rattle.reasons.specs.Lowest.{lowest}
 use Rattle.reasons.specs.Check.{clear, edge, enclosed, balance, judged, groundOf, corner, lineFrom, lineTo}
 use Rattle.reasons.specs.Check.{balanceAt, partsAt, checkOf}
-use Rattle.reasons.proofs.First.{first-most, first-passes, none-first}
+use Rattle.reasons.proofs.First.{first-most, none-first}
 use Rattle.reasons.proofs.Exactly.{judged-clear, clear-judged}
-use Rattle.reason_search.specs.Search.{tried, firstLine, lineAt, reached, searchOf}
+use Rattle.reason_search.specs.Search.{tried, lineAt, isParted, reached, searchOf}
 use Rattle.reason_search.specs.Room.{numbers, linesTo, roomOf}
-use Rattle.reason_search.proofs.Firsts.{test}
+use Rattle.reason_search.proofs.Firsts.{test, none-parts, onward-lost}
 use Rattle.reason_search.proofs.Laying.{length-lines, lined}
 
 -- ---- the lines in the room
@@ -124,13 +124,9 @@ module _ (st a b d : List ℕ) {room : List ℕ} (is : room ≡ roomOf st a b d)
     all-edges = let h : reached st a b ≤ 0 + length st / 2 = first-most _ 0 _ in omega (arith, told .0)
 
     edge-parted : (j : ℕ) → j < length st / 2 → partsAt st a b room j ≡ true
-    unfolding firstLine
     edge-parted j l =
-        let s = corner st j in
-        let t = corner st (suc j) in
         let r : j < reached st a b = omega (arith, told .0) in
-        by-line s t (from-room st a b d is j r) (to-room st a b d is j r)
-        (first-passes (test a b s t) 0 (tried a) (omega (arith, lined st a b j r)))
+        by-line (corner st j) (corner st (suc j)) (from-room st a b d is j r) (to-room st a b d is j r) (lined st a b j r)
 
     pub search-checked : checkOf st a b room ≡ clear
     unfolding groundOf
@@ -138,3 +134,14 @@ module _ (st a b d : List ℕ) {room : List ℕ} (is : room ≡ roomOf st a b d)
         let m = length st / 2 in
         let h = none-first (λ j. not (partsAt st a b room j)) 0 m (λ j k l. ap not (edge-parted j (omega arith))) in
         clear-judged m _ _ (omega arith) (even-room (told .0) ∙ told .1)
+
+-- ---- an edge that its line does not part is parted by no line that is tried
+
+pub lost-edge : (st a b : List ℕ) (j : ℕ) → isParted st a b j ≡ false
+    → (k : ℕ) → k < tried a → test a b (corner st j) (corner st (suc j)) k ≡ false
+unfolding lineAt
+lost-edge st a b zero h = none-parts a b (corner st 0) (corner st 1) h
+lost-edge st a b (suc j) h =
+    let s = corner st (suc j) in
+    let t = corner st (suc (suc j)) in
+    none-parts a b s t (onward-lost a b s t (lineAt st a b j) h)

@@ -1,4 +1,5 @@
 -- The modules of laws.
+pub mod Boxes
 pub mod WayLines
 pub mod Flags
 pub mod Firsts

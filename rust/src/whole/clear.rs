@@ -27,15 +27,15 @@ impl fmt::Display for Line {
 /// the move. Of the edges whose line rises, `p.1 < q.1`, as many come up through the
 /// way's lowest height, from it or below to above it, as go down.
 ///
-/// It is written a line to an edge, the four numbers in decimal, and anyone can check it
-/// with turns of whole numbers alone.
+/// One line may serve many edges. It is written once, with the edges that it parts, its
+/// four numbers in decimal, and anyone can check it with turns of whole numbers alone.
 ///
 /// ```
 /// use byrlygent::whole::{clear_move, Move};
 ///
 /// let [plate, tool] = [[(0, 0), (4, 0), (0, 3)], [(4, 0), (6, 0), (6, 2)]];
 /// let Move::Clear(reason) = clear_move(&plate, &tool, (0, 9))? else { panic!("it is clear") };
-/// assert_eq!(reason.to_string(), "0 0 4 0\n0 3 4 0\n0 3 0 0\n");
+/// assert_eq!(reason.to_string(), "edges 0-2: 4 1 4 0\n");
 /// # Ok::<(), byrlygent::Refusal>(())
 /// ```
 #[derive(Debug, Clone, PartialEq, Eq)]
@@ -56,6 +56,18 @@ impl Reason {
         self.lines.iter().flat_map(|&Line { p, q }| [p.0, p.1, q.0, q.1]).collect()
     }
 
+    /// Each line once, in the order of the first edge that has it, with all that have it.
+    pub fn shared(&self) -> Vec<Shared> {
+        let mut shared: Vec<Shared> = vec![];
+        for (edge, &line) in self.lines.iter().enumerate() {
+            match shared.iter_mut().find(|other| other.line == line) {
+                Some(other) => other.edges.push(edge),
+                None => shared.push(Shared { line, edges: vec![edge] }),
+            }
+        }
+        shared
+    }
+
     /// Whether it holds for this move: [`check_reason`].
     pub fn check(
         &self,
@@ -69,8 +81,40 @@ impl Reason {
 
 impl fmt::Display for Reason {
     fn fmt(&self, f: &mut fmt::Formatter<'_>) -> fmt::Result {
-        self.lines.iter().try_for_each(|line| writeln!(f, "{line}"))
+        self.shared().iter().try_for_each(|shared| writeln!(f, "{shared}"))
     }
+}
+
+/// A line of a reason, with the edges that it parts from the way; it is written with these
+/// as ranges, `edges 0-14, 22: 46000 0 46000 1`.
+#[derive(Debug, Clone, PartialEq, Eq)]
+pub struct Shared {
+    /// The line.
+    pub line: Line,
+    /// The edges, rising.
+    pub edges: Vec<usize>,
+}
+
+impl fmt::Display for Shared {
+    fn fmt(&self, f: &mut fmt::Formatter<'_>) -> fmt::Result {
+        write!(f, "edges {}: {}", ranges(&self.edges), self.line)
+    }
+}
+
+/// Rising numbers as ranges: `0-14, 22`.
+fn ranges(numbers: &[usize]) -> String {
+    let mut runs: Vec<[usize; 2]> = vec![];
+    for &number in numbers {
+        match runs.last_mut() {
+            Some([_, last]) if *last + 1 == number => *last = number,
+            _ => runs.push([number; 2]),
+        }
+    }
+    let run = |[first, last]: &[usize; 2]| match first == last {
+        true => first.to_string(),
+        false => format!("{first}-{last}"),
+    };
+    runs.iter().map(run).collect::<Vec<_>>().join(", ")
 }
 
 /// What comes of a reason that is lent.

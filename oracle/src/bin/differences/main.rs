@@ -2,10 +2,12 @@
 //! for each function how often the answers differ and a smallest input where
 //! they do, and then what the text itself is seen to do. `differences moves` prints the
 //! last part alone: what the exact answer to whole moves tells of the rule.
+//! `differences lines` prints how many lines the reasons of clear moves have.
 
 mod answers;
 mod findings;
 mod inputs;
+mod lines;
 mod mirrors;
 mod moves;
 mod paths;
@@ -91,10 +93,11 @@ fn report(groups: &[Vec<Input>; 3], other: fn(&Function) -> Answer) {
 }
 
 fn main() {
-    // What the exact answer tells of the rule, alone, if asked for.
-    if std::env::args().nth(1).as_deref() == Some("moves") {
-        moves::print();
-        return;
+    // One part alone, if asked for.
+    match std::env::args().nth(1).as_deref() {
+        Some("moves") => return moves::print(),
+        Some("lines") => return lines::print(),
+        _ => {}
     }
     let groups = [inputs::numbers(), inputs::rings(), inputs::pairs()];
     println!("Traces take at most {PASSES} passes; far is by more than 1e-9.");

@@ -31,17 +31,37 @@ fn either(way: &Way, edge: [Spot; 2], [p, q]: Line) -> Option<Line> {
     [[p, q], [q, p]].into_iter().find(|&line| parts(way, edge, line))
 }
 
-/// The first line of the search that parts an edge.
-fn line_for(way: &Way, edge: [Spot; 2]) -> Option<Line> {
+/// The sides of the way's box, each with the way on its left.
+fn sides(way: &Way) -> [Line; 4] {
+    let (mut low, mut high) = (way.start[0], way.start[0]);
+    for &(x, y) in way.start.iter().chain(&way.end) {
+        low = (low.0.min(x), low.1.min(y));
+        high = (high.0.max(x), high.1.max(y));
+    }
+    let across = |y, from, to| [(from, y), (to, y)];
+    let upward = |x, from, to| [(x, from), (x, to)];
+    [upward(high.0, 0, 1), across(high.1, 1, 0), upward(low.0, 1, 0), across(low.1, 0, 1)]
+}
+
+/// Whether the edge is right of a line that has the way on its left.
+fn is_right(edge: [Spot; 2], line: Line) -> bool {
+    side(line, edge[0]) <= 0 && side(line, edge[1]) <= 0
+}
+
+/// The first line of the search that parts an edge, but for the line before.
+fn line_for(way: &Way, sides: &[Line; 4], edge: [Spot; 2]) -> Option<Line> {
     let n = way.start.len();
-    either(way, edge, edge).or_else(|| {
-        (0..n).find_map(|i| {
-            let next = if i + 1 < n { i + 1 } else { 0 };
-            either(way, edge, [way.start[i], way.start[next]])
-                .or_else(|| either(way, edge, [way.end[i], way.end[next]]))
-                .or_else(|| either(way, edge, [way.start[i], way.end[i]]))
+    let next = |i| if i + 1 < n { i + 1 } else { 0 };
+    let beside = sides.iter().copied().find(|&line| is_right(edge, line));
+    beside
+        .or_else(|| (0..n).find_map(|i| either(way, edge, [way.start[i], way.end[i]])))
+        .or_else(|| {
+            (0..n).find_map(|i| {
+                either(way, edge, [way.start[i], way.start[next(i)]])
+                    .or_else(|| either(way, edge, [way.end[i], way.end[next(i)]]))
+            })
         })
-    })
+        .or_else(|| either(way, edge, edge))
 }
 
 /// The edge of a ring with this index.
@@ -74,8 +94,11 @@ pub fn check(ring: &[Spot], way: &Way, lines: &[Line]) -> (u32, u64) {
 /// The ground of a move, with the lines that were found.
 pub fn search(ring: &[Spot], way: &Way, lines: &mut Vec<Line>) -> (u32, u64) {
     lines.clear();
+    let sides = sides(way);
     for j in 0..ring.len() {
-        match line_for(way, edge(ring, j)) {
+        let edge = edge(ring, j);
+        let before = lines.last().copied().filter(|&line| is_right(edge, line));
+        match before.or_else(|| line_for(way, &sides, edge)) {
             Some(line) => lines.push(line),
             None => return (1, j as u64),
         }
