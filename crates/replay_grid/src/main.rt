@@ -39,6 +39,29 @@ fn integers(n: usize) -> [i32; 20100]
     list
 }
 
+// The same of a few words.
+fn few_floats(n: usize) -> [f64; 80]
+    requires { ⌜ n ≤ 80 ⌝ }
+    ensures { λ r. ⌜ 80 ≡ length r ⌝ }
+{
+    let mut words = [0u8; 640];
+    let mut list = [0.0; 80];
+    read(&mut words, 8 * n);
+    load(&words, n, &mut list);
+    list
+}
+
+fn few_integers(n: usize) -> [i32; 80]
+    requires { ⌜ n ≤ 80 ⌝ }
+    ensures { λ r. ⌜ 80 ≡ length r ⌝ }
+{
+    let mut words = [0u8; 640];
+    let mut list = [0i32; 80];
+    read(&mut words, 8 * n);
+    load_integers(&words, n, &mut list);
+    list
+}
+
 // Whether an answer is what the record says: the refusal's number and its place, how many points were written.
 fn told(answer: Count, header: &[u8; 48]) -> bool {
     match answer {
@@ -65,10 +88,23 @@ fn put(header: &[u8; 48], list: &[f64], n: usize, room: &mut [i32], rn: usize) -
     to_grid::calls::to_grid(&list[..n], units, &mut room[..rn])
 }
 
-// One record past its header.
-fn agrees(header: &[u8; 48]) -> bool {
-    let n = list_length(header, 0, 20100);
-    let rn = list_length(header, 16, 20100);
+// A record of few numbers past its header, and one of any number: most are short, and arrays for the longest take their time.
+fn few_agree(header: &[u8; 48], n: usize, rn: usize) -> bool
+    requires { ⌜ (n ≤ 80) × (rn ≤ 80) ⌝ }
+{
+    let list = few_floats(n);
+    let mut room = few_integers(rn);
+    let left = few_integers(rn);
+    if told(put(header, &list, n, &mut room, rn), header) {
+        same_integers(&room, &left, rn)
+    } else {
+        false
+    }
+}
+
+fn agree(header: &[u8; 48], n: usize, rn: usize) -> bool
+    requires { ⌜ (n ≤ 20100) × (rn ≤ 20100) ⌝ }
+{
     let list = floats(n);
     let mut room = integers(rn);
     let left = integers(rn);
@@ -77,6 +113,18 @@ fn agrees(header: &[u8; 48]) -> bool {
     } else {
         false
     }
+}
+
+// One record past its header.
+fn agrees(header: &[u8; 48]) -> bool {
+    let n = list_length(header, 0, 20100);
+    let rn = list_length(header, 16, 20100);
+    if n <= 80 {
+        if rn <= 80 {
+            return few_agree(header, n, rn);
+        }
+    }
+    agree(header, n, rn)
 }
 
 // One record: read, worked out and compared.
