@@ -1,42 +1,51 @@
--- Where the check says `clear` of what floats were put on, the picture of the floats themselves, exactly, is apart but for three
--- units: E is half a unit, a stationary corner is off by E at most, and an orbiting one, its start and the move, by E + E.
--- Assumes nothing.
+-- Where the check says `clear` of what floats were put on, the picture of the floats themselves, exactly, is apart but for 3 + 2 * w
+-- units: E is half a unit, a stationary corner is off by E at most, and an orbiting one, put w units aside, by its own half, that
+-- of its position and w units. Assumes nothing.
 use Prim.Native.Nat.{ℕ, _+_, _*_, _/_, _<_}
 use native.Mathlib.Omega.{arith}
 use mathlib.Core.Path.{_≡_, sym, subst, _∙_}
 use mathlib.Core.List.{List, map}
-use lib.ListN.{length, length-map}
+use lib.ListN.{length}
+use lib.IntN.{ℤ}
 use lib.Ieee.{Float}
 use Rattle.shifted.specs.Shifted.{upOf}
-use Rattle.whole_moves.specs.Moved.{movedUp}
-use Rattle.whole_moves.proofs.Turns.{moved-up-length}
 use Rattle.reasons.specs.Check.{clear, checkOf}
-use Rattle.drawn.specs.Told.{NearList, ApartBy}
+use Rattle.drawn.specs.Told.{ApartBy}
 use Rattle.drawn.proofs.Told.{drawn-apart}
 use Rattle.to_grid.specs.Grid.{nearest}
-use Rattle.drawn_floats.specs.Picture.{Picture, Fits}
+use Rattle.drawn_floats.specs.Picture.{Exactly, Placed, placed, Aside, Picture, PutOn}
 use Rattle.drawn_floats.proofs.Off.{off-grid}
-use Rattle.drawn_floats.proofs.Lists.{all-grid, all-moved, near-list}
+use Rattle.drawn_floats.proofs.Lists.{AllOff, all-grid, all-placed, all-aside, pictured-length, placed-length}
+use Rattle.drawn_floats.proofs.Lists.{same-length, near-list}
 
-wider : {K E : ℕ} {xs ys : List ℕ} → NearList K E xs ys → NearList K (E + E) xs ys
-wider r = record { same = r .same; each = λ i l. let m = r .each i l in omega arith }
+module _ {E n w : ℕ} {xs ys : List Float} {fx fy tx ty : Float} {ring c d : List ℕ} {a b : List ℤ}
+    (v : Picture E n xs ys fx fy tx ty ring c d) (g : PutOn n w xs ys fx fy tx ty a b) where
+  -- the corners at a position, put aside
+  off-at : (px py : Float) (U W : ℕ) (Zs : List ℕ) (bs : List ℤ) → Exactly E n px U → Exactly E n py W
+      → Placed E U W (v .corners) Zs → Aside w (placed n ys px py) bs → AllOff (2 * E) (E + E + 2 * E * w) bs Zs
+  off-at px py U W Zs bs ex ey m h =
+      all-aside (2 * E) (E + E) w (placed n ys px py) bs Zs h
+      (all-placed E E E (nearest n px) (nearest n py) U W (map (nearest n) ys) (v .corners) Zs
+      (off-grid E n px U ex) (off-grid E n py W ey) (all-grid E n ys (v .corners) (v .orbiting)) m)
 
-module _ {E n : ℕ} {xs ys : List Float} {mx my : Float} {ring c d : List ℕ} (w : Picture E n xs ys mx my ring c d)
-    (f : Fits n xs ys mx my) where
-  pub floats-apart : (ls : List ℕ)
-      → checkOf (map upOf (map (nearest n) xs)) (map upOf (map (nearest n) ys))
-      (movedUp (map (nearest n) ys) (nearest n mx) (nearest n my)) ls ≡ clear
-      → ApartBy (6 * E) ring c d
+  starts-off : AllOff (2 * E) (E + E + 2 * E * w) a c
+  starts-off = off-at fx fy (v .from-x) (v .from-y) c a (v .from-across) (v .from-upward) (v .starts) (g .starts)
+
+  ends-off : AllOff (2 * E) (E + E + 2 * E * w) b d
+  ends-off = off-at tx ty (v .to-x) (v .to-y) d b (v .to-across) (v .to-upward) (v .ends) (g .ends)
+
+  pub floats-apart : (ls : List ℕ) → checkOf (map upOf (map (nearest n) xs)) (map upOf a) (map upOf b) ls ≡ clear
+      → ApartBy ((3 + 2 * w) * (2 * E)) ring c d
   floats-apart ls found =
-      let orb = map (nearest n) ys in
-      let starts = all-grid E n ys c (w .orbiting) in
-      let rings = near-list (2 * E) E (map (nearest n) xs) ring (f .ring-within) (all-grid E n xs ring (w .stationary)) in
-      let from = wider (near-list (2 * E) E orb c (f .starts-within) starts) in
-      let to = near-list (2 * E) (E + E) _ d (f .ends-within)
-      (all-moved E E E (nearest n mx) (nearest n my) (w .U) (w .W) orb c d
-      (off-grid E n mx (w .U) (w .across)) (off-grid E n my (w .W) (w .upward)) starts (w .moved)) in
-      let long = moved-up-length orb (nearest n mx) (nearest n my) ∙ sym (length-map orb upOf) in
-      let some : 0 < length (map upOf orb) / 2 =
-      omega (arith, f .some, length-map orb upOf, length-map ys (nearest n)) in
-      let e : 2 * (E + (E + E)) ≡ 6 * E = omega arith in
+      let F = E + E + 2 * E * w in
+      let rings = near-list (2 * E) E (map (nearest n) xs) ring (g .ring-within) (all-grid E n xs ring (v .stationary)) in
+      let from = near-list (2 * E) F a c (g .starts-within) starts-off in
+      let to = near-list (2 * E) F b d (g .ends-within) ends-off in
+      let la = same-length (2 * E) F a c starts-off in
+      let lb = same-length (2 * E) F b d ends-off in
+      let lc = placed-length E (v .from-x) (v .from-y) (v .corners) c (v .starts) in
+      let ld = placed-length E (v .to-x) (v .to-y) (v .corners) d (v .ends) in
+      let long : length (map upOf b) ≡ length (map upOf a) = sym lb ∙ ld ∙ sym lc ∙ la in
+      let some : 0 < length (map upOf a) / 2 = omega (arith, g .some, la, lc, pictured-length E n ys (v .corners) (v .orbiting)) in
+      let e : 2 * (E + F) ≡ (3 + 2 * w) * (2 * E) = omega arith in
       subst (λ (D : ℕ). ApartBy D ring c d) e (drawn-apart rings from to long ls some found)

@@ -1,17 +1,17 @@
 -- The definitions say something: a square that slides up beside a ring by (0.25, 2.25), drawn in quarters, on a grid of whole
 -- numbers. Drawn they overlap by half a unit and more; the middle of the square, half-way, is 4 units deep inside, and by the
 -- theorem outside the ring.
-use Prim.Native.Nat.{ℕ, zero, suc}
+use Prim.Native.Nat.{ℕ, zero, suc, _≤_}
 use native.Mathlib.Omega.{arith}
 use mathlib.Core.Path.{_≡_, refl}
 use mathlib.Core.Bool.{false}
 use mathlib.Core.List.{List, [], _∷_, map}
-use lib.IntN.{pos, negsuc}
+use lib.IntN.{ℤ, pos, negsuc, _+ℤ_}
 use lib.Ieee.{Float, fin}
 use Rattle.ring.specs.Each.{each}
 use Rattle.shifted.specs.Shifted.{upOf}
 use Rattle.whole_engine.specs.Rows.{allInBounds}
-use Rattle.whole_moves.specs.Moved.{movedBy, movedUp}
+use Rattle.whole_moves.specs.Moved.{movedBy}
 use Rattle.reasons.specs.Hull.{total, sumX, sumY}
 use Rattle.reasons.specs.Moves.{legsFrom, starts, ends}
 use Rattle.reasons.specs.Crossing.{crosses, ups, downs}
@@ -23,7 +23,7 @@ use Rattle.reasons.specs.Check.{clear, balance, judged, groundOf, corner, check
 use Rattle.reasons.specs.Drawn.{DeepAt}
 use Rattle.drawn.specs.Told.{legsOf, ApartBy}
 use Rattle.to_grid.specs.Grid.{nearest}
-use Rattle.drawn_floats.specs.Picture.{Picture, Fits}
+use Rattle.drawn_floats.specs.Picture.{sizeOf, Picture, PutOn}
 use Rattle.drawn_floats.proofs.Told.{floats-apart}
 
 -- ---- the floats
@@ -45,9 +45,31 @@ ys =
 
 -- ---- on the grid
 
-fits : Fits 1 xs ys (quarters 1) (quarters 9)
+-- where they are drawn, and at the end
+abbrev zero-float : Float
+zero-float = fin false 0 (pos 0)
+
+abbrev start : List ℤ
+start = pos 22 ∷ pos 8 ∷ pos 30 ∷ pos 8 ∷ pos 30 ∷ pos 16 ∷ pos 22 ∷ pos 16 ∷ []
+
+abbrev end : List ℤ
+end = pos 22 ∷ pos 10 ∷ pos 30 ∷ pos 10 ∷ pos 30 ∷ pos 18 ∷ pos 22 ∷ pos 18 ∷ []
+
+-- nothing aside
+none : (z : ℤ) → z ≡ z +ℤ pos 0 → (u : ℤ) × (sizeOf u ≤ 0) × (z ≡ z +ℤ u)
+none z e = (pos 0, omega arith, e)
+
+put : PutOn 1 0 xs ys zero-float zero-float (quarters 1) (quarters 9) start end
 unfolding allInBounds nearest movedBy
-fits = record { some = omega arith; ring-within = refl; starts-within = refl; ends-within = refl }
+put =
+    record {
+      some = omega arith;
+      starts = (none _ refl, (none _ refl, (none _ refl, (none _ refl, (none _ refl, (none _ refl, (none _ refl, (none _ refl, tt))))))));
+      ends = (none _ refl, (none _ refl, (none _ refl, (none _ refl, (none _ refl, (none _ refl, (none _ refl, (none _ refl, tt))))))));
+      ring-within = refl;
+      starts-within = refl;
+      ends-within = refl;
+    }
 
 -- the line x = 30, for each edge
 abbrev ls : List ℕ
@@ -55,37 +77,42 @@ ls =
     1000030 ∷ 1000006 ∷ 1000030 ∷ 1000014 ∷ 1000030 ∷ 1000006 ∷ 1000030 ∷ 1000014 ∷ 1000030 ∷ 1000006 ∷ 1000030 ∷ 1000014
     ∷ 1000030 ∷ 1000006 ∷ 1000030 ∷ 1000014 ∷ []
 
-checked : checkOf (map upOf (map (nearest 1) xs)) (map upOf (map (nearest 1) ys))
-    (movedUp (map (nearest 1) ys) (nearest 1 (quarters 1)) (nearest 1 (quarters 9))) ls ≡ clear
+checked : checkOf (map upOf (map (nearest 1) xs)) (map upOf start) (map upOf end) ls ≡ clear
 unfolding groundOf judged firstFrom parts differ wayLeft edgeRight leftOn rightOn each balance marksUp marksDown mark lowSpot lower
-    upOf nearest movedBy
+    upOf nearest
 checked = refl
 
 -- ---- the picture, in quarters of a unit
 
 abbrev ring : List ℕ
-ring = 4000119 ∷ 4000025 ∷ 4000135 ∷ 4000025 ∷ 4000135 ∷ 4000057 ∷ 4000119 ∷ 4000057 ∷ []
+ring = 8000119 ∷ 8000025 ∷ 8000135 ∷ 8000025 ∷ 8000135 ∷ 8000057 ∷ 8000119 ∷ 8000057 ∷ []
 
 abbrev c : List ℕ
-c = 4000089 ∷ 4000032 ∷ 4000121 ∷ 4000032 ∷ 4000121 ∷ 4000064 ∷ 4000089 ∷ 4000064 ∷ []
+c = 8000089 ∷ 8000032 ∷ 8000121 ∷ 8000032 ∷ 8000121 ∷ 8000064 ∷ 8000089 ∷ 8000064 ∷ []
 
 abbrev d : List ℕ
-d = 4000090 ∷ 4000041 ∷ 4000122 ∷ 4000041 ∷ 4000122 ∷ 4000073 ∷ 4000090 ∷ 4000073 ∷ []
+d = 8000090 ∷ 8000041 ∷ 8000122 ∷ 8000041 ∷ 8000122 ∷ 8000073 ∷ 8000090 ∷ 8000073 ∷ []
 
-picture : Picture 2 1 xs ys (quarters 1) (quarters 9) ring c d
+picture : Picture 2 1 xs ys zero-float zero-float (quarters 1) (quarters 9) ring c d
 picture =
     record {
-      U = 4000001;
-      W = 4000009;
+      corners = c;
+      from-x = 8000000;
+      from-y = 8000000;
+      to-x = 8000001;
+      to-y = 8000009;
       stationary = omega arith;
       orbiting = omega arith;
-      across = omega arith;
-      upward = omega arith;
-      moved = omega arith;
+      from-across = omega arith;
+      from-upward = omega arith;
+      to-across = omega arith;
+      to-upward = omega arith;
+      starts = omega arith;
+      ends = omega arith;
     }
 
 apart : ApartBy 12 ring c d
-apart = floats-apart picture fits ls checked
+apart = floats-apart picture put ls checked
 
 -- ---- a point deep inside
 
@@ -95,7 +122,7 @@ four p q r s (suc zero) = q
 four p q r s (suc (suc zero)) = r
 four p q r s (suc (suc (suc i))) = s
 
-middle : DeepAt 12 (legsOf c d) 1 1 2 16000422 16000210
+middle : DeepAt 12 (legsOf c d) 1 1 2 32000422 32000210
 unfolding legsFrom starts ends total sumX sumY
 middle =
     record {
@@ -113,10 +140,10 @@ middle =
       far = omega arith;
     }
 
-so : ups (corner ring) 4 4 16000422 16000210 ≡ downs (corner ring) 4 4 16000422 16000210
-so = apart .outside 1 1 2 16000422 16000210 middle
+so : ups (corner ring) 4 4 32000422 32000210 ≡ downs (corner ring) 4 4 32000422 32000210
+so = apart .outside 1 1 2 32000422 32000210 middle
 
 -- one edge crosses upwards, and so one downwards
-once : ups (corner ring) 4 4 16000422 16000210 ≡ 1
+once : ups (corner ring) 4 4 32000422 32000210 ≡ 1
 unfolding ups crosses
 once = refl

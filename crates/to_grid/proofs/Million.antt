@@ -2,7 +2,7 @@
 -- and that a float is compared with it. Assumes nothing.
 use Prim.Native.Nat.{ℕ, suc, _+_, _*_, _-_, _/_, _%_, _^_, _≤_, _<_}
 use native.Mathlib.Omega.{arith}
-use native.Mathlib.Nat.{le-of-eq, le-trans, lt-of-not-le, not-le-of-lt, lt-of-le-of-lt, lt-of-lt-of-le, le-of-lt, le-of-mul-le-mul-right}
+use native.Mathlib.Nat.{le-of-eq, le-trans, lt-of-not-le, not-le-of-lt, lt-of-le-of-lt, lt-of-lt-of-le, le-of-mul-le-mul-right}
 use native.Mathlib.Nat.{mod-lt, mod-eq-of-lt, div-add-mod, div-le-self, mul-pos, mul-assoc, mul-le-mul-left, mul-le-mul-right}
 use native.Mathlib.Nat.{lt-of-mul-lt-mul-right, mul-lt-mul-of-pos-right}
 use mathlib.Core.Path.{_≡_, refl, sym, ap, subst, _∙_}
@@ -10,7 +10,7 @@ use mathlib.Core.Logic.{inl, inr}
 use mathlib.Core.Bool.{Bool, true, false, _&&_, true≢false}
 use lib.Count.{leadingZeros, leading-top}
 use lib.Dec.{T, leb}
-use lib.Pow.{pow-add, pow-mono, pow-pos, shl-lt}
+use lib.Pow.{pow-add, pow-mono, pow-pos}
 use lib.Ieee.{Float, nan, inf, fin, binary64, up, down, fits, le, lt, eq, neg, ofBits, toBits}
 use lib.Ieee.Fits.{down-pos}
 use lib.Ieee.Exact.{HasValue}

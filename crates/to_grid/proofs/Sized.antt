@@ -2,7 +2,7 @@
 -- nothing.
 use Prim.Native.Nat.{ℕ, zero, suc, _+_, _*_, _-_, _/_, _%_, _^_, _≤_, _<_}
 use native.Mathlib.Omega.{arith}
-use native.Mathlib.Nat.{le-trans, lt-of-not-le, lt-irrefl, lt-of-lt-of-le, le-of-mul-le-mul-right, mul-le-mul-right, mul-comm}
+use native.Mathlib.Nat.{le-trans, lt-of-not-le, lt-irrefl, lt-of-lt-of-le, le-of-mul-le-mul-right, mul-le-mul-right}
 use mathlib.Core.Path.{_≡_, refl, sym, ap, ap₂, subst, _∙_}
 use mathlib.Core.Logic.{inl, inr}
 use mathlib.Core.Bool.{Bool, true, false, true≢false}
@@ -22,8 +22,8 @@ use Rattle.square_root.specs.Nearest.{val}
 use Rattle.square_root.proofs.Numbers.{lt-or-le}
 use Rattle.square_root.proofs.Values.{val-low, val-high, val-at, val-mono}
 use Rattle.refusals.specs.Bounds.{coordinate}
-use Rattle.to_grid.specs.Grid.{signed, nearestTo, nearest, IsNearest, OnGrid, fitsGrid}
-use Rattle.to_grid.proofs.Rounding.{rounded, rounded-only, nearest-most, nearest-same}
+use Rattle.to_grid.specs.Grid.{signed, nearestTo, nearest, OnGrid, fitsGrid}
+use Rattle.to_grid.proofs.Rounding.{rounded, nearest-most, nearest-same}
 
 -- ---- by its pattern
 

@@ -2,11 +2,11 @@
 -- fits.
 use mathlib.Core.Path.{_≡_, refl}
 use mathlib.Core.Bool.{true, false}
-use mathlib.Core.List.{List, [], _∷_}
-use lib.IntN.{ℤ, pos, negsuc}
+use mathlib.Core.List.{[], _∷_}
+use lib.IntN.{pos, negsuc}
 use lib.Ieee.{Float, binary64, ofBits}
 use Rattle.refusals.specs.Bounds.{coordinate, every}
-use Rattle.refusals.specs.Refusals.{refusedLength, refusedNumber, refusedSetting, refusedFit, refusedGrid, refuse}
+use Rattle.refusals.specs.Refusals.{refusedLength, refusedSetting, refusedFit, refusedGrid, refuse}
 use Rattle.refusals.specs.Answers.{answers, refuses}
 use Rattle.to_grid.specs.Grid.{nearest, fitsGrid}
 use Rattle.to_grid.specs.Calls.{gridNumbers, ofGrid, toGridRefusal, toGridCall, toGridRoom}

@@ -1,5 +1,5 @@
 -- `to_grid::calls::lent` meets its contract: the numbers are read only where the list has no fault. Assumes nothing.
-use mathlib.Core.Path.{sym, _∙_}
+use mathlib.Core.Path.{_∙_}
 use borrow.Author.Needs.{needs}
 use Rattle.to_grid.proofs.Screened.{lent-on, lent-off}
 use Rattle.to_grid.proofs.calls.lent.Statement.{statement}
