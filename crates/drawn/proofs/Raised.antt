@@ -1,4 +1,4 @@
--- A reason stays one where so much more is added to every coordinate: no side of a line changes, no mean, and no height against
+-- What the lines of a reason part, and how they balance, stays as it is where so much more is added to every coordinate: no side of a line changes, no mean, and no height against
 -- another. Assumes nothing.
 use Prim.Native.Nat.{ℕ, zero, suc, _+_, _*_, _≤_, _<_}
 use native.Mathlib.Omega.{arith}
@@ -11,7 +11,7 @@ use Rattle.shifted.specs.declared.Spot.{Spot}
 use Rattle.reasons.specs.Sides.{AllLeft}
 use Rattle.reasons.specs.Hull.{total, sumX, sumY, InHull}
 use Rattle.reasons.specs.Moves.{legsFrom, way}
-use Rattle.reasons.specs.Reason.{Parted, mark, marksUp, marksDown, Reason}
+use Rattle.reasons.specs.Reason.{Parted, mark, marksUp, marksDown, AllParted}
 use Rattle.drawn.specs.Told.{raised}
 
 -- in numbers: the line goes through (a, b) and (c, e), and the point is (x, y)
@@ -75,17 +75,17 @@ module _ (d : ℕ) where
   same-mark m p q s t = rw (same-ltb (p .y) (q .y), same-ltb m (s .y), same-ltb m (t .y))
 
   module _ (p q s : ℕ → Spot) (m : ℕ) where
-    same-up : (n : ℕ) → marksUp (m + d) (λ j. raised d (p j)) (λ j. raised d (q j)) (λ j. raised d (s j)) n ≡ marksUp m p q s n
+    pub same-up : (n : ℕ) → marksUp (m + d) (λ j. raised d (p j)) (λ j. raised d (q j)) (λ j. raised d (s j)) n ≡ marksUp m p q s n
     unfolding marksUp
     same-up zero = refl
     same-up (suc n) = ap₂ _+_ (same-up n) (same-mark m (p n) (q n) (s n) (s (suc n)))
 
-    same-down : (n : ℕ) → marksDown (m + d) (λ j. raised d (p j)) (λ j. raised d (q j)) (λ j. raised d (s j)) n ≡ marksDown m p q s n
+    pub same-down : (n : ℕ) → marksDown (m + d) (λ j. raised d (p j)) (λ j. raised d (q j)) (λ j. raised d (s j)) n ≡ marksDown m p q s n
     unfolding marksDown
     same-down zero = refl
     same-down (suc n) = ap₂ _+_ (same-down n) (same-mark m (p n) (q n) (s (suc n)) (s n))
 
-  -- ---- a reason
+  -- ---- the lines
 
   parted : {vs : List Spot} {s t p q : Spot} → Parted vs s t p q
       → Parted (map (raised d) vs) (raised d s) (raised d t) (raised d p) (raised d q)
@@ -97,15 +97,14 @@ module _ (d : ℕ) where
         second = sides (q .x) (q .y) (p .x) (p .y) (t .x) (t .y) d (h .second);
       }
 
-  pub reason : {vs : List Spot} {low : Spot} {s p q : ℕ → Spot} {n : ℕ} → Reason vs low s p q n
-      → Reason (map (raised d) vs) (raised d low) (λ j. raised d (s j)) (λ j. raised d (p j)) (λ j. raised d (q j)) n
-  reason {vs} {low} {s} {p} {q} {n} r =
+  pub all-parted : {vs : List Spot} {low : Spot} {s p q : ℕ → Spot} {n : ℕ} → AllParted vs low s p q n
+      → AllParted (map (raised d) vs) (raised d low) (λ j. raised d (s j)) (λ j. raised d (p j)) (λ j. raised d (q j)) n
+  all-parted {vs} {low} r =
       record {
         closed = ap (raised d) (r .closed);
         parted = λ j h. parted (r .parted j h);
         among = in-hull vs (low .x) (low .y) (r .among);
         lowest = all-over (low .y) vs (r .lowest);
-        balanced = same-up p q s (low .y) n ∙ r .balanced ∙ sym (same-down p q s (low .y) n);
       }
 
   -- the way of raised corners

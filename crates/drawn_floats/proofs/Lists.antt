@@ -52,7 +52,7 @@ placed-length E U W (X ∷ Xs) (Z ∷ Zs) h = ap suc (placed-length E W U Xs Zs 
 -- ---- the points of their lists
 
 module _ (K F : ℕ) where
-  pub same-length : (zs : List ℤ) (Xs : List ℕ) → AllOff K F zs Xs → length Xs ≡ length (map upOf zs)
+  same-length : (zs : List ℤ) (Xs : List ℕ) → AllOff K F zs Xs → length Xs ≡ length (map upOf zs)
   same-length [] [] r = refl
   same-length (z ∷ zs) (X ∷ Xs) r = ap suc (same-length zs Xs (r .1))
 
