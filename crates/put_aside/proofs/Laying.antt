@@ -16,7 +16,8 @@ use Rattle.ring.proofs.Emit.{emit2}
 use Rattle.shifted.specs.Shifted.{spotAt, Small}
 use Rattle.shifted.specs.declared.Spot.{Spot}
 use Rattle.put_aside.specs.Middle.{middleOf}
-use Rattle.put_aside.specs.Aside.{widthOf, wayOf, ruleOf, cornerBy, spots, putSpot, onGrid, asideBy, stayBy, staysOn, roomOf, Ruled}
+use Rattle.put_aside.specs.Aside.{widthOf, wayOf, ruleOf, cornerBy, spots, putSpot, onGrid, asideBy}
+use Rattle.put_aside.specs.Aside.{stayBy, staysOn, roomOf, Ruled}
 use Rattle.put_aside.specs.declared.Rule.{Rule}
 
 -- ---- the numbers of a row of points
@@ -68,7 +69,8 @@ module _ (list : List ℕ) (r : Rule) where
   unfolding stayBy
   rest-start = let e : corners - 0 ≡ corners = omega arith in record { most = omega arith; left = rw e }
 
-  module _ {i : ℕ} {v u : Spot} {t : Bool} (R : Rest i) (h : i < corners) (e : v ≡ spotAt list i) (f : u ≡ cornerBy r v) (g : t ≡ onGrid u) where
+  module _ {i : ℕ} {v u : Spot} {t : Bool} (R : Rest i) (h : i < corners)
+      (e : v ≡ spotAt list i) (f : u ≡ cornerBy r v) (g : t ≡ onGrid u) where
     pub rest-off : t ≡ false → stayBy list r ≡ false
     rest-off q = R .left ∙ each-off stays-at i corners h (rw (← e, ← f, ← g, q))
 
@@ -123,7 +125,8 @@ ruled list how a b e f x y z = (
 
 -- ---- the whole call
 
-module _ (list : List ℕ) (from to : Spot) (how : ℕ) {r : Rule} {t : Bool} (e : r ≡ ruleOf list from to how) (f : t ≡ stayBy list r) where
+module _ (list : List ℕ) (from to : Spot) (how : ℕ) {r : Rule} {t : Bool}
+    (e : r ≡ ruleOf list from to how) (f : t ≡ stayBy list r) where
   is : t ≡ staysOn list from to how
   is = f ∙ rw e
 

@@ -1,17 +1,28 @@
 -- The middle of the corners: the products fit, and the loop that keeps the least and the greatest. Assumes nothing.
-use Prim.Native.Nat.{ℕ, zero, suc, _+_, _*_, _-_, _/_, _≤_, _<_, min, max}
+use Prim.Native.Nat.{ℕ, suc, _+_, _*_, _-_, _/_, _≤_, _<_, min, max}
 use native.Mathlib.Nat.{mul-le-mul, min-le-left, max-le, le-trans}
 use native.Mathlib.Numerals.{add-one}
 use native.Mathlib.Omega.{arith}
-use mathlib.Core.Path.{_≡_, refl, sym, ap, subst, _∙_}
+use mathlib.Core.Path.{_≡_, sym, subst}
 use mathlib.Core.List.{List}
 use lib.ListN.{length}
 use Rattle.shifted.specs.Shifted.{spotAt, Small, SmallRing}
 use Rattle.shifted.specs.declared.Spot.{Spot}
-use Rattle.put_aside.specs.Middle.{least, greatest, middle, acrossOf, level, middleOf}
+use Rattle.put_aside.specs.Middle.{least, greatest, middle, acrossOf, level}
 
-pub product : {x y : ℕ} → x ≤ 2000000 → y ≤ 2000000 → x * y ≤ 2000000 * 2000000
-product h k = mul-le-mul h k
+pub record Products (from to v : Spot) : Type 0 where
+  pub one : to .x * v .y ≤ 2000000 * 2000000
+  pub two : from .y * v .x ≤ 2000000 * 2000000
+  pub three : from .x * v .y ≤ 2000000 * 2000000
+  pub four : to .y * v .x ≤ 2000000 * 2000000
+
+pub products : {from to v : Spot} → Small from × Small to × Small v → Products from to v
+products (f, t, v) = record {
+  one = mul-le-mul (t .width) (v .height);
+  two = mul-le-mul (f .height) (v .width);
+  three = mul-le-mul (f .width) (v .height);
+  four = mul-le-mul (t .height) (v .width);
+}
 
 pub small-at : (ns : List ℕ) → SmallRing ns → (i : ℕ) {v : Spot} → i < length ns / 2 → v ≡ spotAt ns i → Small v
 small-at ns h i l e = subst Small (sym e) (h i l)

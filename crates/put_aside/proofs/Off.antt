@@ -10,13 +10,12 @@ use lib.Dec.{eqb, leb, ltb}
 use lib.ListN.{length}
 use borrow.Author.Tests.{leb-true, ltb-false, le-ltb, le-leb}
 use Rattle.ring.specs.Each.{each}
-use Rattle.shifted.specs.Shifted.{spotAt, Small, SmallRing}
+use Rattle.shifted.specs.Shifted.{spotAt, Small}
 use Rattle.shifted.specs.declared.Spot.{Spot}
-use Rattle.put_aside.specs.Aside.{widthOf, wayOf, inward, still, gone, goneBy, ruleOf, stepOf, cornerBy, spots, onGrid, asideBy}
-use Rattle.put_aside.specs.Aside.{stayBy, aside, staysOn, OffBy, AsideIsNear, AsideIsAsLong, AsideIsSmall, AsideAsItIs, StaysAsItIs}
-use Rattle.put_aside.specs.declared.Step.{Step}
+use Rattle.put_aside.specs.Aside.{wayOf, inward, gone, goneBy, ruleOf, stepOf, cornerBy, onGrid, asideBy, stayBy}
+use Rattle.put_aside.specs.Aside.{OffBy, AsideIsNear, AsideIsAsLong, AsideIsSmall, AsideAsItIs, StaysAsItIs}
 use Rattle.put_aside.specs.declared.Rule.{Rule}
-use Rattle.put_aside.proofs.Steps.{Narrow, step-narrow}
+use Rattle.put_aside.proofs.Steps.{step-narrow}
 use Rattle.put_aside.proofs.Laying.{spots-length, spots-at}
 
 -- ---- one coordinate

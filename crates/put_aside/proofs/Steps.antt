@@ -1,8 +1,8 @@
 -- Steps: the last of those that set off, and that none is wider than it is told. Assumes nothing.
-use Prim.Native.Nat.{ℕ, _≤_, _<_}
+use Prim.Native.Nat.{ℕ, _≤_}
 use native.Mathlib.Nat.{le-trans}
 use native.Mathlib.Omega.{arith}
-use mathlib.Core.Path.{_≡_, refl}
+use mathlib.Core.Path.{_≡_}
 use mathlib.Core.Bool.{Bool, true, false, cond}
 use lib.Dec.{eqb, ltb}
 use borrow.Author.Tests.{ne-eqb}
@@ -61,13 +61,13 @@ unfolding setOff
 set-narrow way w =
     let z : 0 ≤ w = omega arith in
     let o : w ≤ w = omega arith in
-    pick (eqb way 3) (by w w 0 0 0 o z z z)
-    (pick (eqb way 4) (by w 0 0 w 0 z z o z)
-    (pick (eqb way 5) (by w 0 w 0 0 z o z z)
-    (pick (eqb way 6) (by w 0 0 0 w z z z o)
-    (pick (eqb way 7) (by w w 0 w 0 o z o z)
-    (pick (eqb way 8) (by w 0 w w 0 z o o z)
-    (pick (eqb way 9) (by w 0 w 0 w z o z o) (by w w 0 0 w o z z o)))))))
+    pick (eqb way 3) (by w _ _ _ _ o z z z)
+    (pick (eqb way 4) (by w _ _ _ _ z z o z)
+    (pick (eqb way 5) (by w _ _ _ _ z o z z)
+    (pick (eqb way 6) (by w _ _ _ _ z z z o)
+    (pick (eqb way 7) (by w _ _ _ _ o z o z)
+    (pick (eqb way 8) (by w _ _ _ _ z o o z)
+    (pick (eqb way 9) (by w _ _ _ _ z o z o) (by w _ _ _ _ o z z o)))))))
 
 pub step-narrow : (r : Rule) (v : Spot) → Narrow (r .w) (stepOf r v)
 unfolding stepOf

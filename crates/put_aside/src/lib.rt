@@ -8,7 +8,7 @@ ghost use lib.ListN.{length};
 ghost use Rattle.ring.specs.Room.{laid};
 ghost use Rattle.shifted.specs.Shifted.{Small, SmallRing};
 ghost use Rattle.put_aside.specs.Middle.{acrossOf, level, middleOf};
-ghost use Rattle.put_aside.specs.Aside.{widthOf, wayOf, inward, ifLess, stepBy, acrossStep, towards, setOff, gone, goneBy};
+ghost use Rattle.put_aside.specs.Aside.{widthOf, wayOf, inward, ifLess, stepBy, acrossStep, towards, setOff, gone};
 ghost use Rattle.put_aside.specs.Aside.{ruleOf, stepOf, cornerBy, onGrid, putSpot, asideBy, stayBy, staysOn, roomOf};
 ghost use Rattle.put_aside.specs.Aside.{DiscLent, Ruled};
 

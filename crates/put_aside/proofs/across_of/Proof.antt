@@ -1,36 +1,48 @@
 -- `put_aside::across_of` meets its contract: the products fit, and so do their sums. Assumes nothing.
 use native.Mathlib.Omega.{arith}
 use mathlib.Core.Path.{refl}
-use Rattle.put_aside.proofs.Leasts.{product}
+use Rattle.put_aside.proofs.Leasts.{products}
 use Rattle.put_aside.proofs.across_of.Statement.{statement}
 use Rattle.put_aside.proofs.across_of.Tie as tie
 
 mul-plus : tie.Need-mul-plus
-mul-plus c = let s = c .before .before in omega (arith, product (s .pre .1 .width) (s .pre .2 .height))
+mul-plus c = let p = products (c .before .before .pre) in omega (arith, p .one)
 
 mul-plus-2 : tie.Need-mul-plus-2
-mul-plus-2 c = let s = c .before .before .before .before in omega (arith, product (s .pre .0 .height) (s .pre .2 .width))
+mul-plus-2 c = let p = products (c .before .before .before .before .pre) in omega (arith, p .two)
 
 add-plus : tie.Need-add-plus
-add-plus c = let s = c .before .before .before .before in omega (arith, product (s .pre .1 .width) (s .pre .2 .height), product (s .pre .0 .height) (s .pre .2 .width))
+add-plus c = let p = products (c .before .before .before .before .pre) in omega (arith, p .one, p .two)
 
 add-plus-2 : tie.Need-add-plus-2
-add-plus-2 c = let s = c .before .before .before .before in omega (arith, product (s .pre .1 .width) (s .pre .2 .height), product (s .pre .0 .height) (s .pre .2 .width))
+add-plus-2 c = let p = products (c .before .before .before .before .pre) in omega (arith, p .one, p .two)
 
 mul-minus : tie.Need-mul-minus
-mul-minus c = let s = c .before .before .before .before .before .before in omega (arith, product (s .pre .0 .width) (s .pre .2 .height))
+mul-minus c = let p = products (c .before .before .before .before .before .before .pre) in omega (arith, p .three)
 
 mul-minus-2 : tie.Need-mul-minus-2
-mul-minus-2 c = let s = c .before .before .before .before .before .before .before .before in omega (arith, product (s .pre .1 .height) (s .pre .2 .width))
+mul-minus-2 c =
+    let s = c .before .before .before .before .before .before .before .before in
+    let p = products (s .pre) in
+    omega (arith, p .four)
 
 add-minus : tie.Need-add-minus
-add-minus c = let s = c .before .before .before .before .before .before .before .before in omega (arith, product (s .pre .0 .width) (s .pre .2 .height), product (s .pre .1 .height) (s .pre .2 .width))
+add-minus c =
+    let s = c .before .before .before .before .before .before .before .before in
+    let p = products (s .pre) in
+    omega (arith, p .three, p .four)
 
 sub-result : tie.Need-sub-result
-sub-result c = let s = c .before .before .before .before .before .before .before .before in omega (arith, product (s .pre .0 .width) (s .pre .2 .height), product (s .pre .1 .height) (s .pre .2 .width))
+sub-result c =
+    let s = c .before .before .before .before .before .before .before .before in
+    let p = products (s .pre) in
+    omega (arith, p .three, p .four)
 
 returns : tie.Need-returns
-returns c = let s = c .before .before .before .before .before .before .before .before in (refl, omega (arith, product (s .pre .1 .width) (s .pre .2 .height), product (s .pre .0 .height) (s .pre .2 .width)))
+returns c =
+    let s = c .before .before .before .before .before .before .before .before in
+    let p = products (s .pre) in
+    (refl, omega (arith, p .one, p .two))
 
 pub across-of-spec : {M : Type 1} → statement M
 across-of-spec =

@@ -16,7 +16,9 @@ if-less-requires-4 : tie.Need-if-less-requires-4
 if-less-requires-4 c κs = search needs
 
 returns : tie.Need-returns
-returns c = rw (c .before .before .before .if-less .ensures, c .before .before .if-less2 .ensures, c .before .if-less3 .ensures, c .if-less4 .ensures)
+returns c =
+    let n = c .before in
+    rw (n .before .before .if-less .ensures, n .before .if-less2 .ensures, n .if-less3 .ensures, c .if-less4 .ensures)
 
 pub across-step-spec : {M : Type 1} → statement M
 across-step-spec =

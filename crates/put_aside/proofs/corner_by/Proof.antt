@@ -23,10 +23,14 @@ gone-requires : tie.Need-gone-requires
 gone-requires c κs = let s = c .before .before .before in (s .pre .1 .width, step-fits _ _ (c .step-of .ensures) (s .pre .0) .0)
 
 gone-requires-2 : tie.Need-gone-requires-2
-gone-requires-2 c κs = let s = c .before .before .before .before in (s .pre .1 .height, step-fits _ _ (c .before .step-of .ensures) (s .pre .0) .1)
+gone-requires-2 c κs =
+    let s = c .before .before .before .before in
+    (s .pre .1 .height, step-fits _ _ (c .before .step-of .ensures) (s .pre .0) .1)
 
 returns-2 : tie.Need-returns-2
-returns-2 c = let g = c .before in stepped _ _ (g .before .step-of .ensures) (g .before .before .if1 .left) (g .gone .ensures) (c .gone2 .ensures)
+returns-2 c =
+    let g = c .before in
+    stepped _ _ (g .before .step-of .ensures) (g .before .before .if1 .left) (g .gone .ensures) (c .gone2 .ensures)
 
 pub corner-by-spec : {M : Type 1} → statement M
 corner-by-spec =

@@ -44,7 +44,8 @@ loop-again c =
     let k = p .before in
     let l = k .before .before .before in
     let s = l .before .before .before .before in
-    lay-turn _ _ _ (s .pre .2) (l .loop-test .taken) (k .before .spot-at .ensures) (k .corner-by .ensures) (p .put .ensures) (l .before .loop .inv)
+    lay-turn _ _ _ (s .pre .2) (l .loop-test .taken) (k .before .spot-at .ensures) (k .corner-by .ensures) (p .put .ensures)
+    (l .before .loop .inv)
 
 same-length : tie.Need-same-length Inv-loop μ-loop
 same-length c = search needs

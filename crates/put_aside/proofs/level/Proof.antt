@@ -19,7 +19,9 @@ unfolding level
 returns-2 c = (rw (c .match .keys2), omega (arith, c .before .pre .2 .height))
 
 returns-3 : tie.Need-returns-3
-returns-3 c = let r = c .before .match .rest in (c .across-of .ensures .0 ∙ level-last _ _ _ _ (omega (arith, r .0 .1, r .1)), c .across-of .ensures .1)
+returns-3 c =
+    let r = c .before .match .rest in
+    (c .across-of .ensures .0 ∙ level-last _ _ _ _ (omega (arith, r .0 .1, r .1)), c .across-of .ensures .1)
 
 pub level-spec : {M : Type 1} → statement M
 level-spec = tie.close (tie.spec across-of-requires returns returns-2 returns-3)

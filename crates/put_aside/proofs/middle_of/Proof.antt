@@ -21,12 +21,16 @@ spot-at-requires : tie.Need-spot-at-requires Inv-loop μ-loop
 spot-at-requires c κs = search needs
 
 level-requires : tie.Need-level-requires Inv-loop μ-loop
-level-requires c κs = let s = c .before .before in (s .pre .from-small, s .pre .to-small, small-at (s .args .list .now) (s .pre .corners-small) 0 (s .pre .some) (c .spot-at .ensures))
+level-requires c κs =
+    let s = c .before .before in
+    let v = small-at (s .args .list .now) (s .pre .corners-small) 0 (s .pre .some) (c .spot-at .ensures) in
+    (s .pre .from-small, s .pre .to-small, v)
 
 loop-holds : tie.Need-loop-holds Inv-loop μ-loop
 loop-holds c =
     let s = c .before .before .before in
-    (omega arith, start _ _ (c .level .ensures .0 ∙ ap (level (s .args .axis) (s .args .from) (s .args .to)) (c .before .spot-at .ensures)) (c .level .ensures .1))
+    let e = ap (level (s .args .axis) (s .args .from) (s .args .to)) (c .before .spot-at .ensures) in
+    (omega arith, start _ _ (c .level .ensures .0 ∙ e) (c .level .ensures .1))
 
 spot-at-requires-2 : tie.Need-spot-at-requires-2 Inv-loop μ-loop
 spot-at-requires-2 c κs = search needs
@@ -35,7 +39,9 @@ level-requires-2 : tie.Need-level-requires-2 Inv-loop μ-loop
 level-requires-2 c κs =
     let l = c .before .before in
     let s = l .before .before .before .before in
-    (s .pre .from-small, s .pre .to-small, small-at (s .args .list .now) (s .pre .corners-small) (l .loop .i) (c .before .loop-test .taken) (c .spot-at2 .ensures))
+    let more = c .before .loop-test .taken in
+    let v = small-at (s .args .list .now) (s .pre .corners-small) (l .loop .i) more (c .spot-at2 .ensures) in
+    (s .pre .from-small, s .pre .to-small, v)
 
 smaller-requires : tie.Need-smaller-requires Inv-loop μ-loop
 smaller-requires c κs = search needs
@@ -53,10 +59,11 @@ loop-again : tie.Need-loop-again Inv-loop μ-loop
 loop-again c =
     let k = c .before .before in
     let l = k .before .before .before in
-    let s = l .before .before .before .before in (
+    let s = l .before .before .before .before in
+    let e = ap (level (s .args .axis) (s .args .from) (s .args .to)) (k .before .spot-at2 .ensures) in (
       omega arith,
-      turn _ _ (l .loop .inv .1) (k .level2 .ensures .0 ∙ ap (level (s .args .axis) (s .args .from) (s .args .to)) (k .before .spot-at2 .ensures))
-          (k .level2 .ensures .1) (c .before .smaller .ensures) (c .larger .ensures),
+      turn _ _ (l .loop .inv .1) (k .level2 .ensures .0 ∙ e) (k .level2 .ensures .1)
+          (c .before .smaller .ensures) (c .larger .ensures),
     )
 
 add-result : tie.Need-add-result Inv-loop μ-loop

@@ -15,7 +15,8 @@ returns : tie.Need-returns
 returns c =
     let r = c .before .before in
     let g = r .before .before .before .args in
-    leaves (g .list .now) (g .from) (g .to) (g .how) (r .rule-of .ensures .0) (c .before .stay-by .ensures) (g .room .now) (not-true _ (c .if1 .taken))
+    leaves (g .list .now) (g .from) (g .to) (g .how) (r .rule-of .ensures .0) (c .before .stay-by .ensures)
+    (g .room .now) (not-true _ (c .if1 .taken))
 
 lay-requires : tie.Need-lay-requires
 lay-requires c κs =
@@ -32,7 +33,8 @@ returns-2 c =
     let e = l .before .before in
     let r = e .before .before in
     let g = r .before .before .before .args in
-    stays (g .list .now) (g .from) (g .to) (g .how) (r .rule-of .ensures .0) (e .before .stay-by .ensures) (g .room .now) (not-false _ (e .if1 .left)) (l .lay .ensures)
+    stays (g .list .now) (g .from) (g .to) (g .how) (r .rule-of .ensures .0) (e .before .stay-by .ensures)
+    (g .room .now) (not-false _ (e .if1 .left)) (l .lay .ensures)
 
 pub put-aside-spec : {M : Type 1} → statement M
 put-aside-spec =

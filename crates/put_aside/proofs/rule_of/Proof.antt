@@ -25,7 +25,8 @@ returns c =
     let x = y .before in
     let w = x .before in
     let s = w .before .before .before in
-    ruled (s .args .list .now) (s .args .how) (s .pre .from-small) (s .pre .to-small) (w .before .way-of .ensures) (w .width-of .ensures) (x .middle-of .ensures) (y .middle-of2 .ensures) (c .middle-of3 .ensures)
+    ruled (s .args .list .now) (s .args .how) (s .pre .from-small) (s .pre .to-small)
+    (w .before .way-of .ensures) (w .width-of .ensures) (x .middle-of .ensures) (y .middle-of2 .ensures) (c .middle-of3 .ensures)
 
 pub rule-of-spec : {M : Type 1} → statement M
 rule-of-spec =

@@ -59,7 +59,10 @@ unfolding setOff
 returns-7 c = rw (c .before .match .keys7) (c .step-by7 .ensures)
 
 returns-8 : tie.Need-returns-8
-returns-8 c = let r = c .before .match .rest in c .step-by8 .ensures ∙ set-last _ _ (r .0 .0 .0 .0 .0 .0 .1) (r .0 .0 .0 .0 .0 .1) (r .0 .0 .0 .0 .1) (r .0 .0 .0 .1) (r .0 .0 .1) (r .0 .1) (r .1)
+returns-8 c =
+    let r = c .before .match .rest in
+    c .step-by8 .ensures
+    ∙ set-last _ _ (r .0 .0 .0 .0 .0 .0 .1) (r .0 .0 .0 .0 .0 .1) (r .0 .0 .0 .0 .1) (r .0 .0 .0 .1) (r .0 .0 .1) (r .0 .1) (r .1)
 
 pub set-off-spec : {M : Type 1} → statement M
 set-off-spec =

@@ -34,7 +34,8 @@ returns : tie.Need-returns Inv-loop μ-loop
 returns c =
     let k = c .before .before in
     let l = k .before .before in
-    sym (rest-off _ _ (l .before .loop .inv) (l .loop-test .taken) (k .before .spot-at .ensures) (k .corner-by .ensures) (c .before .on-grid .ensures) (not-true _ (c .if1 .taken)))
+    sym (rest-off _ _ (l .before .loop .inv) (l .loop-test .taken) (k .before .spot-at .ensures)
+    (k .corner-by .ensures) (c .before .on-grid .ensures) (not-true _ (c .if1 .taken)))
 
 add-i : tie.Need-add-i Inv-loop μ-loop
 add-i c = omega arith
@@ -46,7 +47,8 @@ loop-again : tie.Need-loop-again Inv-loop μ-loop
 loop-again c =
     let k = c .before .before in
     let l = k .before .before in
-    rest-turn _ _ (l .before .loop .inv) (l .loop-test .taken) (k .before .spot-at .ensures) (k .corner-by .ensures) (c .before .on-grid .ensures) (not-false _ (c .if1 .left))
+    rest-turn _ _ (l .before .loop .inv) (l .loop-test .taken) (k .before .spot-at .ensures)
+    (k .corner-by .ensures) (c .before .on-grid .ensures) (not-false _ (c .if1 .left))
 
 returns-2 : tie.Need-returns-2 Inv-loop μ-loop
 returns-2 c = sym (rest-end _ _ (c .before .loop .inv) (c .loop-test .left))

@@ -22,7 +22,8 @@ returns-2 : tie.Need-returns-2
 unfolding stepOf
 returns-2 c =
     let t = c .before .before in
-    rw (ne-eqb _ _ (t .before .before .if1 .left), eq-eqb _ _ (t .if2 .taken), ← c .before .across-of .ensures .0) (c .towards .ensures)
+    rw (ne-eqb _ _ (t .before .before .if1 .left), eq-eqb _ _ (t .if2 .taken), ← c .before .across-of .ensures .0)
+    (c .towards .ensures)
 
 set-off-requires : tie.Need-set-off-requires
 set-off-requires c κs = search needs
