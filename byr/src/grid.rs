@@ -110,7 +110,8 @@ impl Grid {
     /// These points, whose numbers are such, on the grid, each at the nearest multiples, and how
     /// far they moved.
     pub fn put(self, points: &[Point], numbers: Numbers) -> Result<OnGrid> {
-        let most = points.iter().flat_map(|&(x, y)| [x.abs(), y.abs()]).fold(0.0, f64::max);
+        let numbers_of = || points.iter().flat_map(|&(x, y)| [x, y]);
+        let most = numbers_of().max_by(|a, b| a.abs().total_cmp(&b.abs())).unwrap_or(0.0);
         let too_large = |refusal| match refusal {
             Refusal::Grid | Refusal::Number => self.too_large(most),
             other => other.into(),
@@ -121,7 +122,8 @@ impl Grid {
         });
         let off = off.collect();
         // A decimal is off the float that it was rounded to by less than the next one is.
-        let rounded = if numbers == Numbers::Rounded { most.next_up() - most } else { 0.0 };
+        let digit = most.abs().next_up() - most.abs();
+        let rounded = if numbers == Numbers::Rounded { digit } else { 0.0 };
         Ok(OnGrid { spots, off, rounded })
     }
 
