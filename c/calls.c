@@ -2019,6 +2019,69 @@ static void discs(void) {
     }
 }
 
+/* ---- Floats on a grid ---- */
+
+/* Lent no units and no room, which are refused after the list. */
+static uint32_t lend_to_grid(const double *list, size_t n, uint64_t *place) {
+    uint64_t count = HELD_COUNT;
+    uint32_t number = byr_to_grid(list, n, 0, NULL, 0, &count, place);
+
+    CHECK(count == HELD_COUNT);
+    return number;
+}
+
+/* A number, the units, and the whole number that it is on their grid. */
+struct on_grid {
+    double x;
+    uint32_t units;
+    int32_t z;
+};
+
+static const struct on_grid ON_GRID[] = {
+    {0.1234, 1000, 123},
+    {0.25, 10, 3},
+    {-0.25, 10, -3},
+    {0.24999999999999997, 10, 2},
+    {0.49999999999999994, 1, 0},
+    {-0.5, 1, -1},
+    {1e6, 1, 1000000},
+    {-1, 1000000, -1000000},
+    {5e-324, 1000000, 0},
+    {-0.0, 7, 0},
+    {90909.0909090909, 11, 1000000},
+};
+
+static void grid(void) {
+    static const double million[2] = {1e6, 1e6};
+    static const double above[2] = {0, 90909.09090909091};
+    int32_t room[5] = {77, 77, 77, 77, 77};
+    uint64_t count = HELD_COUNT;
+    uint64_t place = HELD_COUNT;
+    size_t i;
+
+    begin("byr_to_grid");
+    try_list(lend_to_grid, 10001, 0);
+    CHECK(byr_to_grid(million, 2, 0, room, 5, &count, &place) == BYR_REFUSED_SETTING);
+    CHECK(byr_to_grid(million, 2, 1000001, room, 5, &count, &place) == BYR_REFUSED_SETTING);
+    CHECK(byr_to_grid(million, 2, 2, room, 1, &count, &place) == BYR_REFUSED_GRID);
+    CHECK(above[1] * 11 == 1e6);
+    CHECK(byr_to_grid(above, 2, 11, room, 5, &count, &place) == BYR_REFUSED_GRID);
+    CHECK(byr_to_grid(million, 2, 1, room, 1, &count, &place) == BYR_REFUSED_FIT);
+    CHECK(count == HELD_COUNT && place == HELD_COUNT);
+    for (i = 0; i < 5; i++) {
+        CHECK(room[i] == 77);
+    }
+    for (i = 0; i < sizeof ON_GRID / sizeof *ON_GRID; i++) {
+        const double point[2] = {ON_GRID[i].x, 0.5};
+        row = i + 1;
+        CHECK(byr_to_grid(point, 2, ON_GRID[i].units, room, 5, &count, &place) == 0 && count == 1);
+        CHECK(room[0] == ON_GRID[i].z && room[1] == (int32_t)((ON_GRID[i].units + 1) / 2));
+        CHECK(room[2] == 77 && room[3] == 77 && room[4] == 77);
+    }
+    row = 0;
+    CHECK(byr_to_grid(NULL, 0, 1, NULL, 0, &count, &place) == 0 && count == 0 && place == HELD_COUNT);
+}
+
 /* ---- Places to inspect ---- */
 
 /* What a shift is lent, and with which number it is refused in a room of 5 words. */
@@ -2102,6 +2165,7 @@ int main(void) {
     mending();
     rings();
     discs();
+    grid();
     places();
     whole_points();
     whole_rings();

@@ -1,7 +1,8 @@
 /*
  * Byrlygent: the sliding no-fit polygon, ring predicates in floats and in whole
- * numbers, whole moves with the reason that nothing lay in between, the outline book,
- * drawings in well-known binary, and places to inspect.
+ * numbers, whole moves with the reason that nothing lay in between, floats put on a
+ * grid of whole numbers, the outline book, drawings in well-known binary, and places to
+ * inspect.
  * Link libbyrlygent.a; of other libraries it needs only C's memcpy and memset.
  *
  * Every function is total: whatever is lent, it answers or refuses, and writes
@@ -39,8 +40,8 @@
  * tested of all that is lent, and then 3, 4, 5 and 6 follow in the order of their
  * numbers. A function has those that its comment names. byr_write_book goes through
  * its rings in an order of its own, byr_read_book tests 7, then 4, byr_read_wkb 10,
- * then 4, byr_mend_ring tests 11 before 5, byr_make_disc 12, 2, then 4, and
- * byr_next_places 13, then 5.
+ * then 4, byr_mend_ring tests 11 before 5, byr_make_disc 12, 2, then 4,
+ * byr_next_places 13, then 5, and byr_to_grid tests 14 after 3 and before 5.
  *
  * Place. Every function that takes a list has place as its last pointer. It is
  * written with refusals 1, 8 and 9, and is then the number of the list at fault:
@@ -77,19 +78,20 @@ uint32_t byr_abi_version(void);
 
 /* Why a call was refused. */
 enum {
-    BYR_REFUSED_LENGTH = 1,     /* a list fits no whole number of entries, or the rings of a book do not add up */
-    BYR_REFUSED_NUMBER = 2,     /* a lent number is out of its bounds */
-    BYR_REFUSED_SETTING = 3,    /* a tolerance or another setting is out of its bounds */
-    BYR_REFUSED_ROOM = 4,       /* a room of a trace, book, drawing or disc is too short, or not of the form asked */
-    BYR_REFUSED_FIT = 5,        /* the answer has more entries than its room */
-    BYR_REFUSED_SHORT_PATH = 6, /* the path of a trace has under three points */
-    BYR_REFUSED_BOOK = 7,       /* a book is wrong */
-    BYR_REFUSED_FEW = 8,        /* a list has too few entries: vertices, points or rings */
-    BYR_REFUSED_MANY = 9,       /* a list has too many */
-    BYR_REFUSED_WKB = 10,       /* a drawing in well-known binary is wrong, or of another kind */
-    BYR_REFUSED_REMAINING = 11, /* of a mended ring fewer than three vertices remain */
-    BYR_REFUSED_QUARTER = 12,   /* a quarter of a disc cannot have so many vertices */
-    BYR_REFUSED_INSPECTION = 13 /* the places of a path or of a shift, or the start, are out of their bounds */
+    BYR_REFUSED_LENGTH = 1,      /* a list fits no whole number of entries, or the rings of a book do not add up */
+    BYR_REFUSED_NUMBER = 2,      /* a lent number is out of its bounds */
+    BYR_REFUSED_SETTING = 3,     /* a tolerance or another setting is out of its bounds */
+    BYR_REFUSED_ROOM = 4,        /* a room of a trace, book, drawing or disc is too short, or not of the form asked */
+    BYR_REFUSED_FIT = 5,         /* the answer has more entries than its room */
+    BYR_REFUSED_SHORT_PATH = 6,  /* the path of a trace has under three points */
+    BYR_REFUSED_BOOK = 7,        /* a book is wrong */
+    BYR_REFUSED_FEW = 8,         /* a list has too few entries: vertices, points or rings */
+    BYR_REFUSED_MANY = 9,        /* a list has too many */
+    BYR_REFUSED_WKB = 10,        /* a drawing in well-known binary is wrong, or of another kind */
+    BYR_REFUSED_REMAINING = 11,  /* of a mended ring fewer than three vertices remain */
+    BYR_REFUSED_QUARTER = 12,    /* a quarter of a disc cannot have so many vertices */
+    BYR_REFUSED_INSPECTION = 13, /* the places of a path or of a shift, or the start, are out of their bounds */
+    BYR_REFUSED_GRID = 14        /* a coordinate times the units of a grid, exactly, is above 1000000 in size */
 };
 
 /* Why a trace stopped. */
@@ -566,6 +568,19 @@ uint32_t byr_read_wkb(const uint8_t *wkb, size_t n, double *room, size_t room_n,
  * bytes, 16 a vertex and 29; 4125 at most. Refusals: 1, 8 and 9 at place 0, 2, 4. */
 uint32_t byr_write_wkb(const double *ring, size_t n, uint8_t *room, size_t room_n, uint64_t *length,
                        uint64_t *place);
+
+/* ---- Floats on a grid ---- */
+
+/* Puts 0 to 10001 points on a grid of units, 1 to 1000000, in 1: on a drawing in
+ * millimetres, 1000 is a grid of micrometres. room gets a whole number for each
+ * coordinate, the nearest to units times its exact value; a tie goes away from zero. So
+ * each is off by at most half a unit, the same coordinate is the same number wherever it
+ * stands, and the functions in whole numbers take all of them. room is as long as the
+ * list; count: how many points were written. Refusals: 1 and 9 at place 0, 2, 3 for the
+ * units, 14 where units times a coordinate, exactly and not as rounded, is above 1000000
+ * in size, 5; no list is too short. */
+uint32_t byr_to_grid(const double *points, size_t n, uint32_t units, int32_t *room, size_t room_n, uint64_t *count,
+                     uint64_t *place);
 
 /* ---- Places to inspect ---- */
 

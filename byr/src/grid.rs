@@ -3,8 +3,9 @@
 
 use crate::drawing::{Numbers, Ring};
 use crate::{plain, Fault, Result};
+use byrlygent::grid::to_grid;
 use byrlygent::whole::{is_simple_polygon, turn};
-use byrlygent::{whole, Point};
+use byrlygent::{whole, Point, Refusal};
 
 /// Most units of a coordinate, and most units that make 1.
 const MOST: f64 = 1e6;
@@ -96,32 +97,33 @@ impl Grid {
         1_000_000_u32.is_multiple_of(self.in_one as u32)
     }
 
-    /// The nearest multiple to a coordinate, in units, and by how much the coordinate is more. A
-    /// decimal is on a grid of decimals exactly where its float is shown as one of them; else the
-    /// float's exact value counts.
-    fn nearest(self, x: f64, numbers: Numbers) -> Result<(i32, f64)> {
-        let units = (x * self.in_one).round();
-        if units.abs() > MOST {
-            return Err(self.too_large(x));
-        }
-        let off = match numbers == Numbers::Decimals && self.is_decimal() {
+    /// By how much a coordinate is more than so many units. A decimal is on a grid of decimals
+    /// exactly where its float is shown as one of them; else the float's exact value counts.
+    fn off(self, x: f64, units: i32, numbers: Numbers) -> f64 {
+        let units = f64::from(units);
+        match numbers == Numbers::Decimals && self.is_decimal() {
             true => x - self.multiple(units),
             false => x.mul_add(self.in_one, -units) / self.in_one,
-        };
-        Ok((units as i32, off))
+        }
     }
 
-    /// These points, whose numbers are such, on the grid, and how far each moved.
+    /// These points, whose numbers are such, on the grid, each at the nearest multiples, and how
+    /// far they moved.
     pub fn put(self, points: &[Point], numbers: Numbers) -> Result<OnGrid> {
-        let (mut spots, mut off) = (Vec::new(), Vec::new());
-        for &(x, y) in points {
-            let ((x, off_x), (y, off_y)) = (self.nearest(x, numbers)?, self.nearest(y, numbers)?);
-            spots.push((x, y));
-            off.push((off_x, off_y));
-        }
-        let most = points.iter().flat_map(|&(x, y)| [x.abs(), y.abs()]).fold(0.0, f64::max);
+        let numbers_of = || points.iter().flat_map(|&(x, y)| [x, y]);
+        let most = numbers_of().max_by(|a, b| a.abs().total_cmp(&b.abs())).unwrap_or(0.0);
+        let too_large = |refusal| match refusal {
+            Refusal::Grid | Refusal::Number => self.too_large(most),
+            other => other.into(),
+        };
+        let spots = to_grid(points, self.in_one as u32).map_err(too_large)?;
+        let off = points.iter().zip(&spots).map(|(&(x, y), &(units_x, units_y))| {
+            (self.off(x, units_x, numbers), self.off(y, units_y, numbers))
+        });
+        let off = off.collect();
         // A decimal is off the float that it was rounded to by less than the next one is.
-        let rounded = if numbers == Numbers::Rounded { most.next_up() - most } else { 0.0 };
+        let digit = most.abs().next_up() - most.abs();
+        let rounded = if numbers == Numbers::Rounded { digit } else { 0.0 };
         Ok(OnGrid { spots, off, rounded })
     }
 

@@ -2,7 +2,8 @@
 //! their bounds, and hold every outcome there is.
 
 use oracle::replay::{
-    book, bytes, clear, discs, list, paths, places, rings, scalars, sliding, traces, whole, wkb,
+    book, bytes, clear, discs, grid, list, paths, places, rings, scalars, sliding, traces, whole,
+    wkb,
 };
 use oracle::seeded::Seeded;
 use std::collections::BTreeSet;
@@ -162,6 +163,32 @@ fn place_records_keep_their_bounds_and_meet_every_outcome() {
         let ends = ["within the path", "up to the last place", "round the end"];
         for outcome in ["refusal 0", "refusal 5", "refusal 13"].into_iter().chain(ends) {
             assert!(met.contains(&format!("next_places: {outcome}")), "{outcome}");
+        }
+    }
+}
+
+#[test]
+fn grids_are_as_written() {
+    as_written("replay_grid", grid::records());
+}
+
+#[test]
+fn grid_records_keep_their_bounds_and_meet_every_outcome() {
+    for (records, numbers) in [
+        (grid::records(), &[0, 1, 2, 3, 5, 9, 14][..]),
+        (long("grid", 4_000), &[0, 1, 2, 3, 5, 14][..]),
+    ] {
+        let mut met = BTreeSet::new();
+        for record in records {
+            let [n, room] = lengths(&record, [0, 2]);
+            assert!(n <= grid::MOST && room <= grid::MOST);
+            assert_eq!(record.len(), grid::HEADER + n + 2 * room);
+            met.extend((grid::LIST.counted)(&record));
+        }
+        let refusals = numbers.iter().map(|number| format!("refusal {number}"));
+        let others = ["a tie", "off the grid by less than half"].map(str::to_string);
+        for outcome in refusals.chain(others) {
+            assert!(met.contains(&format!("to_grid: {outcome}")), "{outcome}");
         }
     }
 }
@@ -527,7 +554,8 @@ fn traces_end_in_every_way() {
 
 #[test]
 fn long_runs_are_decided_by_the_seed() {
-    for name in ["scalars", "rings", "whole", "discs", "book", "wkb", "places", "sliding", "traces"]
+    for name in
+        ["scalars", "rings", "whole", "discs", "grid", "book", "wkb", "places", "sliding", "traces"]
     {
         assert!(long(name, 50) == long(name, 50));
     }

@@ -471,6 +471,15 @@ functions! {
         length: *mut u64,
         place: *mut u64,
     ) -> u32;
+    fn byr_to_grid(
+        points: *const f64,
+        n: usize,
+        units: u32,
+        room: *mut i32,
+        room_n: usize,
+        count: *mut u64,
+        place: *mut u64,
+    ) -> u32;
     fn byr_next_places(
         n: u64,
         k: u64,

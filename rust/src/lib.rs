@@ -29,7 +29,7 @@
 //!
 //! Parts whose coordinates are whole numbers have predicates of their own, without a
 //! float: [`whole`]. There a move of one part along another is told to be clear with a
-//! reason that anyone can check.
+//! reason that anyone can check. Drawings in floats are put on such numbers by [`grid`].
 //!
 //! A path that another program traced is judged by [`nfp_sliding::check_path`]; which
 //! places of a path a shift inspects, so that none is forgotten, tells [`inspection`].
@@ -53,6 +53,7 @@
 
 pub mod discs;
 mod ffi;
+pub mod grid;
 pub mod inspection;
 mod lent;
 mod lists;

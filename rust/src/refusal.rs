@@ -50,6 +50,9 @@ pub enum Refusal {
     /// Refusal 13: the places of a path or of a shift, or the start, are out of their
     /// bounds.
     Inspection,
+    /// Refusal 14: a coordinate times the units of a grid, exactly, is above 1,000,000 in
+    /// size.
+    Grid,
 }
 
 impl Refusal {
@@ -66,6 +69,7 @@ impl Refusal {
             Self::Remaining => 11,
             Self::Quarter(_) => 12,
             Self::Inspection => 13,
+            Self::Grid => 14,
         }
     }
 }
@@ -80,7 +84,8 @@ impl fmt::Display for Refusal {
             ),
             Self::Setting => f.write_str(
                 "a setting is out of bounds: the tolerance must be above 0 and at most 1, the \
-                 smallest move finite and not negative, the pass limit at most 10000",
+                 smallest move finite and not negative, the pass limit at most 10000, the units \
+                 of a grid 1 to 1000000",
             ),
             Self::ShortPath { passes, stop } => write!(
                 f,
@@ -108,6 +113,10 @@ impl fmt::Display for Refusal {
                 "the inspection is out of bounds: a path must have 1 to 10001 places, a shift 1 \
                  to 64, and the start must be below the path's number",
             ),
+            Self::Grid => f.write_str(
+                "a coordinate is off the grid: times the units it is above 1000000 in size; take \
+                 fewer units, or bring the drawing nearer to (0, 0)",
+            ),
         }
     }
 }
@@ -133,6 +142,7 @@ pub(crate) fn plain(number: u32) -> Result<()> {
         3 => Err(Refusal::Setting),
         11 => Err(Refusal::Remaining),
         13 => Err(Refusal::Inspection),
+        14 => Err(Refusal::Grid),
         _ => unreachable!("refusal {number}: lists are whole and rooms are long enough"),
     }
 }

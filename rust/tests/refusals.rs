@@ -33,7 +33,9 @@ fn each_refusal_says_what_to_mend() {
         assert!(parts.iter().all(|part| text.contains(part)), "{text}");
     };
     told(Refusal::Number, &["out of bounds", "finite", "-1000000 to 1000000", "above 0"]);
-    told(Refusal::Setting, &["above 0 and at most 1", "not negative", "at most 10000"]);
+    let settings =
+        ["above 0 and at most 1", "not negative", "at most 10000", "units of a grid 1 to"];
+    told(Refusal::Setting, &settings);
     let reasons = [
         (StopReason::NoContact, "lost contact"),
         (StopReason::NoVector, "no vector left"),
@@ -48,6 +50,7 @@ fn each_refusal_says_what_to_mend() {
     told(Refusal::Wkb { place: 1, fault: Fault::Type(6) }, &["byte 1", "type is 6"]);
     told(Refusal::Remaining, &["fewer than three", "a point or a line"]);
     told(Refusal::Inspection, &["1 to 10001 places", "1 to 64", "start must be below"]);
+    told(Refusal::Grid, &["above 1000000", "fewer units", "nearer to (0, 0)"]);
 }
 
 #[test]
@@ -59,8 +62,8 @@ fn refusals_have_the_numbers_of_the_library() {
     let wkb = Refusal::Wkb { place: 0, fault: Fault::Short(0) };
     let rest = [Refusal::Few(entries), Refusal::Many(entries), wkb];
     assert_eq!(rest.map(Refusal::number), [8, 9, 10]);
-    let last = [Refusal::Remaining, Refusal::Quarter(3), Refusal::Inspection];
-    assert_eq!(last.map(Refusal::number), [11, 12, 13]);
+    let last = [Refusal::Remaining, Refusal::Quarter(3), Refusal::Inspection, Refusal::Grid];
+    assert_eq!(last.map(Refusal::number), [11, 12, 13, 14]);
 }
 
 #[test]

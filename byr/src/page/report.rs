@@ -202,7 +202,7 @@ fn refusals(page: &mut Sections) {
 }
 
 /// A refusal of each number.
-fn examples() -> [Refusal; 10] {
+fn examples() -> [Refusal; 11] {
     let few = Entries { list: List::Orbiting, has: 2, least: 3, most: 256 };
     let many = Entries { has: 257, ..few };
     [
@@ -216,5 +216,6 @@ fn examples() -> [Refusal; 10] {
         Refusal::Remaining,
         Refusal::Quarter(3),
         Refusal::Inspection,
+        Refusal::Grid,
     ]
 }

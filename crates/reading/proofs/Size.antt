@@ -25,12 +25,12 @@ finite (fin s m e) = true
 
 -- ---- the number that the two fields stand for, in units of 2 ^ -1074
 
-abbrev valOf : ℕ → ℕ → ℕ
+abbrev pub valOf : ℕ → ℕ → ℕ
 valOf zero t = t
 valOf (suc j) t = (2 ^ 52 + t) * 2 ^ j
 
 -- the number of a pattern without its sign
-val : ℕ → ℕ
+unfoldable pub val : ℕ → ℕ
 val b = valOf (b / 2 ^ 52) (b % 2 ^ 52)
 
 -- a larger field
@@ -102,12 +102,12 @@ finite-below b h = go (decLt (b % 2 ^ 63) (2047 * 2 ^ 52))
     go (no l) = no-bool (sym (no-number (leb (2 ^ 63) b) (b % 2 ^ 63 / 2 ^ 52) (b % 2 ^ 52) (omega arith)) ∙ h)
 
 -- what a number that the format holds is, by its pattern
-record Pattern (x : Float) (b : ℕ) : Type 0 where
+pub record Pattern (x : Float) (b : ℕ) : Type 0 where
   pub word : b < 2 ^ 64
   pub under : b % 2 ^ 63 < 2047 * 2 ^ 52
   pub value : HasValue x (leb (2 ^ 63) b) (val (b % 2 ^ 63)) (2 ^ 1074)
 
-pattern : (x : Float) → T (fits binary64 x) → finite x ≡ true → Pattern x (toBits binary64 x)
+pub pattern : (x : Float) → T (fits binary64 x) → finite x ≡ true → Pattern x (toBits binary64 x)
 pattern x f h =
     let b = toBits binary64 x in
     let e : ofBits binary64 b ≡ x = ofBits-toBits binary64 x f in

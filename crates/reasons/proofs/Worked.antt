@@ -88,10 +88,13 @@ reason : Reason (way slide) (at 10 8) S P Q 4
 unfolding way total sumX sumY marksUp marksDown mark first
 reason =
     record {
-      closed = refl;
-      parted = lines;
-      among = record { weight = first; all = refl; across = refl; upward = refl };
-      lowest = omega arith;
+      lines =
+          record {
+            closed = refl;
+            parted = lines;
+            among = record { weight = first; all = refl; across = refl; upward = refl };
+            lowest = omega arith;
+          };
       balanced = refl;
     }
 

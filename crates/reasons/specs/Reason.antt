@@ -30,11 +30,14 @@ unfoldable pub marksDown : ℕ → (ℕ → Spot) → (ℕ → Spot) → (ℕ �
 marksDown m p q s zero = 0
 marksDown m p q s (suc j) = marksDown m p q s j + mark m (p j) (q j) (s (suc j)) (s j)
 
--- for each of the n edges of a closed ring a line that parts it from the points vs; low is one of them and none is lower; and
--- as many edges come up through its height as go down, where the lines rise
-pub record Reason (vs : List Spot) (low : Spot) (s p q : ℕ → Spot) (n : ℕ) : Type 0 where
+-- for each of the n edges of a closed ring a line that parts it from the points vs; low is one of them and none is lower
+pub record AllParted (vs : List Spot) (low : Spot) (s p q : ℕ → Spot) (n : ℕ) : Type 0 where
   pub closed : s n ≡ s 0
   pub parted : (j : ℕ) → j < n → Parted vs (s j) (s (suc j)) (p j) (q j)
   pub among : InHull vs 1 (low .x) (low .y)
   pub lowest : AllLeft (record { x = 0; y = low .y }) (record { x = 1; y = low .y }) vs
+
+-- and as many edges come up through its height as go down, where the lines rise
+pub record Reason (vs : List Spot) (low : Spot) (s p q : ℕ → Spot) (n : ℕ) : Type 0 where
+  pub lines : AllParted vs low s p q n
   pub balanced : marksUp (low .y) p q s n ≡ marksDown (low .y) p q s n

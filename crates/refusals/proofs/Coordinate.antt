@@ -1,6 +1,6 @@
 -- What the two comparisons of `is_coordinate` say: the magnitude is at most a million; and that a coordinate is no NaN. Assumes nothing.
 use Prim.Native.Nat.{ℕ, zero, suc, _+_, _*_, _^_, _≤_, _<_}
-use mathlib.Core.Path.{_≡_, refl, sym, _∙_}
+use mathlib.Core.Path.{_≡_, refl, sym, ap, _∙_}
 use mathlib.Core.Bool.{Bool, true, false, not, _&&_, _||_, and-true, true≢false}
 use native.Mathlib.Omega.{arith}
 use native.Mathlib.Nat.{mul-one}
@@ -37,17 +37,24 @@ down-pos : (e : ℤ) → 0 < down e
 down-pos (pos k) = omega arith
 down-pos (negsuc k) = pow-pos (suc k)
 
+-- a number against the bound y, which is above zero, and its opposite: the size against the bound
+pub bounded : (s : Bool) (m : ℕ) (e : ℤ) (n : ℕ) (d : ℤ) → 0 < n * up d * down e
+    → (le (fin s m e) (fin false n d) && le (neg (fin false n d)) (fin s m e)) ≡ leb (m * up e * down d) (n * up d * down e)
+unfolding le lt eq neg
+bounded false m e n d h =
+    let some : 0 < n * up d * down e + m * up e * down d = omega arith in
+    simp (ltb-or-eqb (m * up e * down d) (n * up d * down e) .0, lt-ltb 0 (n * up d * down e + m * up e * down d) some, and-true)
+bounded true m e n d h =
+    let some : 0 < m * up e * down d + n * up d * down e = omega arith in
+    simp (ltb-or-eqb (m * up e * down d) (n * up d * down e) .1, lt-ltb 0 (m * up e * down d + n * up d * down e) some, and-true)
+
 pub coordinate-le : (x : Float) → (le x million && le (neg million) x) ≡ coordinate x
 unfolding coordinate le lt eq neg
 coordinate-le nan = refl
 coordinate-le (inf true) = rw million-is
 coordinate-le (inf false) = rw million-is
-coordinate-le (fin false m e) =
-    rw million-is
-    (simp (mul-one, ltb-or-eqb (m * up e) (1000000 * down e) .0, lt-ltb 0 (1000000 * down e + m * up e) (omega (arith, down-pos e)), and-true))
-coordinate-le (fin true m e) =
-    rw million-is
-    (simp (mul-one, ltb-or-eqb (m * up e) (1000000 * down e) .1, lt-ltb 0 (m * up e + 1000000 * down e) (omega (arith, down-pos e)), and-true))
+coordinate-le (fin s m e) =
+    rw million-is (bounded s m e 15625 (pos 6) (omega (arith, down-pos e)) ∙ ap (λ z. leb z (1000000 * down e)) (mul-one (m * up e)))
 
 -- a coordinate is no NaN
 pub coordinate-number : (x : Float) → coordinate x ≡ true → T (not (isNan x))

@@ -59,6 +59,10 @@ refusedQuarter = 12
 abbrev pub refusedInspection : ℕ
 refusedInspection = 13
 
+-- a number times the units of a grid is out of the bounds of whole coordinates
+abbrev pub refusedGrid : ℕ
+refusedGrid = 14
+
 -- those that tell a place: which list or ring it was, or the byte of a file's first fault
 unfoldable pub tellsPlace : ℕ → Bool
 tellsPlace num =

@@ -48,6 +48,9 @@ pub const REFUSED_QUARTER: u32 = 12;
 // The number of a path's points, that of a shift's places, or the start, is out of its bounds.
 pub const REFUSED_INSPECTION: u32 = 13;
 
+// A number times the units of a grid is out of the bounds of whole coordinates.
+pub const REFUSED_GRID: u32 = 14;
+
 // A polygon, and a ring of a book, has 3 to 256 vertices.
 pub const VERTICES_LEAST: usize = 3;
 

@@ -1,5 +1,4 @@
 -- The modules that belong to no one function.
 mod Signs
 mod Parts
-mod Lists
 mod Worked

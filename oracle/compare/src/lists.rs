@@ -3,6 +3,7 @@
 mod book;
 mod clear;
 mod discs;
+mod grid;
 mod mirrors;
 mod paths;
 pub mod places;
@@ -43,12 +44,13 @@ const RINGS: [Law; 5] = [
 const MOVES: [Law; 3] = [clear::handed_out, clear::leg_by_leg, clear::exactly];
 
 /// All lists; the shares add up to a hundred.
-pub const LISTS: [Checked; 11] = [
-    Checked { name: "scalars", share: 12, check: scalars::check, laws: &[] },
+pub const LISTS: [Checked; 12] = [
+    Checked { name: "scalars", share: 10, check: scalars::check, laws: &[] },
     Checked { name: "rings", share: 14, check: rings::check, laws: &RINGS },
     Checked { name: "whole", share: 8, check: whole::check, laws: &[] },
     Checked { name: "clear", share: 8, check: clear::check, laws: &MOVES },
     Checked { name: "discs", share: 4, check: discs::check, laws: &[] },
+    Checked { name: "grid", share: 2, check: grid::check, laws: &[] },
     Checked { name: "sliding", share: 22, check: sliding::check, laws: &[] },
     Checked { name: "book", share: 10, check: book::check, laws: &[mirrors::book_mirrored] },
     Checked { name: "wkb", share: 10, check: wkb::check, laws: &[] },

@@ -50,8 +50,8 @@ impl Compared {
     }
 }
 
-/// How many numbers a call's answer can have: 0 and the refusals 1 to 13.
-const NUMBERS: usize = 14;
+/// How many numbers a call's answer can have: 0 and the refusals 1 to 14.
+const NUMBERS: usize = 15;
 /// How many stop reasons there are, from 1 on.
 const STOPS: usize = 5;
 /// How many grounds there are, from 0 on.

@@ -4,6 +4,7 @@
 pub mod book;
 pub mod clear;
 pub mod discs;
+pub mod grid;
 mod lengths;
 pub mod paths;
 pub mod places;
@@ -72,6 +73,7 @@ pub fn list(name: &str) -> Option<List> {
         "book_one" => Some(book::ONE),
         "clear" => Some(clear::LIST),
         "discs" => Some(discs::LIST),
+        "grid" => Some(grid::LIST),
         "paths" => Some(paths::LIST),
         "places" => Some(places::LIST),
         "sliding" => Some(sliding::LIST),

@@ -4,23 +4,25 @@ use Prim.Native.Nat.{_-_}
 use mathlib.Core.Path.{_∙_}
 use native.Mathlib.Omega.{arith}
 use lib.ListN.{length}
+use lib.Ieee.{nan}
 use borrow.Author.Needs.{needs}
 use mir.Syntax.{w32}
 use mir.ValLaws.{toZ-ofZ}
 use Rattle.refusals.specs.Bounds.{coordinate}
 use Rattle.refusals.proofs.Every.{every-at}
-use Rattle.whole_input.proofs.Lists.{Written, start, turn, done}
+use Rattle.ring.proofs.Mapped.{Written, start, turn, done}
+use Rattle.whole_input.specs.Whole.{wholePart}
 use Rattle.whole_input.proofs.whole_list.Statement.{statement}
 use Rattle.whole_input.proofs.whole_list.Tie as tie
 
 abbrev Inv-loop : tie.InvT-loop
-Inv-loop list room₀ i₀ room i = Written list room₀ room i
+Inv-loop list room₀ i₀ room i = Written wholePart list room₀ room i
 
 abbrev μ-loop : tie.MeasureT-loop
 μ-loop list room₀ i₀ room i = length list - i
 
 loop-holds : tie.Need-loop-holds Inv-loop μ-loop
-loop-holds c = start _ _
+loop-holds c = start wholePart _ _
 
 mul-whole-part : tie.Need-mul-whole-part Inv-loop μ-loop
 mul-whole-part c = omega arith
@@ -49,13 +51,13 @@ loop-again : tie.Need-loop-again Inv-loop μ-loop
 loop-again c =
     let l = c .before .before .before in
     let is = toZ-ofZ w32 _ (record { sfits = c .whole-part .ok }) ∙ c .whole-part .ensures in
-    turn (l .before .before .pre .1) (c .before .before .loop-test .taken) is (l .loop .inv)
+    turn wholePart nan (l .before .before .pre .1) (c .before .before .loop-test .taken) is (l .loop .inv)
 
 same-length : tie.Need-same-length Inv-loop μ-loop
 same-length c = search needs
 
 returns : tie.Need-returns Inv-loop μ-loop
-returns c = done (c .loop-test .left) (c .before .loop .inv)
+returns c = done wholePart (c .loop-test .left) (c .before .loop .inv)
 
 pub whole-list-spec : {M : Type 1} → statement M
 whole-list-spec =

@@ -2,11 +2,12 @@
 //! fixed helpers, called straight, against the exported function with its
 //! refusals; the check of a path against the text's pieces put together; the
 //! library's explanation of a collision against its check; its calls in whole numbers
-//! against those in floats, and against plain Rust in i64; and whole moves against plain
-//! Rust.
+//! against those in floats, and against plain Rust in i64; and whole moves, and floats on
+//! a grid, against plain Rust.
 //! `bench [PART]` measures the rows whose name has this part, all of them without
 //! it, and prints tables of them.
 
+mod grids;
 mod memory;
 mod moves;
 mod paths;
@@ -44,6 +45,9 @@ const INTEGERS: Heads = ["the Rust in i64", "the library", "Rust / library, at l
 /// Plain Rust in i64 beside the library's whole moves, whose bars are times.
 const MOVES: Heads = ["the Rust in i64", "the library", "Rust / library"];
 
+/// Plain Rust beside the library's floats on a grid, whose bar is 4 ns a number.
+const GRIDS: Heads = ["the Rust", "the library", "Rust / library"];
+
 /// Prints a table of these rows, as they are measured.
 fn table(title: &str, [first, second, ratio]: Heads, rows: Vec<Row>, part: &str) {
     let wanted: Vec<Row> = rows.into_iter().filter(|row| row.name.contains(part)).collect();
@@ -75,6 +79,7 @@ fn main() {
     table("Whole numbers against floats", FLOATS, rows::whole_and_floats(), part);
     table("Whole numbers against plain Rust", INTEGERS, rows::whole_and_plain(), part);
     table("Whole moves", MOVES, moves::moves(), part);
+    table("Floats on a grid", GRIDS, grids::grids(), part);
     table("Traces", RUST, traces::traces(), part);
     table("Growth of a trace with vertices, 50 passes", RUST, traces::by_vertices(), part);
     table("Growth of a trace with passes, a point stored in each", RUST, traces::by_passes(), part);

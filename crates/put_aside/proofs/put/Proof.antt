@@ -1,0 +1,48 @@
+-- `put_aside::put` meets its contract: two stores. Assumes nothing.
+use borrow.Author.Needs.{needs}
+use mathlib.Core.Path.{refl}
+use Rattle.put_aside.specs.Aside.{putSpot}
+use Rattle.put_aside.proofs.put.Statement.{statement}
+use Rattle.put_aside.proofs.put.Tie as tie
+
+mul-room : tie.Need-mul-room
+mul-room c = search needs
+
+mul-room-2 : tie.Need-mul-room-2
+mul-room-2 c = search needs
+
+slice-write-room : tie.Need-slice-write-room
+slice-write-room c = search needs
+
+mul-room-3 : tie.Need-mul-room-3
+mul-room-3 c = search needs
+
+add-room : tie.Need-add-room
+add-room c = search needs
+
+mul-room-4 : tie.Need-mul-room-4
+mul-room-4 c = search needs
+
+slice-write-room-2 : tie.Need-slice-write-room-2
+slice-write-room-2 c = search needs
+
+same-length : tie.Need-same-length
+same-length c = search needs
+
+returns : tie.Need-returns
+unfolding putSpot
+returns c = refl
+
+pub put-spec : {M : Type 1} → statement M
+put-spec =
+    tie.close
+    (tie.spec
+    mul-room
+    mul-room-2
+    slice-write-room
+    mul-room-3
+    add-room
+    mul-room-4
+    slice-write-room-2
+    same-length
+    returns)

@@ -1,0 +1,3 @@
+-- The definitions that the contracts of to_grid cite.
+pub mod Grid
+pub mod Calls
