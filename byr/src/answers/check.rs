@@ -4,7 +4,7 @@ use super::legs::Legs;
 use crate::drawing::Ring;
 use crate::grid::Grid;
 use crate::Result;
-use byrlygent::nfp_sliding::{check_path, Fault as First, SlidingNfpConfig};
+use byrlygent::nfp_sliding::Fault as First;
 use byrlygent::Point;
 
 /// A path, and what comes of it.
@@ -22,15 +22,15 @@ pub struct Check {
 }
 
 impl Check {
-    /// What comes of a path; a grid that is asked for must fit.
+    /// What comes of a path whose first fault by the rule is told; a grid that is asked for must
+    /// fit.
     pub fn of(
         carrier: &Ring,
         disc: &Ring,
         path: Ring,
-        settings: &SlidingNfpConfig,
+        fault: First,
         grid: Option<Grid>,
     ) -> Result<Self> {
-        let fault = check_path(&carrier.points, &disc.points, settings, &path.points)?;
         let legs = Legs::of(grid, [carrier, disc, &path], true);
         let legs = match grid {
             Some(_) => Ok(legs?),

@@ -7,6 +7,7 @@ use crate::shelf::Shelf;
 use crate::told::Told;
 use crate::words::moved::Telling;
 use crate::{words, Fault, Result};
+use byrlygent::nfp_sliding::check_path;
 
 pub const JOB: Job = Job {
     name: "check",
@@ -26,7 +27,8 @@ fn called(asked: &Asked) -> Result<Told> {
     let [carrier, disc, name] = asked.files(["CARRIER", "DISC", "PATH"])?;
     let mut shelf = Shelf::default();
     let (carrier, disc, path) = (shelf.ring(carrier)?, shelf.ring(disc)?, shelf.path(name)?);
-    let check = Check::of(&carrier, &disc, path, &asked.settings()?, asked.grid()?)
-        .map_err(|fault| Fault::of(name, fault))?;
+    let fault = check_path(&carrier.points, &disc.points, &asked.settings()?, &path.points)
+        .map_err(|refusal| Fault::of(name, refusal))?;
+    let check = Check::of(&carrier, &disc, path, fault, asked.grid()?)?;
     Ok(Told { lines: words::check::told(&check, Telling::asked(asked)), well: check.is_well() })
 }
