@@ -1,4 +1,6 @@
 // Whether two numbers, or two points, are the same, bit for bit.
+#![tactic(auto)]
+
 ghost use Rattle.bitwise.specs.Same.{Same};
 
 use plane::Point;

@@ -1,4 +1,6 @@
 // The sizes of the outline book, in bytes.
+#![tactic(auto)]
+
 use refusals::{RINGS_MOST, VERTICES_LEAST, VERTICES_MOST};
 
 pub const FIELD_BYTES: usize = 4;

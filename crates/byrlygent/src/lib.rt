@@ -1,4 +1,6 @@
 // The exported functions: what a layout program links and calls as C. All but the scalars return 0 or the refusal's number.
+#![tactic(auto)]
+
 pub mod book;
 pub mod clear;
 pub mod disc;

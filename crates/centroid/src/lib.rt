@@ -1,4 +1,6 @@
 // The centroid of a polygon, by docs/SCOPE.md's formula: of its area, or of its vertices where the area is close to zero.
+#![tactic(auto)]
+
 ghost use Rattle.std.specs.Prelude.{◌≡◌, ◌<◌};
 ghost use Rattle.ring.specs.Ring.{count};
 ghost use Rattle.centroid.specs.Centroid.{grown_of, moments_to, total_to, mean_of, centroid_of};
@@ -9,7 +11,7 @@ use ring::{next, point_at};
 use scalar::abs;
 
 // The sums over the edges of a polygon: twice the area, and six times its moments.
-#[derive(Drop)]
+#[derive(Clone, Copy)]
 pub struct Moments {
     pub area: f64,
     pub x: f64,

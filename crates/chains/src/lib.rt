@@ -1,4 +1,6 @@
 // Chains of eight neighbouring edges: where a ray passes beside all edges of a chain, one test tells.
+#![tactic(auto)]
+
 ghost use Rattle.std.specs.Prelude.{◌≡◌, true, false, cond, ◌+◌, ◌*◌, ◌/◌, ◌<◌, ◌≤◌, T, length};
 ghost use Rattle.std.specs.Float.Ieee.{lt, le};
 ghost use Rattle.scalar.specs.Float.{f0, f0·5};
@@ -17,7 +19,7 @@ pub const NUMBERS: usize = 192;
 
 // What bounds a chain for rays of one direction: the corners of its box that lie least and most to the side of a ray, and twice the largest
 // denominator of the parameter along an edge.
-#[derive(Drop)]
+#[derive(Clone, Copy)]
 pub struct Chain {
     pub least: Point,
     pub most: Point,

@@ -1,4 +1,6 @@
 // The vector to slide along: of those that lead to no visited position the first with the greatest score.
+#![tactic(auto)]
+
 ghost use Rattle.std.specs.Prelude.{◌≡◌, ◌<◌};
 ghost use Rattle.ring.specs.Ring.{count, point_at};
 ghost use Rattle.pairs.specs.Pairs.{Sides, pair_count};
@@ -21,14 +23,14 @@ use vectors::course::{Course, course_by, direction_of, is_below, over, reach, to
 use vectors::fit::is_visited;
 
 // A vector, or nothing.
-#[derive(Drop)]
+#[derive(Clone, Copy)]
 pub enum Choice {
     Nothing,
     Vector(TranslationVector),
 }
 
 // The best vector so far and its score; where none is found yet, -infinity. Found is 1, and else 0.
-#[derive(Drop)]
+#[derive(Clone, Copy)]
 pub struct Best {
     pub found: u64,
     pub score: f64,
@@ -36,7 +38,7 @@ pub struct Best {
 }
 
 // What a vector makes of the best so far: nothing, or it is the best, with this score.
-#[derive(Drop)]
+#[derive(Clone, Copy)]
 pub enum Weighed {
     Passed,
     Raised(f64),

@@ -1,5 +1,7 @@
 // Whether a move on the grid is clear of a ring with the disc put aside a little: the search as it is, and then in each of the
 // ways of put_aside until one parts every edge; and the check of lines that are lent. All numbers are moved up.
+#![tactic(auto)]
+
 ghost use Rattle.std.specs.Prelude.{true, ◌≡◌, ◌≤◌, length};
 ghost use Rattle.shifted.specs.Shifted.{SmallRing};
 ghost use Rattle.reasons.specs.Check.{clear};
@@ -14,7 +16,7 @@ use shifted::Spot;
 
 // What is found: clear with the disc put by this `how`; by none, and this is the first edge that is not parted with 0; the way is
 // enclosed, with this `how`.
-#[derive(Drop)]
+#[derive(Clone, Copy)]
 pub enum Found {
     Clear(u32),
     Edge(usize),

@@ -2,7 +2,7 @@
 use reason_check::Ground;
 use refusals::Refusal;
 
-#[derive(Drop)]
+#[derive(Clone, Copy)]
 pub enum Judged {
     Is(Ground),
     Refused(Refusal),

@@ -1,4 +1,6 @@
 // Whether a whole move is clear, with the reason: the lent coordinates are moved up by a million, and then searched or checked.
+#![tactic(auto)]
+
 pub mod answer;
 pub mod calls;
 pub mod row;

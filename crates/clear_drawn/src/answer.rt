@@ -2,7 +2,7 @@
 use clear_aside::Found;
 use refusals::Refusal;
 
-#[derive(Drop)]
+#[derive(Clone, Copy)]
 pub enum Judged {
     Is(Found),
     Refused(Refusal),

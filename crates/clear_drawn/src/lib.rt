@@ -1,5 +1,7 @@
 // Whether a drawn move is clear to a depth, with the reason: the floats are put on the grid and moved up, and then searched or
 // checked, with the disc put aside where that is needed.
+#![tactic(auto)]
+
 pub mod answer;
 pub mod calls;
 

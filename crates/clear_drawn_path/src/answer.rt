@@ -2,7 +2,7 @@
 use crate::PathFound;
 use refusals::Refusal;
 
-#[derive(Drop)]
+#[derive(Clone, Copy)]
 pub enum PathJudged {
     Is(PathFound),
     Refused(Refusal),

@@ -1,5 +1,7 @@
 // Whether a drawn path is clear to a depth: the search on each of its legs, until one that is not clear. What is drawn is put on
 // the grid once.
+#![tactic(auto)]
+
 pub mod answer;
 pub mod calls;
 
@@ -19,7 +21,7 @@ use to_grid::lay;
 
 // What is found: every leg is clear but for this depth; this is the first leg that is not, and this edge the first that is not
 // parted there; it is, and the way is enclosed.
-#[derive(Drop)]
+#[derive(Clone, Copy)]
 pub enum PathFound {
     Clear(u32),
     Edge { leg: usize, edge: usize },

@@ -1,6 +1,8 @@
 // Says whether a whole move is clear, and why. Standard input has the move's x and y, four bytes each in two's complement, and
 // then a book whose first ring is the stationary polygon and whose second is the orbiting one, at the start; all coordinates are
 // whole.
+#![tactic(auto)]
+
 mod say;
 mod shared;
 

@@ -2,7 +2,7 @@
 use crate::PathGround;
 use refusals::Refusal;
 
-#[derive(Drop)]
+#[derive(Clone, Copy)]
 pub enum PathJudged {
     Is(PathGround),
     Refused(Refusal),

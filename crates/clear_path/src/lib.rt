@@ -1,4 +1,6 @@
 // Whether a closed path of whole points is clear: the search for a reason on each of its legs, until one that is not clear.
+#![tactic(auto)]
+
 pub mod answer;
 pub mod calls;
 pub mod row;
@@ -18,7 +20,7 @@ use whole_moves::lift_moved;
 
 // What is found: every leg is clear; this is the first leg that is not, and this edge the first that is not parted there; it is,
 // and the way is enclosed.
-#[derive(Drop)]
+#[derive(Clone, Copy)]
 pub enum PathGround {
     Clear,
     Edge { leg: usize, edge: usize },

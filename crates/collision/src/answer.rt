@@ -2,7 +2,7 @@
 use crate::Collision;
 use refusals::Refusal;
 
-#[derive(Drop)]
+#[derive(Clone, Copy)]
 pub enum Checked {
     Is(Collision),
     Refused(Refusal),

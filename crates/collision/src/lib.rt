@@ -1,5 +1,7 @@
 // What a move runs into: rays against segments, the scan of both kinds of pair, the nearest hit: `check_translation_collision` of
 // `nfp_sliding.rs`.
+#![tactic(auto)]
+
 pub mod answer;
 pub mod calls;
 
@@ -20,14 +22,14 @@ use plane::vector::{cross, length, minus};
 use ring::{next, point_at};
 
 // A ray against a segment: it misses, or it meets the segment at a distance.
-#[derive(Drop)]
+#[derive(Clone, Copy)]
 pub enum Ray {
     Miss,
     At(f64),
 }
 
 // What a move runs into. Kind 0 is a vertex of orbiting on an edge of stationary, kind 1 a vertex of stationary on an edge of orbiting.
-#[derive(Drop)]
+#[derive(Clone, Copy)]
 pub enum Collision {
     Nothing,
     Hit {
@@ -39,7 +41,7 @@ pub enum Collision {
 }
 
 // A sweep of rays: their direction, the distance below which a hit counts, and the tolerance above which it does.
-#[derive(Drop)]
+#[derive(Clone, Copy)]
 pub struct Sweep {
     pub dir: Point,
     pub limit: f64,

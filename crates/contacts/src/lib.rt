@@ -1,4 +1,6 @@
 // The contacts of a stationary and an orbiting ring, one after the other, in the order of the pairs' numbers.
+#![tactic(auto)]
+
 mod rows;
 
 ghost use Rattle.std.specs.Prelude.{◌≡◌, ◌*◌, ◌<◌, ◌≤◌};
@@ -15,7 +17,7 @@ use ring::{next, point_at};
 use rows::{scan_edges, scan_vertices};
 
 // The two edges of a pair: a b of the stationary ring, c d of the orbiting one.
-#[derive(Drop)]
+#[derive(Clone, Copy)]
 pub struct Edges {
     pub a: Point,
     pub b: Point,
@@ -24,14 +26,14 @@ pub struct Edges {
 }
 
 // The bounds around both rings.
-#[derive(Drop)]
+#[derive(Clone, Copy)]
 pub struct Frames {
     pub stationary: Frame,
     pub orbiting: Frame,
 }
 
 // The first contact from a pair's number on.
-#[derive(Drop)]
+#[derive(Clone, Copy)]
 pub enum Next {
     Nothing,
     At(usize),

@@ -1,4 +1,6 @@
 // The unit vectors along a ring's edges, worked out once: each takes a root.
+#![tactic(auto)]
+
 ghost use Rattle.std.specs.Prelude.{◌≡◌, ◌*◌, ◌≤◌, ◌<◌, length};
 ghost use Rattle.plane.specs.Vector.{normalize_of};
 ghost use Rattle.ring.specs.Ring.{count};

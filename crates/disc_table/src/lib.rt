@@ -1,4 +1,6 @@
 // The table of a disc's first quarter: 257 points that lie on a circle of radius 2^30, as nearly as whole numbers allow.
+#![tactic(auto)]
+
 mod table;
 
 ghost use Rattle.std.specs.Prelude.{◌≡◌, ◌≤◌};
@@ -7,7 +9,7 @@ ghost use Rattle.disc_table.specs.Table.{entry_of};
 use table::TABLE;
 
 // A point of the table, or such a point turned by quarters.
-#[derive(Drop)]
+#[derive(Clone, Copy)]
 pub struct Entry {
     pub x: i32,
     pub y: i32,

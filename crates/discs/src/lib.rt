@@ -1,4 +1,6 @@
 // A disc of 4 to 256 vertices, made of a table of whole numbers: the same bits wherever it is made.
+#![tactic(auto)]
+
 pub mod calls;
 
 ghost use Rattle.std.specs.Prelude.{◌≡◌, ◌*◌, ◌^◌, ◌<◌, ◌≤◌, neg_ℤ, nat_abs, length};

@@ -1,5 +1,7 @@
 // The tests of what the calls on drawn moves are lent: two polygons, positions, units, and lines. The numbers of lists with a
 // fault are not read. A move is a path of two points.
+#![tactic(auto)]
+
 ghost use Rattle.std.specs.Prelude.{true, [], ◌∷◌, ◌≡◌, ◌/◌, ◌≤◌, length};
 ghost use Rattle.refusals.specs.Bounds.{every};
 ghost use Rattle.refusals.specs.Lists.{fault_of, polygon_extent};

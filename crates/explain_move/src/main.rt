@@ -1,5 +1,7 @@
 // Says what a move runs into, or why it is clear. Standard input has the move's x and y and the tolerance as bit patterns, eight bytes
 // each, and then a book whose first ring is the stationary polygon and whose second is the orbiting one.
+#![tactic(auto)]
+
 mod say;
 
 ghost use Rattle.std.specs.Prelude.{◌≡◌, ◌+◌, ◌*◌, ◌≤◌, length};

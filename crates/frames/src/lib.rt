@@ -1,4 +1,6 @@
 // A frame around a ring's vertices and edges: where a frame of points lies apart from one of edges, no point is near an edge.
+#![tactic(auto)]
+
 ghost use Rattle.std.specs.Prelude.{◌≡◌, true, false, ◌<◌, T};
 ghost use Rattle.std.specs.Float.{binary64};
 ghost use Rattle.std.specs.Float.Ieee.{fits};
@@ -11,7 +13,7 @@ use plane::vector::{minus, plus};
 use ring::{next, point_at};
 
 // The least and the greatest coordinate along each axis.
-#[derive(Drop)]
+#[derive(Clone, Copy)]
 pub struct Frame {
     pub left: f64,
     pub right: f64,

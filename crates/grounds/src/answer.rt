@@ -2,7 +2,7 @@
 use crate::Explanation;
 use refusals::Refusal;
 
-#[derive(Drop)]
+#[derive(Clone, Copy)]
 pub enum Explained {
     Is(Explanation),
     Refused(Refusal),

@@ -1,5 +1,7 @@
 // Why a move is clear, or what it runs into: the collision check's answer with its ground, and the counts of all computed hits. One scan of
 // the rule's pairs.
+#![tactic(auto)]
+
 pub mod answer;
 pub mod calls;
 
@@ -22,7 +24,7 @@ use ring::point_at;
 
 // Why the answer is what it is: a hit; or the move is shorter than the tolerance, no pair is ever hit, all hits are too near, all are too
 // far, or there are hits on both sides and none between.
-#[derive(Drop)]
+#[derive(Clone, Copy)]
 pub enum Ground {
     Hit,
     Short,
@@ -33,7 +35,7 @@ pub enum Ground {
 }
 
 // An edge that a ray meets, with the ray against it.
-#[derive(Drop)]
+#[derive(Clone, Copy)]
 struct Met {
     edge: usize,
     ray: Ray,
@@ -41,7 +43,7 @@ struct Met {
 
 // What is known of the pairs scanned: the nearest hit that counts, how many other pairs have its very distance, and how many hits are too
 // near, between and too far.
-#[derive(Drop)]
+#[derive(Clone, Copy)]
 pub struct Tally {
     pub best: Collision,
     pub others: u64,
@@ -51,7 +53,7 @@ pub struct Tally {
 }
 
 // The ground, and what is known of all pairs.
-#[derive(Drop)]
+#[derive(Clone, Copy)]
 pub struct Explanation {
     pub ground: Ground,
     pub tally: Tally,

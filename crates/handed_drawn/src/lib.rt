@@ -1,5 +1,7 @@
 // What is found of drawn moves. On an answer the ground is written, the depth and how the disc was put with 0 and 2, the edge with
 // 1; of a path the depth with 0, the leg with 1 and 2, the edge with 1. A refusal leaves the cells as they were.
+#![tactic(auto)]
+
 ghost use Rattle.std.specs.Prelude.{◌≡◌};
 ghost use Rattle.clear_drawn.specs.Calls.{judged};
 ghost use Rattle.clear_drawn_path.specs.Calls.{path_judged};

@@ -1,4 +1,6 @@
 // The places of a path that a shift inspects: the next ones in path order, the last on to the first.
+#![tactic(auto)]
+
 pub mod answer;
 pub mod calls;
 

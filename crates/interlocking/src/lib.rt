@@ -1,4 +1,6 @@
 // A position toward a concave vertex of the stationary polygon: `detect_interlocking_opportunity` of `nfp_sliding.rs`.
+#![tactic(auto)]
+
 pub mod calls;
 
 ghost use Rattle.std.specs.Prelude.{◌≡◌, ◌%◌, ◌<◌, ◌≤◌, length};

@@ -1,4 +1,6 @@
 // The lines that the programs share: a refusal's, and those of a list's points.
+#![tactic(auto)]
+
 ghost use Rattle.std.specs.Prelude.{◌≡◌, ◌+◌, ◌*◌, ◌≤◌, length};
 ghost use Rattle.print.specs.Text.{Put};
 ghost use Rattle.lines.specs.Lines.{number_line, place_line, refusal_line, point_lines};

@@ -1,13 +1,13 @@
 // What the call answers: how many vertices remain and how many were dropped, or the refusal.
 use refusals::Refusal;
 
-#[derive(Drop)]
+#[derive(Clone, Copy)]
 pub struct Sizes {
     pub vertices: usize,
     pub dropped: usize,
 }
 
-#[derive(Drop)]
+#[derive(Clone, Copy)]
 pub enum Mended {
     Is(Sizes),
     Refused(Refusal),

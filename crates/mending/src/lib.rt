@@ -1,4 +1,6 @@
 // A ring with repeated points, mended: of each run of equal neighbours the first stays, and the vertices at the end that equal the first go.
+#![tactic(auto)]
+
 pub mod answer;
 pub mod calls;
 mod row;
@@ -17,7 +19,7 @@ const RUN: u64 = 0;
 const TRAILING: u64 = 1;
 
 // What becomes of a vertex: it stays, or it goes, and why.
-#[derive(Drop)]
+#[derive(Clone, Copy)]
 pub enum Fate {
     Stays,
     Goes(u64),

@@ -1,4 +1,6 @@
 // Whether a length is below a tolerance, or above it, without a root where the square is so far above the tolerance's that it tells.
+#![tactic(auto)]
+
 ghost use Rattle.std.specs.Prelude.{◌≡◌};
 ghost use Rattle.std.specs.Float.Ieee.{lt};
 ghost use Rattle.plane.specs.Vector.{length_of, distance_of};

@@ -4,7 +4,7 @@ ghost use Rattle.nfp_sliding.specs.Calls.{traced, refusal_of};
 
 use refusals::{REFUSED_FIT, REFUSED_SHORT_PATH, Refusal};
 
-#[derive(Drop)]
+#[derive(Clone, Copy)]
 pub enum Traced {
     Is {
         points: usize,

@@ -1,4 +1,6 @@
 // Whether two polygons overlap, by separating axes: `polygons_overlap_with_tolerance` of `nfp_sliding.rs`, and the bounding box.
+#![tactic(auto)]
+
 pub mod calls;
 
 ghost use Rattle.std.specs.Prelude.{◌≡◌, ◌<◌};
@@ -12,14 +14,14 @@ use ring::{next, point_at};
 use scalar::{abs, larger, smaller};
 
 // The least and the greatest of some numbers.
-#[derive(Drop)]
+#[derive(Clone, Copy)]
 pub struct Extent {
     pub min: f64,
     pub max: f64,
 }
 
 // The bounding box of a polygon.
-#[derive(Drop)]
+#[derive(Clone, Copy)]
 pub struct Bounds {
     pub x: Extent,
     pub y: Extent,

@@ -1,11 +1,13 @@
 // The pairs of an element of the stationary ring and one of the orbiting ring, numbered in the order in which a scan takes them: orbiting
 // vertices by stationary edges, stationary vertices by orbiting edges, stationary edges by orbiting edges.
+#![tactic(auto)]
+
 ghost use Rattle.std.specs.Prelude.{◌≡◌, ◌≤◌};
 ghost use Rattle.pairs.specs.Pairs.{Sides, pair_count, pair_of};
 
 // Kind 0 is a vertex of the orbiting ring with an edge of the stationary one, 1 a vertex of the stationary ring with an edge of the
 // orbiting one, 2 an edge of each. An edge has the index of its first vertex.
-#[derive(Drop)]
+#[derive(Clone, Copy)]
 pub struct Pair {
     pub kind: u8,
     pub stationary: usize,

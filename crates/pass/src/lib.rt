@@ -1,4 +1,6 @@
 // One pass of the trace: the loop's body in `trace_nfp_boundary` of `nfp_sliding.rs`.
+#![tactic(auto)]
+
 pub mod slide;
 pub mod stop;
 
@@ -20,14 +22,14 @@ use selection::{Previous, preferred};
 use slide::slide;
 
 // What a pass measures by: the contact tolerance, and the smallest move that is made and stored.
-#[derive(Drop)]
+#[derive(Clone, Copy)]
 pub struct Margins {
     pub tolerance: f64,
     pub smallest: f64,
 }
 
 // Where the orbiting polygon is, the direction of the slide before, and how often in a row no vector was left.
-#[derive(Drop)]
+#[derive(Clone, Copy)]
 pub struct Pose {
     pub position: Point,
     pub previous: Previous,
@@ -35,7 +37,7 @@ pub struct Pose {
 }
 
 // What a pass comes to: the trace stops, with its reason; or it goes on from a pose, whose position is stored or is not.
-#[derive(Drop)]
+#[derive(Clone, Copy)]
 pub enum Step {
     Stop(u32),
     Stay(Pose),

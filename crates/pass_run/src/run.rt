@@ -13,14 +13,14 @@ use plane::Point;
 use ring::room::put;
 
 // Where the trace is, and how many points it has stored.
-#[derive(Drop)]
+#[derive(Clone, Copy)]
 pub struct State {
     pub pose: Pose,
     pub stored: usize,
 }
 
 // What comes after a pass: the trace stops, or the pass's point does not fit the room, or the trace goes on.
-#[derive(Drop)]
+#[derive(Clone, Copy)]
 pub enum After {
     Halt(u32),
     Full,
@@ -28,7 +28,7 @@ pub enum After {
 }
 
 // How a run ended: whether the room was full, the reason where it was not, the passes begun, and how many points are stored.
-#[derive(Drop)]
+#[derive(Clone, Copy)]
 pub struct End {
     pub full: bool,
     pub reason: u32,

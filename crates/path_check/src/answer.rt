@@ -2,7 +2,7 @@
 use crate::Fault;
 use refusals::Refusal;
 
-#[derive(Drop)]
+#[derive(Clone, Copy)]
 pub enum Verdict {
     Is(Fault),
     Refused(Refusal),

@@ -1,4 +1,6 @@
 // A path that another program traced, gone through point by point and leg by leg: the first fault.
+#![tactic(auto)]
+
 pub mod answer;
 pub mod calls;
 pub mod row;
@@ -16,7 +18,7 @@ use ring::moving::move_ring;
 use ring::{next, point_at};
 
 // What is wrong with a path: nothing; the point has no contact; the leg from the point to the next runs into something.
-#[derive(Drop)]
+#[derive(Clone, Copy)]
 pub enum Fault {
     Nothing,
     Point(usize),

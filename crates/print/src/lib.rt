@@ -1,4 +1,6 @@
 // Text put into a lent room: byte strings, and numbers in decimal and in hexadecimal digits.
+#![tactic(auto)]
+
 ghost use Rattle.std.specs.Prelude.{◌≡◌, ◌++◌, ◌+◌, ◌<◌, ◌≤◌, length, take};
 ghost use Rattle.print.specs.Digits.{digit, digits, width, decimal, hex};
 ghost use Rattle.print.specs.Text.{Put, pair_line};

@@ -3,7 +3,7 @@ use crate::foot::Foot;
 use refusals::Refusal;
 
 // The foot's parameter and where it sits, or the refusal of what is lent.
-#[derive(Drop)]
+#[derive(Clone, Copy)]
 pub enum Projected {
     Is { parameter: f64, foot: Foot },
     Refused(Refusal),

@@ -5,7 +5,7 @@ ghost use Rattle.projection.specs.Foot.{foot_at, foot_of, foot_code};
 use plane::{Point, segment};
 
 // At the edge's start, at its end, or between.
-#[derive(Drop)]
+#[derive(Clone, Copy)]
 pub enum Foot {
     Start,
     End,

@@ -1,5 +1,7 @@
 // The corners of a disc put aside on the grid by 1 or 2 units, in one of ten ways: rounding to the grid can push what only
 // touches into each other, and so a later call asks whether the disc is clear there. All numbers are moved up by a million.
+#![tactic(auto)]
+
 ghost use Rattle.std.specs.Prelude.{◌≡◌, ◌+◌, ◌*◌, ◌/◌, ◌≤◌, ◌<◌, min, max, length};
 ghost use Rattle.ring.specs.Room.{laid};
 ghost use Rattle.shifted.specs.Shifted.{Small, SmallRing};
@@ -11,7 +13,7 @@ ghost use Rattle.put_aside.specs.Aside.{DiscLent, Ruled};
 use shifted::{Spot, spot_at};
 
 // How far a corner goes: to the right, to the left, up, and down.
-#[derive(Drop)]
+#[derive(Clone, Copy)]
 pub struct Step {
     pub east: u64,
     pub west: u64,
@@ -20,7 +22,7 @@ pub struct Step {
 }
 
 // How corners are put aside: the way, the width, the move, and the middles of x, of y, and across the move.
-#[derive(Drop)]
+#[derive(Clone, Copy)]
 pub struct Rule {
     pub way: u32,
     pub w: u64,

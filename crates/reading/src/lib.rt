@@ -1,4 +1,6 @@
 // The readings of a lent ring by number, their order, and the least of them.
+#![tactic(auto)]
+
 ghost use Rattle.std.specs.Prelude.{◌≡◌, not, ◌*◌, ◌<◌, ◌≤◌, length, get_or, T};
 ghost use Rattle.std.specs.Float.Ieee.{is_nan};
 ghost use Rattle.reading.specs.Reading.{ord, flat, choice, earlier, best_of, is_least};
@@ -101,7 +103,7 @@ fn number(n: usize, back: bool, u: usize) -> usize
 }
 
 // Two starts in one direction, the first before the second, and how many coordinates of their readings are known to be the same.
-#[derive(Drop)]
+#[derive(Clone, Copy)]
 struct Starts {
     first: usize,
     second: usize,

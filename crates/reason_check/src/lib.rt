@@ -1,5 +1,7 @@
 // The check of a reason that is lent: whether each of its lines parts its edge from the way, and then the balance. All numbers
 // are moved up, so that none is below zero.
+#![tactic(auto)]
+
 ghost use Rattle.std.specs.Prelude.{◌≡◌, ◌*◌, ◌/◌, ◌≤◌, ◌<◌, min, length};
 ghost use Rattle.shifted.specs.Shifted.{Small, spot_at};
 ghost use Rattle.reasons.specs.Reason.{mark};
@@ -13,7 +15,7 @@ use ring::next;
 use shifted::{Spot, spot_at};
 
 // What is found: the reason holds; this edge is the first that is not parted; all are, and the way is enclosed.
-#[derive(Drop)]
+#[derive(Clone, Copy)]
 pub enum Ground {
     Clear,
     Edge(usize),

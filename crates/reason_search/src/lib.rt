@@ -1,5 +1,7 @@
 // The search for a reason that a way is clear: for each stationary edge the line of the edge before, or else the first line that
 // parts it, and then the balance. All numbers are moved up, so that none is below zero: 1000000 stands for 0.
+#![tactic(auto)]
+
 ghost use Rattle.std.specs.Prelude.{◌≡◌, ◌+◌, ◌*◌, ◌/◌, ◌≤◌, ◌<◌, max, length};
 ghost use Rattle.std.proofs.lemmas.List.Edits.{sets};
 ghost use Rattle.shifted.specs.Shifted.{Small, spot_at};
@@ -17,21 +19,21 @@ use ring::next;
 use shifted::{Spot, spot_at};
 
 // A line, by two points.
-#[derive(Drop)]
+#[derive(Clone, Copy)]
 pub struct Line {
     pub p: Spot,
     pub q: Spot,
 }
 
 // A box, by its lower left corner and its upper right one.
-#[derive(Drop)]
+#[derive(Clone, Copy)]
 pub struct Span {
     pub low: Spot,
     pub high: Spot,
 }
 
 // The line that is taken for an edge, and whether it parts it.
-#[derive(Drop)]
+#[derive(Clone, Copy)]
 pub struct Taken {
     pub line: Line,
     pub parted: bool,

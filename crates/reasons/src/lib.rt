@@ -1,1 +1,2 @@
 // Why nothing lay in between: what a reason is, and what it tells. Definitions and theorems alone.
+#![tactic(auto)]

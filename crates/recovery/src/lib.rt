@@ -1,4 +1,6 @@
 // Contact recovered by a move toward the nearest point of the stationary polygon: `recover_contact` of `nfp_sliding.rs`.
+#![tactic(auto)]
+
 pub mod calls;
 
 ghost use Rattle.std.specs.Prelude.{◌≡◌, ◌<◌};
@@ -14,7 +16,7 @@ use refusals::answer::Found;
 use ring::{next, point_at};
 
 // A point and its distance, or +infinity and nothing.
-#[derive(Drop)]
+#[derive(Clone, Copy)]
 pub struct Closest {
     pub distance: f64,
     pub target: Found,

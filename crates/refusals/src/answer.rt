@@ -2,40 +2,40 @@
 use crate::Refusal;
 use plane::{Orientation, Point};
 
-#[derive(Drop)]
+#[derive(Clone, Copy)]
 pub enum Truth {
     Is(bool),
     Refused(Refusal),
 }
 
-#[derive(Drop)]
+#[derive(Clone, Copy)]
 pub enum Turn {
     Is(Orientation),
     Refused(Refusal),
 }
 
-#[derive(Drop)]
+#[derive(Clone, Copy)]
 pub enum Number {
     Is(f64),
     Refused(Refusal),
 }
 
 // How many entries were written to the room.
-#[derive(Drop)]
+#[derive(Clone, Copy)]
 pub enum Count {
     Is(usize),
     Refused(Refusal),
 }
 
 // A point, or nothing.
-#[derive(Drop)]
+#[derive(Clone, Copy)]
 pub enum Found {
     Nothing,
     At(Point),
 }
 
 // A position to move to, or nothing.
-#[derive(Drop)]
+#[derive(Clone, Copy)]
 pub enum Position {
     Is(Found),
     Refused(Refusal),

@@ -1,4 +1,6 @@
 // The refusals of the public calls: the record and its numbers, the tests of what a call is lent, and the rows in which they speak.
+#![tactic(auto)]
+
 pub mod answer;
 pub mod lists;
 pub mod rings;
@@ -65,7 +67,7 @@ pub const RINGS_MOST: usize = 8;
 pub const POINTS_MOST: usize = 10001;
 
 // A refusal's number and the place it tells, 0 where it tells none. The number 0 is no refusal.
-#[derive(Drop)]
+#[derive(Clone, Copy)]
 pub struct Refusal {
     pub number: u32,
     pub place: u64,
@@ -113,7 +115,7 @@ impl Refusal {
 }
 
 // The settings of a trace: how near is a contact, how short a move is too short, and how many passes at most.
-#[derive(Drop)]
+#[derive(Clone, Copy)]
 pub struct Settings {
     pub contact_tolerance: f64,
     pub min_translation: f64,

@@ -1,4 +1,6 @@
 // What the replay programs share: words of a list of the oracle's answers, and the report.
+#![tactic(auto)]
+
 ghost use Rattle.std.specs.Prelude.{◌≤◌, ◌<◌, length};
 ghost use Rattle.replay.specs.Tally.{Counted};
 
@@ -155,7 +157,7 @@ pub fn same_bytes(a: &[u8], b: &[u8], n: usize) -> bool
 }
 
 // What reading a record came to.
-#[derive(Drop)]
+#[derive(Clone, Copy)]
 pub enum Verdict {
     End,
     Agrees,
@@ -163,7 +165,7 @@ pub enum Verdict {
 }
 
 // How many records were seen and how many of them agreed, and how many more are read at most.
-#[derive(Drop)]
+#[derive(Clone, Copy)]
 pub struct Tally {
     pub seen: u64,
     pub agreed: u64,

@@ -1,5 +1,7 @@
 // Replays the oracle's answers on whole moves, reasons and whole paths: records of a call's number, what it is lent, what it answers and what
 // it leaves, from standard input.
+#![tactic(auto)]
+
 mod told;
 
 ghost use Rattle.std.specs.Prelude.{◌≡◌, ◌≤◌, length};

@@ -6,7 +6,7 @@ use clear_path::answer::PathJudged;
 use reason_check::Ground;
 use refusals::Refusal;
 
-#[derive(Drop)]
+#[derive(Clone, Copy)]
 pub struct Told {
     pub number: u64,
     pub ground: u64,

@@ -1,5 +1,7 @@
 // Replays the oracle's answers on moves and paths of a drawing: records of a call's number, what it is lent, what it answers and what it
 // leaves, from standard input.
+#![tactic(auto)]
+
 mod told;
 
 ghost use Rattle.std.specs.Prelude.{◌≡◌, ◌≤◌, length};
@@ -62,7 +64,7 @@ fn low(word: u64) -> u32 {
 }
 
 // What a call is lent besides its lists: the ends of a move, the units, and how, or whether a path is closed.
-#[derive(Drop)]
+#[derive(Clone, Copy)]
 struct Asked {
     from: Point,
     to: Point,

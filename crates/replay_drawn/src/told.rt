@@ -6,7 +6,7 @@ use clear_drawn_path::PathFound;
 use clear_drawn_path::answer::PathJudged;
 use refusals::Refusal;
 
-#[derive(Drop)]
+#[derive(Clone, Copy)]
 pub struct Told {
     pub number: u64,
     pub ground: u64,

@@ -1,4 +1,6 @@
 // Replays the oracle's answers for floats on a grid: records of what the call is lent, answers and leaves, from standard input.
+#![tactic(auto)]
+
 ghost use Rattle.std.specs.Prelude.{◌≡◌, ◌≤◌, length};
 
 use libc::STDIN_FILENO;

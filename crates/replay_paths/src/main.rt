@@ -1,4 +1,6 @@
 // Replays the oracle's checks of paths: records of what a check is lent and what it answers, from standard input.
+#![tactic(auto)]
+
 mod told;
 
 ghost use Rattle.std.specs.Prelude.{◌≡◌, ◌≤◌, length};

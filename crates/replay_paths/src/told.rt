@@ -3,7 +3,7 @@
 use path_check::Fault;
 use path_check::answer::Verdict;
 
-#[derive(Drop)]
+#[derive(Clone, Copy)]
 pub struct Told {
     pub number: u64,
     pub fault: u64,

@@ -1,4 +1,6 @@
 // Replays the oracle's answers for places to inspect: records of what a shift is lent, answers and leaves, from standard input.
+#![tactic(auto)]
+
 ghost use Rattle.std.specs.Prelude.{◌≡◌, ◌≤◌, length};
 
 use inspection::answer::Inspected;

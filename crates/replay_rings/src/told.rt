@@ -7,7 +7,7 @@ use projection::foot::foot_code;
 use refusals::Refusal;
 use refusals::answer::{Count, Number, Truth, Turn};
 
-#[derive(Drop)]
+#[derive(Clone, Copy)]
 pub struct Told {
     pub number: u64,
     pub value: u64,

@@ -1,4 +1,6 @@
 // Replays the oracle's answers for the scalars: records of five words, the operation, three operands and the answer, from standard input.
+#![tactic(auto)]
+
 use libc::STDIN_FILENO;
 use number_bytes::{bits_of, float_of};
 use replay::{Verdict, after, begin, report, word};

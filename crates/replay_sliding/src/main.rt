@@ -1,5 +1,7 @@
 // Replays the oracle's answers for the sliding calls: records of a call's number, what it is lent, and what it answers and
 // leaves, from standard input.
+#![tactic(auto)]
+
 mod told;
 
 ghost use Rattle.std.specs.Prelude.{◌≡◌, ◌≤◌, length};

@@ -1,4 +1,6 @@
 // Replays the oracle's traces: records of what a trace is lent, and what it answers and leaves, from standard input.
+#![tactic(auto)]
+
 mod told;
 
 ghost use Rattle.std.specs.Prelude.{◌≡◌, ◌≤◌, length};

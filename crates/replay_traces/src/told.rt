@@ -3,7 +3,7 @@
 use nfp_sliding::answer::Traced;
 use refusals::Refusal;
 
-#[derive(Drop)]
+#[derive(Clone, Copy)]
 pub struct Told {
     pub number: u64,
     pub points: u64,

@@ -1,5 +1,7 @@
 // Replays the oracle's answers in whole numbers: records of a call's number, what it is lent, and what it answers, from
 // standard input.
+#![tactic(auto)]
+
 mod told;
 mod words;
 

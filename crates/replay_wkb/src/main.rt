@@ -1,5 +1,7 @@
 // Replays the oracle's answers for polygons in well-known binary: records of what the writer or the reader is lent, answers and
 // leaves, from standard input.
+#![tactic(auto)]
+
 ghost use Rattle.std.specs.Prelude.{◌≡◌, ◌≤◌, length};
 
 use libc::STDIN_FILENO;

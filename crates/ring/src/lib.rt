@@ -1,4 +1,6 @@
 // A ring is lent as x, y alternating: its vertices, the one after and the one before each; a room that holds points; a ring moved into it.
+#![tactic(auto)]
+
 pub mod moving;
 pub mod room;
 

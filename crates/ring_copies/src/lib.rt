@@ -1,5 +1,7 @@
 // A ring mirrored in the y axis, and a ring without its closing repeat, each written to a room that the caller lends:
 // `mirror_polygon` and `open_ring` of `polygon_ops.rs`.
+#![tactic(auto)]
+
 pub mod calls;
 
 ghost use Rattle.std.specs.Prelude.{◌≡◌, ◌%◌, ◌≤◌, length};

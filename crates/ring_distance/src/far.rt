@@ -14,7 +14,7 @@ use ring::{next, point_at};
 pub const NUMBERS: usize = 264;
 
 // What bounds some edges: a frame around their starts, and one around their ways from start to end, with no way at all in it.
-#[derive(Drop)]
+#[derive(Clone, Copy)]
 pub struct Bounds {
     pub starts: Frame,
     pub ways: Frame,

@@ -1,5 +1,7 @@
 // The shortest distance between the edges of two rings that do not cross: `ring_distance` of `polygon_ops.rs`.
 // Squared distances are compared, and the least alone has its root taken.
+#![tactic(auto)]
+
 pub mod calls;
 mod far;
 

@@ -1,4 +1,6 @@
 // The ring printer: reads a book from standard input and prints its rings, the coordinates by their bit patterns.
+#![tactic(auto)]
+
 ghost use Rattle.std.specs.Prelude.{◌≡◌, true, ◌+◌, ◌*◌, ◌≤◌, length};
 ghost use Rattle.print.specs.Text.{Put};
 ghost use Rattle.refusals.specs.Rings.{vertices_most, rings_most, total, sized_all};

@@ -1,10 +1,12 @@
 // Absolute value, smaller, larger and clamp of an `f64`, for every bit pattern.
-ghost use mathlib.Core.Path.{_≡_};
-ghost use Rattle·scalar·specs.specs.Scalar.{abs_of, smaller_of, larger_of, clamp_of, minus_zero, ahead};
+#![tactic(auto)]
+
+ghost use Rattle.std.specs.Prelude.{◌≡◌};
+ghost use Rattle.scalar.specs.Scalar.{abs_of, smaller_of, larger_of, clamp_of, minus_zero, ahead};
 
 // The absolute value of x: the sign of a zero and of an infinity is cleared, a NaN stays.
 pub fn abs(x: f64) -> f64
-    ensures { λ r. ⌜ r ≡ abs_of x ⌝ }
+    ensures { result ≡ abs_of x }
 {
     if x < 0.0 {
         -x
@@ -17,7 +19,7 @@ pub fn abs(x: f64) -> f64
 
 // Whether x is -0.0.
 fn is_minus_zero(x: f64) -> bool
-    ensures { λ r. ⌜ r ≡ minus_zero x ⌝ }
+    ensures { result ≡ minus_zero x }
 {
     if x == 0.0 {
         f64::to_bits(x) != 0
@@ -28,7 +30,7 @@ fn is_minus_zero(x: f64) -> bool
 
 // Whether a comes before b: it is smaller, or it is -0.0 and b is +0.0.
 pub fn is_ahead(a: f64, b: f64) -> bool
-    ensures { λ r. ⌜ r ≡ ahead a b ⌝ }
+    ensures { result ≡ ahead a b }
 {
     if a < b {
         true
@@ -41,7 +43,7 @@ pub fn is_ahead(a: f64, b: f64) -> bool
 
 // The smaller of a and b, -0.0 being below +0.0. Of a NaN and a number it is the number.
 pub fn smaller(a: f64, b: f64) -> f64
-    ensures { λ r. ⌜ r ≡ smaller_of a b ⌝ }
+    ensures { result ≡ smaller_of a b }
 {
     if a != a {
         b
@@ -56,7 +58,7 @@ pub fn smaller(a: f64, b: f64) -> f64
 
 // The larger of a and b, in the same order.
 pub fn larger(a: f64, b: f64) -> f64
-    ensures { λ r. ⌜ r ≡ larger_of a b ⌝ }
+    ensures { result ≡ larger_of a b }
 {
     if a != a {
         b
@@ -71,7 +73,7 @@ pub fn larger(a: f64, b: f64) -> f64
 
 // lo where x is below it, else hi where x is above it, else x itself: -0.0 and NaN stay.
 pub fn clamp(x: f64, lo: f64, hi: f64) -> f64
-    ensures { λ r. ⌜ r ≡ clamp_of x lo hi ⌝ }
+    ensures { result ≡ clamp_of x lo hi }
 {
     if x < lo {
         lo

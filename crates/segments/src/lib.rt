@@ -1,4 +1,6 @@
 // Which way three points turn, and whether two segments meet: the segment predicates of `polygon_ops.rs`.
+#![tactic(auto)]
+
 pub mod calls;
 
 ghost use Rattle.std.specs.Prelude.{◌≡◌};

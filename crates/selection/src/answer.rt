@@ -1,7 +1,7 @@
 // What the call answers: the index of the vector, nothing where there is none, or the refusal.
 use refusals::Refusal;
 
-#[derive(Drop)]
+#[derive(Clone, Copy)]
 pub enum Selected {
     Nothing,
     Index(usize),

@@ -1,4 +1,6 @@
 // Which way to slide: the score of a translation vector, and the first of the greatest: `select_translation_vector` of `nfp_sliding.rs`.
+#![tactic(auto)]
+
 pub mod answer;
 pub mod calls;
 
@@ -11,14 +13,14 @@ use plane::vector::{dot, minus, normalize};
 use vectors::TranslationVector;
 
 // The direction of the slide before, where there was one.
-#[derive(Drop)]
+#[derive(Clone, Copy)]
 pub enum Previous {
     None,
     Direction(Point),
 }
 
 // A vector by its index, and its score.
-#[derive(Drop)]
+#[derive(Clone, Copy)]
 pub struct Scored {
     pub index: usize,
     pub score: f64,

@@ -1,10 +1,12 @@
 // Whole coordinates moved up by a million, so that no number is below zero: the leaf of all that reckons in whole numbers.
+#![tactic(auto)]
+
 ghost use Rattle.std.specs.Prelude.{map, ◌≡◌, ◌/◌, ◌≤◌, ◌<◌, length};
 ghost use Rattle.ring.specs.Room.{laid};
 ghost use Rattle.shifted.specs.Shifted.{in_bounds, up_of, spot_of, spot_at};
 
 // A point with each coordinate moved up.
-#[derive(Drop)]
+#[derive(Clone, Copy)]
 pub struct Spot {
     pub x: u64,
     pub y: u64,

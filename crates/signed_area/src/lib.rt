@@ -1,4 +1,6 @@
 // The signed area of a ring: `signed_area2` of `polygon_ops.rs`, twice the area, and `signed_area_robust` of `robust.rs`, the area by a compensated sum.
+#![tactic(auto)]
+
 pub mod calls;
 
 ghost use Rattle.std.specs.Prelude.{◌≡◌, ◌<◌};
@@ -32,7 +34,7 @@ fn signed_area2(ring: &[f64]) -> f64
 }
 
 // A compensated sum: the sum, and what rounding has added to it.
-#[derive(Drop)]
+#[derive(Clone, Copy)]
 pub struct Kahan {
     pub sum: f64,
     pub c: f64,

@@ -1,4 +1,6 @@
 // Whether a ring is simple: `is_simple_polygon` of `polygon_ops.rs`.
+#![tactic(auto)]
+
 pub mod calls;
 
 ghost use Rattle.std.specs.Prelude.{not, ◌||◌, ◌≡◌, ◌<◌};

@@ -1,4 +1,6 @@
 // A path without its collinear points: `simplify_polygon` of `nfp_sliding.rs`.
+#![tactic(auto)]
+
 pub mod calls;
 
 ghost use Rattle.std.specs.Prelude.{◌≡◌, ◌*◌, ◌%◌, ◌<◌, ◌≤◌, length};

@@ -1,5 +1,7 @@
 // Traces one ring of a book round another and prints the result. Standard input has the tolerance and the smallest move as bit patterns,
 // the pass limit, eight bytes each, and then a book whose first ring is the stationary polygon and whose second is the orbiting one.
+#![tactic(auto)]
+
 mod say;
 
 ghost use Rattle.std.specs.Prelude.{◌≡◌, ◌+◌, ◌*◌, ◌≤◌, length};

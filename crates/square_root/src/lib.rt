@@ -1,5 +1,7 @@
 // The square root of an `f64`, rounded to the nearest `f64`. Its digits come from sums, differences, shifts and
 // comparisons alone, for cores without a wide multiplier; tools/root_instructions looks for others in the object code.
+#![tactic(auto)]
+
 ghost use Rattle.std.specs.Prelude.{◌+◌, ◌*◌, ◌^◌, ◌<◌, ◌≤◌, ◌≡◌};
 ghost use Rattle.std.specs.Float.{binary64};
 ghost use Rattle.std.specs.Float.Ieee.{of_bits};
@@ -7,7 +9,7 @@ ghost use Rattle.square_root.specs.Root.{WholeRoot, Radicand, Further, Pair, tak
 ghost use Rattle.square_root.specs.Nearest.{IsRoot};
 
 // A root, and what it takes: how much its square is above that of the root before, over the last place.
-#[derive(Drop)]
+#[derive(Clone, Copy)]
 struct Step {
     root: u64,
     takes: u64,

@@ -2,7 +2,7 @@
 use plane::Point;
 use refusals::Refusal;
 
-#[derive(Drop)]
+#[derive(Clone, Copy)]
 pub enum Start {
     Is(Point),
     Refused(Refusal),

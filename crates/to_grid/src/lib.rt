@@ -1,4 +1,6 @@
 // Puts a float on a grid, of so many units in 1: the whole number nearest to that many times the float, exactly, by its digits.
+#![tactic(auto)]
+
 pub mod calls;
 
 ghost use Rattle.std.specs.Prelude.{ℕ, ◌*◌, ◌-◌, ◌/◌, ◌^◌, ◌<◌, ◌≤◌, ◌≡◌, true, length, map};

@@ -16,7 +16,7 @@ use scalar::smaller;
 
 // A direction, and the gap that is as long as the distance, or two whose lengths' sum it is: how many it has is told. No field is
 // narrower than the others, so that a copy goes by whole words.
-#[derive(Drop)]
+#[derive(Clone, Copy)]
 pub struct Course {
     pub direction: Point,
     pub first: Point,

@@ -1,5 +1,7 @@
 // The vectors along which the orbiting polygon can slide, two for each contact, one after the other, and those of them that lead to no
 // visited position.
+#![tactic(auto)]
+
 pub mod course;
 pub mod fit;
 
@@ -16,7 +18,7 @@ use plane::Point;
 use plane::vector::{minus, normalize};
 
 // A direction, and how far it can be followed.
-#[derive(Drop)]
+#[derive(Clone, Copy)]
 pub struct TranslationVector {
     pub direction: Point,
     pub distance: f64,
@@ -24,7 +26,7 @@ pub struct TranslationVector {
 
 // A place among the vectors. Those of the contacts from the pair number `contact` on are left, without the first of them where side is 1;
 // `source` is the index of the first of these contacts.
-#[derive(Drop)]
+#[derive(Clone, Copy)]
 pub struct Place {
     pub contact: usize,
     pub side: usize,
@@ -32,7 +34,7 @@ pub struct Place {
 }
 
 // A vector, the index of its contact and the place behind it.
-#[derive(Drop)]
+#[derive(Clone, Copy)]
 pub enum Step {
     End,
     Vector {

@@ -1,4 +1,6 @@
 // Whole numbers in a program's input: words of four bytes in two's complement, and coordinates without a fraction.
+#![tactic(auto)]
+
 ghost use Rattle.std.specs.Prelude.{◌≡◌, ◌+◌, ◌<◌, ◌≤◌, true, length};
 ghost use Rattle.ring.specs.Room.{laid};
 ghost use Rattle.refusals.specs.Bounds.{coordinate, coordinates};

@@ -1,4 +1,6 @@
 // Whole coordinates moved by a whole move, tested and moved up by a million; and numbers brought down again.
+#![tactic(auto)]
+
 ghost use Rattle.std.specs.Prelude.{map, ◌≡◌, ℕ, ◌≤◌, ◌<◌, ◌+ℤ◌, length, get_or, take};
 ghost use Rattle.ring.specs.Room.{laid};
 ghost use Rattle.shifted.specs.Shifted.{in_bounds, up_of};

@@ -1,1 +1,2 @@
 // What the predicates in whole numbers tell of the plane. Definitions and laws alone.
+#![tactic(auto)]

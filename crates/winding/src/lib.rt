@@ -1,4 +1,6 @@
 // A polygon made counter-clockwise, written to an array that the caller lends: `ensure_ccw` of `nfp_sliding.rs`.
+#![tactic(auto)]
+
 ghost use Rattle.std.specs.Prelude.{◌≡◌, ◌%◌, ◌<◌, ◌≤◌, length};
 ghost use Rattle.ring.specs.Ring.{count};
 ghost use Rattle.ring.specs.Room.{laid};

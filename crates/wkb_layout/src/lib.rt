@@ -1,4 +1,6 @@
 // The layout of a drawing in well-known binary: sizes, codes, and numbers in either byte order.
+#![tactic(auto)]
+
 ghost use Rattle.std.specs.Prelude.{◌≡◌, ◌+◌, ◌≤◌, ◌<◌, length, take, drop};
 ghost use Rattle.wkb_layout.specs.Layout.{code_bytes, number_bytes, read_as};
 
@@ -29,7 +31,7 @@ pub const POINTS_LEAST: u64 = 4;
 pub const POINTS_MOST: u64 = 257;
 
 // How the bytes of a number follow each other: from the highest on, or from the lowest.
-#[derive(Drop)]
+#[derive(Clone, Copy)]
 pub enum Order {
     Big,
     Little,
