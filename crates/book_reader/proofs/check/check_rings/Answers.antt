@@ -1,0 +1,112 @@
+-- `book_reader::check::check_rings` meets its contract. The loop's invariant: the check of the rings left, from i on, decides; their entries and their
+-- coordinates pass, and they end where the entries begin. Assumes nothing.
+use Prim.Native.Nat.{ℕ, ◌+◌, ◌*◌, ◌-◌, ◌/◌, ◌≤◌, ◌<◌}
+use mathlib.Core.Path.{◌≡◌, sym, ap, ◌∙◌}
+use mathlib.Core.List.{List}
+use native.Mathlib.Omega.{arith}
+use borrow.Author.Tests.{not-true, not-false}
+use lib.ListN.{take, drop}
+use Rattle.refusals.specs.Refusals.{passed}
+use Rattle.reading.specs.Reading.{vertices, is_least}
+use Rattle.number_bytes.specs.Bytes.{number_of}
+use Rattle.refusals.specs.Rings.{vertices_least, vertices_most, total}
+use Rattle.book_layout.specs.Layout.{field_bytes, coordinate_bytes, vertex_bytes, entry_bytes, coords_in, counts_in}
+use Rattle.book_layout.specs.Faults.{◌passes, entries_check, coords_check, least_check}
+use Rattle.book_reader.proofs.Entries.{entry_held, total_left, entries_start, fields_start, fields_end, list_passed}
+use Rattle.book_reader.proofs.Rings.{coords_next, least_good, least_bad, least_end}
+use Rattle.book_reader.proofs.check.check_rings.Goals as goal
+
+-- the ring of this turn
+module _ (c : goal.After-number4-n) where
+
+  abbrev f : List ℕ
+  f = c.args.f.now
+
+  abbrev from : ℕ
+  from = c.args.from
+
+  abbrev k : ℕ
+  k = c.args.k
+
+  abbrev i : ℕ
+  i = c.loop-i.i
+
+  abbrev at : ℕ
+  at = c.loop-i.at
+
+  abbrev turn : i < k
+  turn = c.loop-i-test.true
+
+  abbrev n : ℕ
+  n = number_of (take field_bytes (drop (from + entry_bytes * i + field_bytes) f))
+
+  abbrev rest : List ℕ
+  rest = counts_in (k - (i + 1)) (drop (from + entry_bytes * (i + 1)) f)
+
+  is_n : c.number4-n.result ≡ n
+  is_n = c.number4-n.ensures.0
+
+  entry : (vertices_least ≤ n) × (n ≤ vertices_most) × (entries_check (k - (i + 1)) (from + entry_bytes * (i + 1)) (at + vertex_bytes * n) (drop (from + entry_bytes * (i + 1)) f) passes)
+  entry = entry_held f from k i at turn c.loop-i.inv.3
+
+  left : at + vertex_bytes * n + vertex_bytes * total rest ≡ from
+  left = omega (arith, total_left f from k i at turn, c.loop-i.inv.2)
+
+  coords : (coords_check (2 * n) at (drop at f) passes) × (coords_check (2 * total rest) (at + vertex_bytes * n) (drop (at + vertex_bytes * n) f) passes)
+  coords = coords_next f from k i at turn c.loop-i.inv.4
+
+-- what was asked of it
+asked : (c : goal.After-is_least_at) → c.is_least_at.result ≡ is_least (vertices (coords_in (2 * n c.before) (drop (at c.before) (f c.before))))
+asked c =
+    c.is_least_at.ensures ∙ ap (λ (j : ℕ). is_least (vertices (coords_in (2 * j) (drop (at c.before) (f c.before))))) (is_n c.before)
+
+pub loop-i-init : goal.loop-i-init
+loop-i-init c =
+    let f = c.args.f.now in
+    let from = c.args.from in
+    let k = c.args.k in
+    let p = list_passed f from k c.requires.list_check.0 in
+    let z = fields_start f field_bytes from k in
+    let t : total (counts_in k (drop from f)) ≡ total (counts_in (k - 0) (drop (from + entry_bytes * 0) f)) = ap total z in
+    let m : 2 * total (counts_in (k - 0) (drop (from + entry_bytes * 0) f)) ≡ from / coordinate_bytes = omega (arith, p.1) in (
+      (omega arith),
+      ap (λ (ns : List ℕ). least_check ns 0 f) z,
+      (omega (arith, p.1)),
+      ap passed (sym (entries_start f from k)) ∙ p.0,
+      ap (λ (j : ℕ). passed (coords_check j 0 f)) m ∙ c.requires.list_check.1,
+    )
+
+pub is_least_at-requires : goal.is_least_at-requires
+is_least_at-requires c =
+    let s = (l c).before.before in record { n_in_bounds = ((omega (arith, is_n c, left c)), (omega (arith, is_n c, (entry c).0)), (omega (arith, is_n c, (entry c).1)), s.pre.0.2); coords_check = ap (λ (j : ℕ). passed (coords_check (2 * j) (at c) (drop (at c) (f c)))) (is_n c) ∙ (coords c).0 }
+
+pub returns-then-not-is_least_at : goal.returns-then-not-is_least_at
+returns-then-not-is_least_at c =
+    c.fault.ensures
+    ∙ sym ((l c.before.before.before).loop.invariant.1 ∙ least_bad (f c.before.before.before) (from c.before.before.before) (k c.before.before.before) (i c.before.before.before) (at c.before.before.before) (turn c.before.before.before) (sym (asked c.before.before) ∙ not-true c.is_least_at.result c.if-not-is_least_at.true))
+
+pub overflow_mul-at : goal.overflow_mul-at
+overflow_mul-at c = omega (arith, is_n c.before.before, (entry c.before.before).1)
+
+pub overflow_add-at : goal.overflow_add-at
+overflow_add-at c = omega (arith, is_n c.before.before, left c.before.before)
+
+pub loop-i-preserved : goal.loop-i-preserved
+loop-i-preserved c =
+    (
+      (omega arith),
+      (l c.before.before).loop.invariant.1
+          ∙ least_good (f c.before.before) (from c.before.before) (k c.before.before) (i c.before.before) (at c.before.before) (turn c.before.before) (sym (asked c.before) ∙ not-false c.is_least_at.result c.if-not-is_least_at.false)
+          ∙ ap (λ (j : ℕ). least_check (rest c.before.before) (at c.before.before + vertex_bytes * j) (drop (at c.before.before + vertex_bytes * j) (f c.before.before))) (sym (is_n c.before.before)),
+      (omega (arith, is_n c.before.before, left c.before.before)),
+      ap (λ (j : ℕ). passed (entries_check (k c.before.before - (i c.before.before + 1)) (from c.before.before + entry_bytes * (i c.before.before + 1)) (at c.before.before + vertex_bytes * j) (drop (from c.before.before + entry_bytes * (i c.before.before + 1)) (f c.before.before)))) (is_n c.before.before) ∙ (entry c.before.before).2,
+      ap (λ (j : ℕ). passed (coords_check (2 * total (rest c.before.before)) (at c.before.before + vertex_bytes * j) (drop (at c.before.before + vertex_bytes * j) (f c.before.before)))) (is_n c.before.before) ∙ (coords c.before.before).1,
+    )
+
+pub returns : goal.returns
+returns c =
+    let s = c.args in
+    let f = s.f.now in
+    let i = c.loop-i.i in
+    c.none.ensures
+    ∙ sym (c.loop-i.invariant.1 ∙ least_end f (counts_in (s.k - i) (drop (s.from + entry_bytes * i) f)) c.loop-i.at (fields_end f field_bytes s.from s.k i c.loop-i-test.false))

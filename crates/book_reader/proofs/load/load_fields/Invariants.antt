@@ -1,0 +1,15 @@
+use Prim.Native.Nat.{ℕ, ◌+◌, ◌*◌, ◌-◌, ◌≤◌}
+use mathlib.Core.Path.{◌≡◌, refl, sym, ap, ◌∙◌}
+use native.Mathlib.Omega.{arith}
+use lib.ListN.{length, drop, set, length-set}
+use lib.Seq.{sets}
+use Rattle.book_layout.specs.Layout.{entry_bytes, fields_in}
+use Rattle.book_reader.proofs.Entries.{fields_start, fields_on, fields_end}
+use Rattle.book_reader.proofs.load.load_fields.Given as goal
+
+abbrev pub invariant-loop-i : goal.invariant-loop-i
+invariant-loop-i l =
+    (l.i ≤ l.k) × (length l.room ≡ length l.initial.room) × (sets l.initial.room 0 (fields_in l.p l.k (drop l.from l.f)) ≡ sets l.room l.i (fields_in l.p (l.k - l.i) (drop (l.from + entry_bytes * l.i) l.f)))
+
+abbrev pub decreases-loop-i : goal.decreases-loop-i
+decreases-loop-i l = l.k - l.i

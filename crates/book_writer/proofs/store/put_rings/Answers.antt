@@ -1,0 +1,100 @@
+-- `book_writer::store::put_rings` meets its contract. The loop's invariant: with the rings from i on stored at their place, the room is what was asked
+-- for; the coordinates from at on are those of the rings left. Assumes nothing.
+use Prim.Native.Nat.{ℕ, ◌+◌, ◌*◌, ◌-◌, ◌≤◌}
+use mathlib.Core.Path.{◌≡◌, refl, sym, ap, ◌∙◌}
+use mathlib.Core.Bool.{true}
+use mathlib.Core.List.{List}
+use native.Mathlib.Omega.{arith}
+use lib.ListN.{length, get_or, take, drop}
+use lib.Seq.{sets, length-sets}
+use lib.Ieee.{Float}
+use Rattle.reading.specs.Reading.{flat, least_reading}
+use Rattle.reading.specs.Lent.{ring_of}
+use Rattle.refusals.specs.Rings.{vertices_least, vertices_most, total, sized_all}
+use Rattle.book_layout.specs.Layout.{coordinate_bytes, coord_bytes}
+use Rattle.refusals.proofs.Counts.{total_on, sized_here}
+use Rattle.book_writer.proofs.Storing.{stored, rings_on, rings_end}
+use Rattle.book_writer.proofs.Part.{part_is, part_length, part_lent}
+use Rattle.book_writer.proofs.store.put_rings.Goals as goal
+
+-- the ring of this turn
+module _ (c : goal.In-loop-i) where
+
+  abbrev xs : List Float
+  xs = c.args.xs.now
+
+  abbrev ns : List ℕ
+  ns = c.args.counts.now
+
+  abbrev n : ℕ
+  n = get_or ns c.loop-i.i 0
+
+  sized : (vertices_least ≤ n) × (n ≤ vertices_most) × (sized_all (drop (c.loop-i.i + 1) ns) ≡ true)
+  sized = sized_here ns c.loop-i.i c.loop-i-test.true c.loop-i.inv.3
+
+  left : c.loop-i.at + 2 * n + 2 * total (drop (c.loop-i.i + 1) ns) ≡ length xs
+  left = omega (arith, total_on ns c.loop-i.i c.loop-i-test.true, c.loop-i.inv.2)
+
+  inside : (n ≤ vertices_most) × (c.loop-i.at + 2 * n ≤ length xs)
+  inside = (sized.1, (omega (arith, left)))
+
+pub loop-i-init : goal.loop-i-init
+loop-i-init c =
+    let h = c.requires.counts_value in
+    ((omega arith), refl, (omega (arith, h.1)), h.0, refl)
+
+pub overflow_cast-n : goal.overflow_cast-n
+overflow_cast-n c = omega (arith, c.shared_slice_known-in-loop-i-1.given c.loop-i.i)
+
+pub overflow_mul-end : goal.overflow_mul-end
+overflow_mul-end c = omega (arith, inside c.before)
+
+pub overflow_add-end : goal.overflow_add-end
+overflow_add-end c = omega (arith, inside c.before)
+
+pub offset_bounds-xs-at : goal.offset_bounds-xs-at
+offset_bounds-xs-at c = omega (arith, inside c.before)
+
+pub slice_bounds-put_least-count : goal.slice_bounds-put_least-count
+slice_bounds-put_least-count c = omega (arith, inside c.before)
+
+pub slice_bounds-put_least-start : goal.slice_bounds-put_least-start
+slice_bounds-put_least-start c = omega (arith, inside c.before)
+
+pub slice_bounds-put_least-end : goal.slice_bounds-put_least-end
+slice_bounds-put_least-end c = omega (arith, inside c.before)
+
+pub overflow_mul-at : goal.overflow_mul-at
+overflow_mul-at c = omega (arith, inside c.before.before.before)
+
+pub put_least-requires : goal.put_least-requires
+put_least-requires c =
+    let s = (l c.before.before.before).before.before.before.before in
+    let t = s.pre.0.2 in
+    let z = part_length (xs c.before.before.before) (l c.before.before.before).loop.at (n c.before.before.before) t (inside c.before.before.before).1 in (
+      part_lent (xs c.before.before.before) (l c.before.before.before).loop.at (n c.before.before.before) t (inside c.before.before.before).1 (inside c.before.before.before).0,
+      ((omega (arith, (sized c.before.before.before).0)), (omega (arith, (inside c.before.before.before).1, s.pre.1, (l c.before.before.before).loop.invariant.1))),
+    )
+
+pub loop-i-preserved : goal.loop-i-preserved
+loop-i-preserved c =
+    let at = (l c.before.before.before.before.before.before).loop.at in
+    let i = (l c.before.before.before.before.before.before).loop.i in
+    let room = (l c.before.before.before.before.before.before).loop.room in
+    let u = coord_bytes (flat (least_reading (ring_of (take (2 * n c.before.before.before.before.before.before) (drop at (xs c.before.before.before.before.before.before)))))) in
+    let e : c.put_least.new.room ≡ sets room (coordinate_bytes * at) u =
+    c.put_least.ensures
+    ∙ ap (λ (p : List Float). sets room (coordinate_bytes * at) (coord_bytes (flat (least_reading (ring_of p))))) (part_is (xs c.before.before.before.before.before.before) at (n c.before.before.before.before.before.before) (l c.before.before.before.before.before.before).before.before.before.before.requires.0.2 (inside c.before.before.before.before.before.before).1) in (
+      (omega arith),
+      ap length e ∙ length-sets room (coordinate_bytes * at) u ∙ (l c.before.before.before.before.before.before).loop.invariant.1,
+      left c.before.before.before.before.before.before,
+      (sized c.before.before.before.before.before.before).2,
+      (l c.before.before.before.before.before.before).loop.invariant.4
+          ∙ rings_on room (ns c.before.before.before.before.before.before) (xs c.before.before.before.before.before.before) at i c.loop-i-test.true (omega (arith, (sized c.before.before.before.before.before.before).0)) (inside c.before.before.before.before.before.before).1
+          ∙ ap (λ (r : List ℕ). sets r (coordinate_bytes * (at + 2 * n c.before.before.before.before.before.before)) (stored (drop (i + 1) (ns c.before.before.before.before.before.before)) (drop (at + 2 * n c.before.before.before.before.before.before) (xs c.before.before.before.before.before.before)))) (sym e),
+    )
+
+pub returns : goal.returns
+returns c =
+    let a = c.args in
+    sym (c.loop-i.invariant.4 ∙ rings_end c.loop-i.room a.counts.now a.xs.now c.loop-i.at c.loop-i.i c.loop-i-test.false)

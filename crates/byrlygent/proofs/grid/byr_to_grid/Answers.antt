@@ -1,0 +1,10 @@
+-- `byrlygent::grid::byr_to_grid` meets its contract: the call's answer, handed over. Assumes nothing.
+use Rattle.handed.proofs.Told.{number_told, place_told}
+use Rattle.byrlygent.proofs.grid.byr_to_grid.Goals as goal
+
+pub returns : goal.returns
+returns c =
+    let e = c.to_grid.ensures in
+    let h = c.hand_count-no.ensures in
+    let n = c.hand_refusal.ensures in
+    record { fact = (number_told e.0 h.0 n.0, rw (← e.0) h.1, place_told e.0 h.0 _ n.1); room_after = e.1 }

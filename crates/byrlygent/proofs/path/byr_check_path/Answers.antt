@@ -1,0 +1,10 @@
+-- `byrlygent::path::byr_check_path` meets its contract: the call's answer, handed over. Assumes nothing.
+use Rattle.handed.proofs.Told.{number_told, place_told}
+use Rattle.byrlygent.proofs.path.byr_check_path.Goals as goal
+
+pub returns : goal.returns
+returns c =
+    let e = c.check_path.ensures in
+    let h = c.hand_verdict-no.ensures in
+    let n = c.hand_refusal.ensures in
+    (number_told e h.0 n.0, (rw (← e) h.1, (rw (← e) h.2, place_told e h.0 _ n.1)))

@@ -1,0 +1,10 @@
+-- `byrlygent::rings::byr_mend_ring` meets its contract: the call's answer, handed over. Assumes nothing.
+use Rattle.handed.proofs.Told.{number_told, place_told}
+use Rattle.byrlygent.proofs.rings.byr_mend_ring.Goals as goal
+
+pub returns : goal.returns
+returns c =
+    let e = c.mend_ring.ensures in
+    let h = c.hand_mended-no.ensures in
+    let n = c.hand_refusal.ensures in
+    (number_told e.0 h.0 n.0, (rw (← e.0) h.1, (rw (← e.0) h.2, (place_told e.0 h.0 _ n.1, (e.1, (e.2, e.3))))))

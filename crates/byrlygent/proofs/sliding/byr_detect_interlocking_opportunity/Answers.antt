@@ -1,0 +1,14 @@
+-- `byrlygent::sliding::byr_detect_interlocking_opportunity` meets its contract: the call's answer, handed over. Assumes nothing.
+use Rattle.handed.proofs.Told.{number_told, place_told}
+use Rattle.byrlygent.proofs.sliding.byr_detect_interlocking_opportunity.Goals as goal
+
+  statement,
+
+}
+
+pub returns : goal.returns
+returns c =
+    let e = c.detect_interlocking_opportunity-answer.ensures in
+    let h = c.hand_position-no.ensures in
+    let n = c.hand_refusal.ensures in
+    (number_told e h.0 n.0, (rw (← e) h.1, (rw (← e) h.2, (rw (← e) h.3, place_told e h.0 _ n.1))))

@@ -1,0 +1,10 @@
+-- `byrlygent::sliding::byr_find_start_position` meets its contract: the call's answer, handed over. Assumes nothing.
+use Rattle.handed.proofs.Told.{number_told, place_told}
+use Rattle.byrlygent.proofs.sliding.byr_find_start_position.Goals as goal
+
+pub returns : goal.returns
+returns c =
+    let e = c.find_start_position.ensures in
+    let h = c.hand_start-no.ensures in
+    let n = c.hand_refusal.ensures in
+    (number_told e h.0 n.0, (rw (← e) h.1, (rw (← e) h.2, place_told e h.0 _ n.1)))

@@ -1,0 +1,10 @@
+-- `byrlygent::whole::byr_whole_is_simple_polygon` meets its contract: the call's answer, handed over. Assumes nothing.
+use Rattle.handed.proofs.Told.{number_told, place_told}
+use Rattle.byrlygent.proofs.whole.byr_whole_is_simple_polygon.Goals as goal
+
+pub returns : goal.returns
+returns c =
+    let e = c.is_simple_polygon.ensures in
+    let h = c.hand_truth-no.ensures in
+    let n = c.hand_refusal.ensures in
+    (number_told e h.0 n.0, (rw (← e) h.1, place_told e h.0 _ n.1))

@@ -1,0 +1,13 @@
+use Prim.Native.Nat.{◌-◌, ◌≤◌, ◌<◌}
+use mathlib.Core.Path.{◌≡◌, ap, ◌∙◌}
+use native.Mathlib.Omega.{arith}
+use Rattle.ring.specs.Ring.{point_at}
+use Rattle.frames.proofs.Widened.{next_start}
+use Rattle.chains.proofs.Edges.{Taken, none_taken, one_taken, all_taken}
+use Rattle.chains.proofs.chain_of.Given as goal
+
+abbrev pub invariant-loop-e : goal.invariant-loop-e
+invariant-loop-e l = (l.from ≤ l.e) × Taken l.edges l.dir l.from l.frame l.far l.e × (l.e < l.to → l.p ≡ point_at l.edges l.e)
+
+abbrev pub decreases-loop-e : goal.decreases-loop-e
+decreases-loop-e l = l.to - l.e

@@ -1,0 +1,42 @@
+-- `clear_aside::search_on` meets its contract. The invariant: the hows from `how` on decide; the room is as long. Assumes nothing.
+use Prim.Native.Nat.{◌-◌, ◌≤◌, ◌<◌}
+use mathlib.Core.Path.{◌≡◌, refl, sym, ap, ◌∙◌}
+use native.Mathlib.Omega.{arith}
+use lib.ListN.{length}
+use Rattle.reason_check.specs.Told.{ground}
+use Rattle.drawn_aside.specs.Found.{found_by, edge_first, least_from}
+use Rattle.clear_aside.proofs.Hows.{how_on, how_clear, how_enclosed, how_end, kept_clear, kept_edge, kept_enclosed}
+use Rattle.clear_aside.proofs.search_on.Goals as goal
+
+before_last : (c : goal.In-loop-how) → c.loop-how.how < 21
+before_last c = omega (arith, c.loop-how-test.true)
+
+pub loop-how-init : goal.loop-how-init
+loop-how-init c = (omega arith, refl, refl)
+
+pub returns-in-Clear : goal.returns-in-Clear
+returns-in-Clear c =
+    let g = c.args in
+    let told = ap ground c.in-Clear.is in
+    let found = c.search_by.ensures in (
+      sym (c.loop-how.invariant.1 ∙ how_clear _ _ _ _ (before_last c.before.before.before.before.before.before) found.0 told),
+      kept_clear g.st.now g.a.now g.b.now g.from g.to _ _ (found.1.0 told),
+    )
+
+pub loop-how-preserved : goal.loop-how-preserved
+loop-how-preserved c =
+    let told = ap ground c.in-Edge.is in
+    let found = c.search_by.ensures in (
+      omega arith,
+      c.loop-how.invariant.1 ∙ how_on _ _ _ _ (before_last c.before.before.before.before.before.before) found.0 told,
+      found.1.1 ∙ c.loop-how.invariant.2,
+    )
+
+pub returns-in-Enclosed : goal.returns-in-Enclosed
+returns-in-Enclosed c =
+    let g = c.args in
+    let told = ap ground c.in-Enclosed.is in record { result_value = sym (c.loop-how.invariant.1 ∙ how_enclosed _ _ _ _ (before_last c.before.before.before.before.before.before) c.search_by.ensures.result_value told); kept = kept_enclosed g.st.now g.a.now g.b.now g.from g.to _ _ }
+
+pub returns : goal.returns
+returns c =
+    let g = c.args in record { result_value = sym (c.loop-how.invariant.1 ∙ how_end _ _ _ _ (omega (arith, c.loop-how-test.false))); kept = kept_edge g.st.now g.a.now g.b.now g.from g.to _ _ }

@@ -1,0 +1,12 @@
+-- `clear_calls::row::move_numbers` meets its contract: the tests in the order of the definition. Assumes nothing.
+use Prim.Native.Nat.{◌-◌}
+use mathlib.Core.Path.{◌∙◌}
+use Rattle.clear_calls.proofs.Passed.{as_lent}
+use lib.IntN.{ℤ}
+use Rattle.clear_calls.specs.Rows.{wrong_end}
+use Rattle.clear_calls.proofs.row.move_numbers.Goals as goal
+
+pub returns : goal.returns
+returns c =
+    let moved = c.end.ensures ∙ as_lent (λ (x y : ℤ). wrong_end c.args.orbiting.now x y) c.ranges.dx c.ranges.dy in
+    rw (c.first.ensures, c.numbers-2.ensures, c.first.ensures, moved, c.numbers.ensures)

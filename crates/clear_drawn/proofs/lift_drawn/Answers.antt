@@ -1,0 +1,36 @@
+-- `clear_drawn::lift_drawn` meets its contract. The invariant: the first i numbers are on the grid and moved up, and the rest of
+-- the room is as it came. Assumes nothing.
+use Prim.Native.Nat.{◌-◌}
+use mathlib.Core.Path.{◌≡◌, sym, ap, ◌∙◌}
+use mathlib.Core.List.{map-map}
+use native.Mathlib.Omega.{arith}
+use lib.ListN.{length}
+use lib.Ieee.{nan}
+use mir.Syntax.{w32}
+use mir.ValLaws.{to_z-of_z}
+use Rattle.ring.specs.Room.{laid}
+use Rattle.ring.proofs.Mapped.{Written, start, turn, done}
+use Rattle.refusals.proofs.Every.{every_at}
+use Rattle.shifted.specs.Shifted.{up_of}
+use Rattle.to_grid.specs.Grid.{nearest, fits_grid}
+use Rattle.clear_drawn.proofs.lift_drawn.Goals as goal
+
+pub loop-i-init : goal.loop-i-init
+loop-i-init c = start (λ x. up_of (nearest c.args.units x)) _ _
+
+pub on_grid-requires : goal.on_grid-requires
+on_grid-requires c =
+    let p = c.requires.list_value in
+    (every_at (fits_grid _) _ c.loop-i.i p.0 c.loop-i-test.true, p.1, p.2)
+
+pub loop-i-preserved : goal.loop-i-preserved
+loop-i-preserved c =
+    let is = to_z-of_z w32 _ (record { sfits = c.on_grid.type-inv }) ∙ c.on_grid.ensures.is in
+    turn (λ x. up_of (nearest _ x)) nan c.requires.list_in_bounds c.loop-i-test.true
+    (c.up.ensures ∙ ap up_of is) c.loop-i.invariant
+
+pub returns : goal.returns
+returns c =
+    let s = c.args in
+    done (λ x. up_of (nearest _ x)) c.loop-i-test.false c.loop-i.invariant
+    ∙ ap (λ l. laid l s.room.now) (sym (map-map up_of (nearest s.units) s.list.now))

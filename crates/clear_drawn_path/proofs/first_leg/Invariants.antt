@@ -1,0 +1,15 @@
+use Prim.Native.Nat.{◌-◌, ◌≤◌}
+use mathlib.Core.Path.{◌≡◌, sym, ap, ◌∙◌}
+use native.Mathlib.Omega.{arith}
+use Rattle.clear_aside.specs.Aside.{least}
+use Rattle.clear_drawn_path.specs.Path.{deepened, legs_from}
+use Rattle.clear_drawn_path.specs.Lent.{leg_at}
+use Rattle.clear_drawn_path.proofs.Legs.{all_left, leg_on, leg_edge, leg_enclosed, leg_end}
+use Rattle.clear_drawn_path.proofs.first_leg.Given as goal
+
+abbrev pub invariant-loop-i : goal.invariant-loop-i
+invariant-loop-i l =
+    (l.i ≤ l.legs) × (legs_from (leg_at l.st l.disc l.path) 0 l.legs ≡ deepened l.depth (legs_from (leg_at l.st l.disc l.path) l.i (l.legs - l.i)))
+
+abbrev pub decreases-loop-i : goal.decreases-loop-i
+decreases-loop-i l = l.legs - l.i

@@ -1,0 +1,46 @@
+-- `clear_path::row::are_placed` meets its contract. The invariant: the points from i on decide. Assumes nothing.
+use Prim.Native.Nat.{◌+◌, ◌*◌, ◌-◌, ◌≤◌}
+use mathlib.Core.Path.{◌≡◌, sym, ◌∙◌}
+use native.Mathlib.Omega.{arith}
+use lib.ListN.{get_or}
+use lib.IntN.{ℤ, pos}
+use Rattle.ring.specs.Each.{each}
+use Rattle.ring.proofs.Each.{each_on, each_off, each_end}
+use Rattle.whole_engine.specs.Rows.{all_in_bounds}
+use Rattle.whole_moves.specs.Moved.{moved_by}
+use Rattle.clear_calls.proofs.Passed.{as_lent}
+use Rattle.clear_path.specs.Rows.{is_placed}
+use Rattle.clear_path.proofs.Placed.{all_left}
+use Rattle.clear_path.proofs.row.are_placed.Goals as goal
+
+-- the test of the point i
+is : (c : goal.After-are_moved_within)
+    → (c.are_moved_within.result ≡ is_placed c.args.orbiting.now c.args.path.now c.loop-i.i)
+is c =
+    let path = c.args.path.now in
+    c.are_moved_within.ensures
+    ∙ as_lent {dx = get_or path (2 * c.loop-i.i) (pos 0)} {dy = get_or path (2 * c.loop-i.i + 1) (pos 0)}
+    (λ (x y : ℤ). all_in_bounds (moved_by x y c.args.orbiting.now))
+    (record { sfits = c.are_moved_within-arg-1.given }) (record { sfits = c.are_moved_within-arg-in-loop-i-1.given })
+
+shared-slice-copy-out-are-moved-within :
+    tie.Need-shared-slice-copy-out-are-moved-within invariant-loop decreases-loop
+shared-slice-copy-out-are-moved-within c = omega arith
+
+shared-slice-copy-out-are-moved-within-2 :
+    tie.Need-shared-slice-copy-out-are-moved-within-2 invariant-loop decreases-loop
+shared-slice-copy-out-are-moved-within-2 c = omega arith
+
+pub loop-i-init : goal.loop-i-init
+loop-i-init c = (omega arith, all_left _ _)
+
+pub loop-i-preserved : goal.loop-i-preserved
+loop-i-preserved c =
+    (omega arith, c.loop-i.invariant.1 ∙ each_on _ _ _ c.loop-i-test.true (sym (is c.before) ∙ c.if-are_moved_within.true))
+
+pub returns-else-are_moved_within : goal.returns-else-are_moved_within
+returns-else-are_moved_within c =
+    sym (c.loop-i.invariant.1 ∙ each_off _ _ _ c.loop-i-test.true (sym (is c.before) ∙ c.if-are_moved_within.false))
+
+pub returns : goal.returns
+returns c = sym (c.loop-i.invariant.1 ∙ each_end _ _ _ c.loop-i-test.false)

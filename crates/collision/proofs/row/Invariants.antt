@@ -1,0 +1,10 @@
+use Prim.Native.Nat.{◌-◌, ◌≤◌}
+use native.Mathlib.Omega.{arith}
+use Rattle.collision.proofs.Rows.{Sofar, none_yet, replaced, stayed, passed, all_of}
+use Rattle.collision.proofs.row.Given as goal
+
+abbrev pub invariant-loop-e : goal.invariant-loop-e
+invariant-loop-e l = (l.from ≤ l.e) × (l.e ≤ l.to) × Sofar l.origin l.edges l.sweep l.kind l.v l.from l.initial.best l.e l.best l.near
+
+abbrev pub decreases-loop-e : goal.decreases-loop-e
+decreases-loop-e l = l.to - l.e

@@ -1,0 +1,14 @@
+use native.Mathlib.Omega.{arith}
+use Prim.Native.Nat.{◌-◌, ◌<◌}
+use mathlib.Core.Path.{◌≡◌, ap, ◌∙◌}
+use Rattle.ring.specs.Ring.{point_at}
+use Rattle.frames.proofs.Widened.{next_start}
+use Rattle.contacts.specs.Rows.{on_edge}
+use Rattle.contacts.proofs.Rowing.{Sought, begun, onward, found, none_found, on_edge_lem}
+use Rattle.contacts.proofs.rows.near_edge.Given as goal
+
+abbrev pub invariant-loop-i : goal.invariant-loop-i
+invariant-loop-i l = Sought (on_edge l.p l.ring l.tol) l.from l.n l.i × (l.i < l.n → l.a ≡ point_at l.ring l.i)
+
+abbrev pub decreases-loop-i : goal.decreases-loop-i
+decreases-loop-i l = l.n - l.i

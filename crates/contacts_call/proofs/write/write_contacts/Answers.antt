@@ -1,0 +1,78 @@
+-- `contacts_call::write::write_contacts` meets its contract: `proofs/Writing.antt` has the invariant; the measure is what is left of the pairs. Assumes nothing.
+use native.Mathlib.Omega.{arith}
+use Prim.Native.Nat.{◌-◌, ◌≤◌, ◌<◌}
+use Rattle.ring.specs.Ring.{count}
+use Rattle.pairs.specs.Pairs.{pair_count}
+use Rattle.pairs.proofs.Numbers.{most, within}
+use Rattle.contacts.proofs.Following.{FoundAt, next_at, next_none}
+use Rattle.contacts_call.proofs.Writing.{Writing, start, which_fits, points_fit, turn, done}
+use Rattle.contacts_call.proofs.write.write_contacts.Goals as goal
+
+-- the contact found
+at : (c : goal.In-At) → FoundAt c.args.stationary.now c.args.orbiting.now c.args.tol c.loop-j.k c.in-At.j
+at c = next_at _ _ _ c.next_within.ensures c.in-At.is
+
+-- what is known of the pairs, and of n
+bounds : (c : goal.In-At) → (c.loop-j.n ≤ 196608) × (c.in-At.j < 196608)
+bounds c =
+    let m = most _ _ c.requires.sides in
+    let i = c.loop-j.invariant in
+    (omega (arith, i.few, i.most), omega (arith, (at c).below))
+
+pub loop-j-init : goal.loop-j-init
+loop-j-init c = start _ _ _ _ _
+
+pub next_within-requires : goal.next_within-requires
+next_within-requires c = (c.requires.sides, (c.loop-j.invariant.most, c.frames_of-frames.ensures))
+
+pub shape_of-which-in-Nothing : goal.shape_of-which-in-Nothing
+shape_of-which-in-Nothing c = c.loop-j.invariant.which.same
+
+pub shape_of-points-in-Nothing : goal.shape_of-points-in-Nothing
+shape_of-points-in-Nothing c = c.loop-j.invariant.points.same
+
+pub returns-in-Nothing : goal.returns-in-Nothing
+returns-in-Nothing c =
+    let p = c.requires in
+    done _ _ _ _ _ p.1.0 p.1.1 c.loop-j.invariant (next_none _ _ _ _ c.next_within.ensures c.in-Nothing.is)
+
+pub pair_at-pair-requires : goal.pair_at-pair-requires
+pair_at-pair-requires c = record { sides = c.requires.sides; k_bound = omega (arith, (at c).below) }
+
+pub contact_foot-foot-requires : goal.contact_foot-foot-requires
+contact_foot-foot-requires c =
+    rw c.pair_at-pair.ensures (within _ _ c.requires.sides _ (at c.before).below)
+
+pub overflow_mul-n : goal.overflow_mul-n
+overflow_mul-n c = omega (arith, bounds c.before.before.before)
+
+pub put_pair-requires : goal.put_pair-requires
+put_pair-requires c =
+    let p = c.requires in
+    which_fits _ _ _ _ _ p.1.0 p.1.1 c.loop-j.invariant (at c.before.before.before)
+
+pub overflow_mul-n-in-At : goal.overflow_mul-n-in-At
+overflow_mul-n-in-At c = omega (arith, bounds c.before.before.before.before.before.before.before)
+
+pub contact_point-requires : goal.contact_point-requires
+contact_point-requires c =
+    rw c.pair_at-pair.ensures (within _ _ c.requires.sides _ (at c.before.before.before.before.before.before.before).below)
+
+pub put_point-requires : goal.put_point-requires
+put_point-requires c =
+    let p = c.requires in
+    points_fit _ _ _ _ _ p.1.0 p.1.1 c.loop-j.invariant (at c.before.before.before.before.before.before.before.before)
+
+pub overflow_add-n : goal.overflow_add-n
+overflow_add-n c = omega (arith, bounds c.before.before.before.before.before.before.before.before.before.before.before)
+
+pub overflow_add-k : goal.overflow_add-k
+overflow_add-k c = omega (arith, bounds c.before.before.before.before.before.before.before.before.before.before.before)
+
+pub loop-j-smaller : goal.loop-j-smaller
+loop-j-smaller c = omega (arith, (at c.before.before.before.before.before.before.before.before.before.before.before).least, (at c.before.before.before.before.before.before.before.before.before.before.before).below)
+
+pub loop-j-preserved : goal.loop-j-preserved
+loop-j-preserved c =
+    let p = c.requires in
+    turn _ _ _ _ _ p.1.0 p.1.1 c.loop-j.invariant (at c.before.before.before.before.before.before.before.before.before.before.before) c.pair_at-pair.ensures c.contact_foot-foot.ensures c.contact_point.ensures c.put_pair.ensures c.put_point.ensures

@@ -1,0 +1,26 @@
+-- `directions::fill` meets its contract. The invariant: the first i directions are written, and the rest of the room is as it came. Assumes nothing.
+use native.Mathlib.Omega.{arith}
+use Prim.Native.Nat.{◌*◌, ◌-◌, ◌≤◌}
+use mathlib.Core.Path.{◌≡◌, refl, ap, ◌∙◌}
+use mathlib.Core.List.{◌++◌}
+use lib.ListN.{length, drop}
+use Rattle.plane.specs.Vector.{normalize_of}
+use Rattle.ring.specs.Points.{points}
+use Rattle.ring.proofs.Points.{put_next, put_all}
+use Rattle.directions.specs.Directions.{direction_at}
+use Rattle.directions.proofs.Filled.{filled}
+use Rattle.directions.proofs.fill.Goals as goal
+
+pub loop-i-init : goal.loop-i-init
+unfolding points
+loop-i-init c = (omega arith, refl, refl)
+
+pub loop-i-preserved : goal.loop-i-preserved
+loop-i-preserved c =
+    let v = c.loop-i.invariant in
+    (omega arith, omega (arith, c.put.auto.0), put_next _ _ _ (omega arith) v.2 (c.normalize.ensures ∙ ap normalize_of c.edge.ensures) c.put.ensures)
+
+pub returns : goal.returns
+returns c =
+    let v = c.loop-i.invariant in
+    filled _ _ (omega arith) (put_all _ _ _ _ v.0 c.loop-i-test.false v.2)

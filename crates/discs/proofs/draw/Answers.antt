@@ -1,0 +1,22 @@
+-- `discs::draw` meets its contract. The invariant: the first i vertices are written, and the rest of the room is as it came. Assumes nothing.
+use native.Mathlib.Omega.{arith}
+use Prim.Native.Nat.{◌*◌, ◌-◌, ◌≤◌}
+use mathlib.Core.Path.{◌≡◌, refl}
+use mathlib.Core.List.{◌++◌}
+use lib.ListN.{length, drop}
+use Rattle.ring.specs.Points.{points}
+use Rattle.ring.proofs.Points.{put_next, put_all}
+use Rattle.discs.specs.Disc.{vertex_of, disc_of}
+use Rattle.discs.proofs.draw.Goals as goal
+
+pub loop-i-init : goal.loop-i-init
+unfolding points
+loop-i-init c = (omega arith, refl, refl)
+
+pub loop-i-preserved : goal.loop-i-preserved
+loop-i-preserved c =
+    (omega arith, omega (arith, c.put.auto.0), put_next _ _ _ (omega arith) c.loop-i.invariant.2 c.vertex.ensures c.put.ensures)
+
+pub returns : goal.returns
+unfolding disc_of
+returns c = put_all _ _ _ _ c.loop-i.invariant.0 c.loop-i-test.false c.loop-i.invariant.2

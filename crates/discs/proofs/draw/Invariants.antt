@@ -1,0 +1,16 @@
+use native.Mathlib.Omega.{arith}
+use Prim.Native.Nat.{◌*◌, ◌-◌, ◌≤◌}
+use mathlib.Core.Path.{◌≡◌, refl}
+use mathlib.Core.List.{◌++◌}
+use lib.ListN.{length, drop}
+use Rattle.ring.specs.Points.{points}
+use Rattle.ring.proofs.Points.{put_next, put_all}
+use Rattle.discs.specs.Disc.{vertex_of, disc_of}
+use Rattle.discs.proofs.draw.Given as goal
+
+abbrev pub invariant-loop-i : goal.invariant-loop-i
+invariant-loop-i l =
+    (l.i ≤ l.initial.room) × (length l.room ≡ length l.n) × (l.room ≡ points (vertex_of l.centre l.radius l.m) l.i ++ drop (2 * l.i) l.n)
+
+abbrev pub decreases-loop-i : goal.decreases-loop-i
+decreases-loop-i l = l.initial.room - l.i

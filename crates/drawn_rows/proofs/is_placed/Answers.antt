@@ -1,0 +1,59 @@
+-- `drawn_rows::is_placed` meets its contract. The invariant: the points from i on decide. Assumes nothing.
+use Prim.Native.Nat.{◌+◌, ◌*◌, ◌-◌, ◌≤◌}
+use mathlib.Core.Path.{◌≡◌, sym, ◌∙◌}
+use native.Mathlib.Omega.{arith}
+use lib.Seq.{length-take-le}
+use mir.Syntax.{w32}
+use mir.ValLaws.{to_z-of_z}
+use Rattle.ring.specs.Each.{each}
+use Rattle.ring.proofs.Each.{each_on, each_off, each_end}
+use Rattle.refusals.proofs.Every.{every_at}
+use Rattle.clear_path.specs.Rows.{is_placed}
+use Rattle.clear_path.proofs.Placed.{all_left}
+use Rattle.to_grid.specs.Grid.{fits_grid}
+use Rattle.drawn_rows.specs.Rows.{grid_of}
+use Rattle.drawn_rows.proofs.Placed.{placed_is}
+use Rattle.drawn_rows.proofs.is_placed.Goals as goal
+
+-- the test of the point i
+is : (c : goal.After-are_moved_within)
+    → (c.are_moved_within.result
+    ≡ is_placed (grid_of c.args.units c.args.orbiting.now) (grid_of c.args.units c.args.path.now) c.loop-i.i)
+is c =
+    placed_is c.args.units c.args.orbiting.now c.args.path.now c.loop-i.i _ c.lay.ensures
+    (to_z-of_z w32 _ (record { sfits = c.on_grid-x.type-inv }) ∙ c.on_grid-x.ensures.is)
+    (to_z-of_z w32 _ (record { sfits = c.on_grid-y.type-inv }) ∙ c.on_grid-y.ensures.is)
+    c.are_moved_within.ensures
+
+pub lay-requires : goal.lay-requires
+lay-requires c =
+    let p = c.requires in
+    record { list_value = (p.1.0, p.0.0, p.0.1); list_in_bounds = p.0.2 }
+
+pub loop-i-init : goal.loop-i-init
+loop-i-init c = (omega arith, all_left _ _)
+
+pub on_grid-x-requires : goal.on_grid-x-requires
+on_grid-x-requires c =
+    let p = c.requires in
+    (every_at (fits_grid _) _ (2 * c.loop-i.i) p.1.1 (omega arith), p.0.0, p.0.1)
+
+pub on_grid-y-requires : goal.on_grid-y-requires
+on_grid-y-requires c =
+    let p = c.requires in
+    (every_at (fits_grid _) _ (2 * c.loop-i.i + 1) p.1.1 (omega arith), p.0.0, p.0.1)
+
+pub slice_bounds-are_moved_within-end : goal.slice_bounds-are_moved_within-end
+slice_bounds-are_moved_within-end c =
+    sym (length-take-le _ _ (omega (arith, c.lay.auto.1.1.0)))
+
+pub loop-i-preserved : goal.loop-i-preserved
+loop-i-preserved c =
+    (omega arith, c.loop-i.invariant.1 ∙ each_on _ _ _ c.loop-i-test.true (sym (is c.before) ∙ c.if-are_moved_within.true))
+
+pub returns-else-are_moved_within : goal.returns-else-are_moved_within
+returns-else-are_moved_within c =
+    sym (c.loop-i.invariant.1 ∙ each_off _ _ _ c.loop-i-test.true (sym (is c.before) ∙ c.if-are_moved_within.false))
+
+pub returns : goal.returns
+returns c = sym (c.loop-i.invariant.1 ∙ each_end _ _ _ c.loop-i-test.false)

@@ -1,0 +1,13 @@
+use Prim.Native.Nat.{◌-◌, ◌<◌}
+use mathlib.Core.Path.{◌≡◌, ap, ◌∙◌}
+use native.Mathlib.Omega.{arith}
+use Rattle.ring.specs.Ring.{point_at}
+use Rattle.frames.specs.Frame.{Around}
+use Rattle.frames.proofs.Widened.{none_yet, one_more, next_start}
+use Rattle.frames.proofs.frame_of.Given as goal
+
+abbrev pub invariant-loop-i : goal.invariant-loop-i
+invariant-loop-i l = Around l.q l.ring l.i × (l.i < l.n → l.a ≡ point_at l.ring l.i)
+
+abbrev pub decreases-loop-i : goal.decreases-loop-i
+decreases-loop-i l = l.n - l.i

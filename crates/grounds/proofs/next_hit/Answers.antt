@@ -1,0 +1,53 @@
+-- `grounds::next_hit` meets its contract: `proofs/Missed.antt` has the laws. The invariant: the edges below e are missed. Assumes nothing.
+use Prim.Native.Nat.{◌-◌, ◌≤◌}
+use native.Mathlib.Omega.{arith}
+use Rattle.collision.specs.Chained.{MissesTo, Ready}
+use Rattle.collision.proofs.Passed.{chain_passed}
+use Rattle.grounds.proofs.Missed.{none_missed, more_missed}
+use Rattle.grounds.proofs.next_hit.Goals as goal
+
+ready : (c : goal.At-loop-e) →
+    Ready c.args.table.now c.args.edges.now c.args.sweep
+ready c = c.requires.ready (omega arith)
+
+pub returns-then-table-eq0 : goal.returns-then-table-eq0
+returns-then-table-eq0 c = c.first_hit.ensures
+
+pub loop-e-init : goal.loop-e-init
+loop-e-init c = (omega arith, omega arith, none_missed _ _ _ _ _)
+
+pub is_passed-requires : goal.is_passed-requires
+is_passed-requires c = let r = ready c.before.before in omega (arith, r.room, r.few.edges)
+
+pub loop-e-smaller-then-is_passed : goal.loop-e-smaller-then-is_passed
+loop-e-smaller-then-is_passed c = omega (arith, c.chain_end-to.ensures.0)
+
+pub loop-e-preserved-then-is_passed : goal.loop-e-preserved-then-is_passed
+loop-e-preserved-then-is_passed c =
+    let end = c.chain_end-to.ensures in
+    (omega (arith, c.loop-e.invariant.0, end.0), end.1, more_missed _ _ _ _ _ _ _ c.loop-e.invariant.2 (chain_passed _ _ _ _ _ _ (ready c.before.before.before.before) c.is_passed.ensures c.if-is_passed.true end.2 end.1))
+
+pub first_hit-met-requires : goal.first_hit-met-requires
+first_hit-met-requires c = let end = c.chain_end-to.ensures in (omega (arith, end.0), end.1)
+
+pub returns-then-met-to : goal.returns-then-met-to
+returns-then-met-to c =
+    let i = c.loop-e.invariant in
+    let end = c.chain_end-to.ensures in
+    let h = c.first_hit-met.ensures in
+    record { not_before = omega (arith, i.0, h.not_before); not_after = omega (arith, h.not_after, end.1); misses = more_missed _ _ _ _ _ _ _ i.2 h.misses; hits = λ z. h.hits c.if-met-to.true }
+
+pub loop-e-smaller : goal.loop-e-smaller
+loop-e-smaller c = omega (arith, c.chain_end-to.ensures.0)
+
+pub loop-e-preserved : goal.loop-e-preserved
+loop-e-preserved c =
+    let i = c.loop-e.invariant in
+    let end = c.chain_end-to.ensures in
+    let h = c.first_hit-met.ensures in
+    (omega (arith, i.0, end.0), end.1, more_missed _ _ _ _ _ _ _ i.2 (λ k l z. h.misses k l (omega (arith, z, c.if-met-to.false))))
+
+pub returns : goal.returns
+returns c =
+    let i = c.loop-e.invariant in
+    record { not_before = omega (arith, i.0, i.1); not_after = omega arith; misses = λ k l h. i.2 k l (omega (arith, h, c.loop-e-test.false)); hits = λ h. absurd (omega (arith, h)) }

@@ -1,0 +1,12 @@
+-- `handed::value::hand_count` meets its contract: the two cases. Assumes nothing.
+use mathlib.Core.Path.{refl}
+use Rattle.handed.specs.Handed.{refusal_in, told}
+use Rattle.handed.proofs.value.hand_count.Goals as goal
+
+pub returns-in-Is : goal.returns-in-Is
+unfolding refusal_in told
+returns-in-Is c = rw c.in-Is.is (c.none.ensures, refl)
+
+pub returns-in-Refused : goal.returns-in-Refused
+unfolding refusal_in told
+returns-in-Refused c = rw c.in-Refused.is (refl, refl)

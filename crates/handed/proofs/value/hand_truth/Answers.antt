@@ -1,0 +1,13 @@
+-- `handed::value::hand_truth` meets its contract: the two cases. Assumes nothing.
+use mathlib.Core.Path.{refl}
+use Rattle.handed.specs.Handed.{refusal_in, told}
+use Rattle.handed.proofs.Flag.{flag_is}
+use Rattle.handed.proofs.value.hand_truth.Goals as goal
+
+pub returns-in-Is : goal.returns-in-Is
+unfolding refusal_in told
+returns-in-Is c = rw c.in-Is.is (c.none.ensures, flag_is c.in-Is.x)
+
+pub returns-in-Refused : goal.returns-in-Refused
+unfolding refusal_in told
+returns-in-Refused c = rw c.in-Refused.is (refl, refl)

@@ -1,0 +1,30 @@
+-- `interlocking::detect_interlocking_opportunity` meets its contract. The invariant: the vertices from i on decide. Assumes nothing.
+use native.Mathlib.Omega.{arith}
+use Prim.Native.Nat.{◌-◌, ◌≤◌}
+use mathlib.Core.Path.{◌≡◌, sym, ◌∙◌}
+use mathlib.Core.List.{List}
+use lib.Ieee.{Float}
+use Rattle.plane.specs.declared.Point.{Point}
+use Rattle.ring.specs.Ring.{count}
+use Rattle.interlocking.specs.Interlocking.{least_of, candidate_of, first_found, interlock_of}
+use Rattle.interlocking.proofs.Search.{found_on, found_here, found_none}
+use Rattle.interlocking.proofs.detect_interlocking_opportunity.Goals as goal
+
+-- all vertices are left
+start : (s o : List Float) (current : Point) (tol : Float) {least : Float} → least ≡ least_of o → interlock_of s o current tol ≡ first_found (candidate_of s o current tol least) 0 (count s - 0)
+unfolding interlock_of
+start s o current tol h = let e : count s - 0 ≡ count s = omega arith in rw (e, h)
+
+pub loop-i-init : goal.loop-i-init
+loop-i-init c = (omega arith, start _ _ _ _ c.least_opening-least.ensures)
+
+pub loop-i-preserved : goal.loop-i-preserved
+loop-i-preserved c =
+    (omega arith, c.loop-i.invariant.1 ∙ found_on _ _ _ c.loop-i-test.true c.candidate.ensures c.in-Nothing.is)
+
+pub returns-in-At : goal.returns-in-At
+returns-in-At c =
+    sym (c.loop-i.invariant.1 ∙ found_here _ _ _ c.loop-i-test.true c.candidate.ensures c.in-At.is)
+
+pub returns : goal.returns
+returns c = sym (c.loop-i.invariant.1 ∙ found_none _ _ _ c.loop-i-test.false)

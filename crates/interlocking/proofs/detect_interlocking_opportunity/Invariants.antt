@@ -1,0 +1,16 @@
+use native.Mathlib.Omega.{arith}
+use Prim.Native.Nat.{◌-◌, ◌≤◌}
+use mathlib.Core.Path.{◌≡◌, sym, ◌∙◌}
+use mathlib.Core.List.{List}
+use lib.Ieee.{Float}
+use Rattle.plane.specs.declared.Point.{Point}
+use Rattle.ring.specs.Ring.{count}
+use Rattle.interlocking.specs.Interlocking.{least_of, candidate_of, first_found, interlock_of}
+use Rattle.interlocking.proofs.Search.{found_on, found_here, found_none}
+use Rattle.interlocking.proofs.detect_interlocking_opportunity.Given as goal
+
+abbrev pub invariant-loop-i : goal.invariant-loop-i
+invariant-loop-i l = (l.i ≤ l.n) × (interlock_of l.stationary l.orbiting l.current l.tolerance ≡ first_found (candidate_of l.stationary l.orbiting l.current l.tolerance l.least) l.i (l.n - l.i))
+
+abbrev pub decreases-loop-i : goal.decreases-loop-i
+decreases-loop-i l = l.n - l.i

@@ -1,0 +1,18 @@
+-- `mending::trail` meets its contract: `proofs/Trailing.antt` has the invariant; the measure is what is left of the ring. Assumes nothing.
+use native.Mathlib.Omega.{arith}
+use Rattle.mending.proofs.Trailing.{Trail, start, back, stopped, done}
+use Rattle.mending.proofs.trail.Goals as goal
+
+pub loop-end-init : goal.loop-end-init
+loop-end-init c = start _ c.requires
+
+pub loop-end-preserved : goal.loop-end-preserved
+loop-end-preserved c =
+    back _ c.loop-end-test.true c.loop-end.invariant (rw (← c.point_at.ensures, ← c.point_at.ensures, ← c.same.ensures) c.if-same.true)
+
+pub returns-else-same : goal.returns-else-same
+returns-else-same c =
+    stopped _ c.loop-end-test.true c.loop-end.invariant (rw (← c.point_at.ensures, ← c.point_at.ensures, ← c.same.ensures) c.if-same.false)
+
+pub returns : goal.returns
+returns c = done _ c.loop-end-test.false c.loop-end.invariant

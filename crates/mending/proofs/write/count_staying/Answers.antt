@@ -1,0 +1,32 @@
+-- `mending::write::count_staying` meets its contract: `proofs/Counting.antt` has the invariant; the measure is what is left of the ring. Assumes nothing.
+use Prim.Native.Nat.{◌-◌}
+use mathlib.Core.Path.{sym, ◌∙◌}
+use native.Mathlib.Omega.{arith}
+use Rattle.ring.specs.Ring.{count}
+use Rattle.mending.proofs.Fates.{is_going, is_staying}
+use Rattle.mending.proofs.Counting.{Counting, start, one_stays, one_goes, counted}
+use Rattle.mending.proofs.write.count_staying.Goals as goal
+
+pub loop-i-init : goal.loop-i-init
+loop-i-init c = start _
+
+pub fate_at-requires : goal.fate_at-requires
+fate_at-requires c = record { i_bound = c.loop-i-test.true; by_index = c.requires }
+
+pub overflow_add-staying : goal.overflow_add-staying
+overflow_add-staying c =
+    let i = c.loop-i.invariant in
+    omega (arith, i.few, i.most)
+
+pub loop-i-preserved-in-Stays : goal.loop-i-preserved-in-Stays
+loop-i-preserved-in-Stays c =
+    one_stays _ c.loop-i-test.true c.loop-i.invariant (is_staying _ _ (sym c.fate_at.ensures ∙ c.in-Stays.is))
+
+pub loop-i-preserved : goal.loop-i-preserved
+loop-i-preserved c =
+    one_goes _ c.loop-i-test.true c.loop-i.invariant (is_going _ _ (sym c.fate_at.ensures ∙ c.in-Goes.is)).0
+
+pub returns : goal.returns
+returns c =
+    let i = c.loop-i.invariant in
+    (counted _ c.loop-i-test.false i, omega (arith, i.few, i.most))

@@ -1,0 +1,68 @@
+-- `mending::write::write_mended` meets its contract: `proofs/Writing.antt` has the invariant; the measure is what is left of the ring. Assumes nothing.
+use Prim.Native.Nat.{◌-◌}
+use mathlib.Core.Path.{◌≡◌, sym, ◌∙◌}
+use mathlib.Core.Bool.{true, false}
+use native.Mathlib.Omega.{arith}
+use Rattle.ring.specs.Ring.{count}
+use Rattle.mending.specs.Mending.{goes_at, why_of}
+use Rattle.mending.proofs.Fates.{is_going, is_staying}
+use Rattle.mending.proofs.Writing.{Writing, start, ring_fits, whys_fit, spots_fit, stay, go, done}
+use Rattle.mending.proofs.write.write_mended.Goals as goal
+
+-- vertex i stays
+stayed : (c : goal.In-Stays)
+    → (goes_at c.args.ring.now c.loop-i.i ≡ false)
+stayed c = is_staying _ _ (sym c.fate_at.ensures ∙ c.in-Stays.is)
+
+-- vertex i goes, and why
+went : (c : goal.In-Goes)
+    → ((goes_at c.args.ring.now c.loop-i.i ≡ true)
+    × (c.in-Goes.why ≡ why_of c.args.ring.now c.loop-i.i))
+went c = is_going _ _ (sym c.fate_at.ensures ∙ c.in-Goes.is)
+
+pub loop-i-init : goal.loop-i-init
+loop-i-init c = start _ _ _ _
+
+pub fate_at-requires : goal.fate_at-requires
+fate_at-requires c = record { i_bound = c.loop-i-test.true; by_index = c.requires.by_index }
+
+pub put-requires : goal.put-requires
+put-requires c =
+    let p = c.requires.1 in
+    ring_fits _ _ _ _ p.0 p.1.0 p.1.1 c.loop-i-test.true c.loop-i.invariant (stayed c.before.before)
+
+pub loop-i-preserved-in-Stays : goal.loop-i-preserved-in-Stays
+loop-i-preserved-in-Stays c =
+    let p = c.requires.1 in
+    stay _ _ _ _ p.0 p.1.0 p.1.1 c.loop-i-test.true c.loop-i.invariant (stayed c.before.before.before.before.before) c.point_at.ensures c.put.ensures
+
+pub put_why-requires : goal.put_why-requires
+put_why-requires c =
+    let p = c.requires.1 in
+    whys_fit _ _ _ _ p.0 p.1.0 p.1.1 c.loop-i-test.true c.loop-i.invariant (went c.before).0
+
+pub put-requires-in-Goes : goal.put-requires-in-Goes
+put-requires-in-Goes c =
+    let p = c.requires.1 in
+    spots_fit _ _ _ _ p.0 p.1.0 p.1.1 c.loop-i-test.true c.loop-i.invariant (went c.before.before.before.before.before.before).0
+
+pub loop-i-preserved : goal.loop-i-preserved
+loop-i-preserved c =
+    let p = c.requires.1 in
+    let w = went c.before.before.before.before.before.before.before.before.before in
+    go _ _ _ _ p.0 p.1.0 p.1.1 c.loop-i-test.true c.loop-i.invariant w.0 w.1 c.point_at-in-Goes.ensures c.put_why.ensures c.put-in-Goes.ensures
+
+pub shape_of-room : goal.shape_of-room
+shape_of-room c = c.loop-i.invariant.ring.same
+
+pub shape_of-dropped : goal.shape_of-dropped
+shape_of-dropped c = c.loop-i.invariant.whys.same
+
+pub shape_of-points : goal.shape_of-points
+shape_of-points c = c.loop-i.invariant.spots.same
+
+pub returns : goal.returns
+returns c =
+    let p = c.requires.1 in
+    let d = done _ _ _ _ p.0 p.1.0 p.1.1 c.loop-i-test.false c.loop-i.invariant in
+    (d.0, (d.1, d.2))

@@ -1,0 +1,23 @@
+-- `nfp_sliding::trace::finish` meets its contract: `proofs/Told.antt` has its three cases. Assumes nothing.
+use mathlib.Core.Path.{sym}
+use lib.Seq.{length-take-le}
+use Rattle.nfp_sliding.proofs.Told.{told_full, told_short, told_all, whole, fits}
+use Rattle.nfp_sliding.proofs.trace.finish.Goals as goal
+
+pub returns-then-end : goal.returns-then-end
+returns-then-end c = told_full _ _ _ _ _ _ _ c.requires.stored_in_bounds c.if-end.true
+
+pub returns-then-stored-lt3 : goal.returns-then-stored-lt3
+returns-then-stored-lt3 c = told_short _ _ _ _ _ _ _ c.requires.stored_in_bounds c.if-end.false c.if-stored-lt3.true
+
+pub slice_bounds-simplify-end : goal.slice_bounds-simplify-end
+slice_bounds-simplify-end c = sym (length-take-le _ _ c.requires.stored_in_bounds)
+
+pub simplify-points-requires : goal.simplify-points-requires
+simplify-points-requires c =
+    let s = c.before.before.before.before.before.before in
+    record { list_len = whole _ _ s.requires.0; tolerance_in_bounds = fits _ _ s.requires.0 _ _ s.requires.1 }
+
+pub returns : goal.returns
+returns c =
+    told_all _ _ _ _ _ _ _ c.requires.stored_in_bounds c.if-end.false c.if-stored-lt3.false c.simplify-points.ensures.value c.simplify-points.ensures.room_after

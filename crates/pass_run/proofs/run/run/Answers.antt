@@ -1,0 +1,84 @@
+-- `pass_run::run::run` meets its contract. The invariant: the run from the first state is the run of the passes left from where it is; the stored points
+-- lie in the room, and both rooms are as long as they came. Assumes nothing.
+use native.Mathlib.Omega.{arith}
+use Prim.Native.Nat.{◌*◌, ◌-◌, ◌≤◌}
+use mathlib.Core.Path.{◌≡◌, refl, sym, ap, ◌∙◌}
+use lib.ListN.{length}
+use native.Mathlib.Nat.{sub-zero}
+use Rattle.pass_run.proofs.Onward.{run_go, run_stop, run_full, run_out}
+use Rattle.pass_run.proofs.Standstill.{run_stays}
+use Rattle.pass_run.specs.Run.{run_of, Done}
+use Rattle.pass.specs.Pass.{scene}
+use Rattle.pass_run.proofs.run.run.Goals as goal
+
+pub loop-passes-init : goal.loop-passes-init
+loop-passes-init c = (omega arith, refl, c.requires.stored_in_bounds, rw sub-zero refl, refl)
+
+pub one_pass-requires : goal.one_pass-requires
+one_pass-requires c =
+    let p = c.requires in
+    (p.0, ((p.1.0.0, omega (arith, p.1.0.1, c.loop-passes.invariant.4)), (p.1.1.0, (p.1.1.1.0, c.loop-passes.invariant.2))))
+
+pub shape_of-room-in-Halt : goal.shape_of-room-in-Halt
+shape_of-room-in-Halt c = omega (arith, c.one_pass.auto.1.1.1.1.1.1.1.1.0)
+
+pub shape_of-moved-in-Halt : goal.shape_of-moved-in-Halt
+shape_of-moved-in-Halt c =
+    omega (arith, c.loop-passes.invariant.4, c.one_pass.auto.1.1.1.1.1.1.1.1.1.0)
+
+pub returns-in-Halt : goal.returns-in-Halt
+returns-in-Halt c =
+    let t = c.one_pass in
+    let h =
+    c.loop-passes.invariant.3
+    ∙ run_stop _ _ _ _ _ _ _ c.loop-passes-test.true t.ensures.0 t.ensures.1 _ c.in-Halt.is in
+    (sym (ap (λ (d : Done). d.end) h), sym (ap (λ (d : Done). d.room) h))
+
+pub shape_of-room-in-Full : goal.shape_of-room-in-Full
+shape_of-room-in-Full c = omega (arith, c.one_pass.auto.1.1.1.1.1.1.1.1.0)
+
+pub shape_of-moved-in-Full : goal.shape_of-moved-in-Full
+shape_of-moved-in-Full c =
+    omega (arith, c.loop-passes.invariant.4, c.one_pass.auto.1.1.1.1.1.1.1.1.1.0)
+
+pub returns-in-Full : goal.returns-in-Full
+returns-in-Full c =
+    let t = c.one_pass in
+    let h =
+    c.loop-passes.invariant.3
+    ∙ run_full _ _ _ _ _ _ _ c.loop-passes-test.true t.ensures.0 t.ensures.1 c.in-Full.is in
+    (sym (ap (λ (d : Done). d.end) h), sym (ap (λ (d : Done). d.room) h))
+
+pub shape_of-room-then-is_still : goal.shape_of-room-then-is_still
+shape_of-room-then-is_still c = omega (arith, c.one_pass.auto.1.1.1.1.1.1.1.1.0)
+
+pub shape_of-moved-then-is_still : goal.shape_of-moved-then-is_still
+shape_of-moved-then-is_still c =
+    omega (arith, c.loop-passes.invariant.4, c.one_pass.auto.1.1.1.1.1.1.1.1.1.0)
+
+pub returns-then-is_still : goal.returns-then-is_still
+returns-then-is_still c =
+    let t = c.one_pass in
+    let h =
+    c.loop-passes.invariant.3
+    ∙ run_stays _ _ _ _ _ _ _ _ (omega (arith, c.loop-passes-test.true)) t.ensures.0 t.ensures.1 c.in-Go.is (c.is_still.ensures c.if-is_still.true) in
+    (sym (ap (λ (d : Done). d.end) h), sym (ap (λ (d : Done). d.room) h))
+
+pub overflow_add-passes : goal.overflow_add-passes
+overflow_add-passes c = omega (arith, c.requires.limit_bound)
+
+pub loop-passes-preserved : goal.loop-passes-preserved
+loop-passes-preserved c =
+    let t = c.one_pass in
+    let q = c.in-Go.is in (
+      omega arith,
+      omega (arith, t.auto.1.1.1.1.1.1.1.1.0),
+      omega (arith, rw q at t.ensures.2, t.auto.1.1.1.1.1.1.1.1.0),
+      c.loop-passes.invariant.3 ∙ run_go _ _ _ _ _ _ _ c.loop-passes-test.true t.ensures.0 t.ensures.1 _ q,
+      omega (arith, c.loop-passes.invariant.4, t.auto.1.1.1.1.1.1.1.1.1.0),
+    )
+
+pub returns : goal.returns
+returns c =
+    let h = c.loop-passes.invariant.3 ∙ run_out _ _ _ _ _ c.loop-passes-test.false in
+    record { value = sym (ap (λ (d : Done). d.end) h); room_after = sym (ap (λ (d : Done). d.room) h) }

@@ -1,0 +1,19 @@
+-- `print::width_of` meets its contract. The loop's invariant: the digits counted and those of what is left are the width. Assumes nothing.
+use Prim.Native.Nat.{◌+◌, ◌-◌, ◌≤◌}
+use mathlib.Core.Path.{◌≡◌, sym, ◌∙◌}
+use native.Mathlib.Omega.{arith}
+use Rattle.print.specs.Digits.{up_to, width}
+use Rattle.print.proofs.Widths.{stop, last, more}
+use Rattle.print.proofs.width_of.Goals as goal
+
+pub loop-w-init : goal.loop-w-init
+loop-w-init c = ((omega arith), (omega arith))
+
+pub returns-then-rest-eq0 : goal.returns-then-rest-eq0
+returns-then-rest-eq0 c = (stop c.loop-w.w c.loop-w.rest c.if-rest-eq0.true ∙ sym c.loop-w.invariant.1, c.loop-w.invariant.0)
+
+pub loop-w-preserved : goal.loop-w-preserved
+loop-w-preserved c = ((omega arith), c.loop-w.invariant.1 ∙ more c.loop-w.w c.loop-w.rest c.loop-w-test.true c.if-rest-eq0.false)
+
+pub returns : goal.returns
+returns c = (last c.loop-w.w c.loop-w.rest c.loop-w-test.false ∙ sym c.loop-w.invariant.1, c.loop-w.invariant.0)

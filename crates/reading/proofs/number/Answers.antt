@@ -1,0 +1,5 @@
+-- `reading::number` meets its contract: from the last vertex back, or from the first onward. Assumes nothing.
+use Rattle.reading.proofs.number.Goals as goal
+
+pub returns-then-back : goal.returns-then-back
+returns-then-back c = rw c.if-back.true (search rules)

@@ -1,0 +1,14 @@
+use Prim.Native.Nat.{◌-◌, ◌/◌, ◌≤◌}
+use native.Mathlib.Omega.{arith}
+use mathlib.Core.Path.{◌≡◌, refl, ap, ◌∙◌}
+use lib.ListN.{length}
+use Rattle.shifted.specs.Shifted.{spot_at}
+use Rattle.reasons.specs.Lowest.{low_spot, lowest}
+use Rattle.reason_check.proofs.Heights.{turn}
+use Rattle.reason_check.proofs.lowest.Given as goal
+
+abbrev pub invariant-loop-i : goal.invariant-loop-i
+invariant-loop-i l = (l.i ≤ l.n) × (l.low ≡ lowest (spot_at l.a) (spot_at l.b) l.i)
+
+abbrev pub decreases-loop-i : goal.decreases-loop-i
+decreases-loop-i l = l.n - l.i

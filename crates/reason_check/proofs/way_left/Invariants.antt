@@ -1,0 +1,15 @@
+use Prim.Native.Nat.{◌-◌, ◌/◌}
+use native.Mathlib.Omega.{arith}
+use mathlib.Core.Path.{sym}
+use lib.ListN.{length}
+use borrow.Author.Tests.{not-true, not-false}
+use Rattle.shifted.specs.Shifted.{spot_at}
+use Rattle.reason_check.proofs.Small.{small_at}
+use Rattle.reason_check.proofs.Way.{Rest, start, start_off, end_off, turn, done}
+use Rattle.reason_check.proofs.way_left.Given as goal
+
+abbrev pub invariant-loop-i : goal.invariant-loop-i
+invariant-loop-i l = Rest (spot_at l.a) (spot_at l.b) (length l.a / 2) l.p l.q l.i
+
+abbrev pub decreases-loop-i : goal.decreases-loop-i
+decreases-loop-i l = l.n - l.i

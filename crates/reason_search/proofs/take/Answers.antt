@@ -1,0 +1,15 @@
+-- `reason_search::take` meets its contract: the line before again, or one anew. Assumes nothing.
+use Rattle.reason_search.proofs.Firsts.{again, instead}
+use Rattle.reason_search.proofs.take.Goals as goal
+
+pub returns-then-edge_right : goal.returns-then-edge_right
+returns-then-edge_right c =
+    let p = c.requires in
+    let r = again p.4 _ _ c.edge_right.ensures c.if-edge_right.true in
+    (r.0, (r.1, p.0))
+
+pub returns : goal.returns
+returns c =
+    let p = c.requires in
+    let e = c.take_anew.ensures in
+    (instead p.4 _ _ c.edge_right.ensures c.if-edge_right.false e.0, e.1)

@@ -1,0 +1,18 @@
+-- `recovery::row` meets its contract. The invariant: the first i edges are taken. Assumes nothing.
+use native.Mathlib.Omega.{arith}
+use Prim.Native.Nat.{◌-◌, ◌≤◌}
+use mathlib.Core.Path.{◌≡◌, refl, ap, ◌∙◌}
+use Rattle.laws.specs.FirstBest.{over}
+use Rattle.laws.proofs.FirstBest.{over_turn}
+use Rattle.recovery.specs.Recovery.{closest_on, nearer_point}
+use Rattle.recovery.proofs.row.Goals as goal
+
+pub loop-i-init : goal.loop-i-init
+unfolding over
+loop-i-init c = (omega arith, refl)
+
+pub loop-i-preserved : goal.loop-i-preserved
+loop-i-preserved c = (omega arith, over_turn nearer_point _ _ _ c.loop-i.invariant.1 c.foot.ensures c.keep-near.ensures)
+
+pub returns : goal.returns
+returns c = c.loop-i.invariant.1 ∙ ap (over nearer_point _ _) (omega arith)

@@ -1,0 +1,37 @@
+-- `refusals::rings::lent` meets its contract: the tests in the order of the definition. Assumes nothing.
+use mathlib.Core.Path.{◌≡◌, ap₂, ◌∙◌}
+use mathlib.Core.Bool.{true}
+use borrow.Author.Tests.{not-true, not-false}
+use Rattle.refusals.specs.Refusals.{first}
+use Rattle.refusals.proofs.RingRow.{lists, few_rings, number_speaks, lists_speak, numbers_speak}
+use Rattle.refusals.proofs.rings.lent.Goals as goal
+
+-- the number of rings is not refused
+numbered : (c : goal.Else-not-passed) → c.passed.result ≡ true
+numbered c = not-false c.passed.result c.if-not-passed.false
+
+-- the rings one by one, then the sum and the number of parts
+both : (c : goal.After-first-lists) →
+    let a = c.args in
+    c.first-lists.result ≡ lists a.xs.now a.counts.now a.parts.now
+both c = c.first-lists.ensures ∙ ap₂ first c.counts-each.ensures c.sums-sums.ensures
+
+pub returns-then-not-passed : goal.returns-then-not-passed
+returns-then-not-passed c =
+    let a = c.args in
+    number_speaks a.xs.now a.counts.now a.parts.now c.rings-rings.ensures c.passed.ensures (not-true c.passed.result c.if-not-passed.true)
+
+pub sums-sums-requires : goal.sums-sums-requires
+sums-sums-requires c =
+    let a = c.args in
+    few_rings a.xs.now a.counts.now a.parts.now c.rings-rings.ensures c.passed.ensures (numbered c.before)
+
+pub returns-then-passed : goal.returns-then-passed
+returns-then-passed c =
+    let a = c.args in
+    numbers_speak a.xs.now a.counts.now a.parts.now c.rings-rings.ensures c.passed.ensures (numbered c.before.before.before.before.before.before) (both c.before.before.before) c.passed-2.ensures c.if-passed.true c.numbers.ensures
+
+pub returns-else-passed : goal.returns-else-passed
+returns-else-passed c =
+    let a = c.args in
+    lists_speak a.xs.now a.counts.now a.parts.now c.rings-rings.ensures c.passed.ensures (numbered c.before.before.before.before.before) (both c.before.before) c.passed-2.ensures c.if-passed.false

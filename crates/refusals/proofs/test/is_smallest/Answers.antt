@@ -1,0 +1,8 @@
+-- `refusals::test::is_smallest` meets its contract: one test after the other. Assumes nothing.
+use Rattle.refusals.proofs.test.is_smallest.Goals as goal
+
+pub returns-then-is_finite : goal.returns-then-is_finite
+returns-then-is_finite c = rw (← c.is_finite.ensures, c.if-is_finite.true)
+
+pub returns-else-is_finite : goal.returns-else-is_finite
+returns-else-is_finite c = rw (← c.is_finite.ensures, c.if-is_finite.false)

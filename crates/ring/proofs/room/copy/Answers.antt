@@ -1,0 +1,20 @@
+-- `ring::room::copy` meets its contract. The invariant: the first i numbers are written, and the rest of the room is as it came. Assumes nothing.
+use native.Mathlib.Omega.{arith}
+use Prim.Native.Nat.{◌-◌, ◌≤◌}
+use mathlib.Core.Path.{◌≡◌, refl}
+use mathlib.Core.List.{◌++◌}
+use lib.ListN.{length, take, drop, length-set}
+use lib.Ieee.{nan}
+use Rattle.ring.proofs.Emit.{emit_next, emit_all}
+use Rattle.ring.proofs.room.copy.Goals as goal
+
+pub loop-i-init : goal.loop-i-init
+loop-i-init c = (omega arith, refl, refl)
+
+pub loop-i-preserved : goal.loop-i-preserved
+loop-i-preserved c =
+    let v = c.loop-i.invariant in
+    (omega arith, simp length-set v.1, emit_next _ _ _ _ nan (omega arith) (omega arith) v.2)
+
+pub returns : goal.returns
+returns c = emit_all _ _ _ _ _ c.loop-i.invariant.0 c.loop-i-test.false c.requires.0 c.loop-i.invariant.2

@@ -1,0 +1,18 @@
+use native.Mathlib.Omega.{arith}
+use Prim.Native.Nat.{◌-◌, ◌≤◌, ◌<◌}
+use mathlib.Core.Path.{◌≡◌, ap, ◌∙◌}
+use Rattle.scalar.specs.Float.{f0}
+use Rattle.plane.specs.Vector.{point}
+use Rattle.ring.specs.Ring.{point_at}
+use Rattle.frames.specs.Frame.{Inside}
+use Rattle.frames.proofs.Widened.{next_start}
+use Rattle.ring_distance.specs.Far.{BoundsEdges}
+use Rattle.ring_distance.proofs.Filled.{none_bounded, one_bounded}
+use Rattle.ring_distance.proofs.far.bounds_of.Given as goal
+
+abbrev pub invariant-loop-e : goal.invariant-loop-e
+invariant-loop-e l =
+    (l.from ≤ l.e) × BoundsEdges (record { l.starts = l.starts; l.ways = l.ways }) l.ring l.from l.e × Inside l.ways (point f0 f0) × (l.e < l.to → l.a ≡ point_at l.ring l.e)
+
+abbrev pub decreases-loop-e : goal.decreases-loop-e
+decreases-loop-e l = l.to - l.e

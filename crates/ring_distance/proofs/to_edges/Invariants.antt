@@ -1,0 +1,14 @@
+use native.Mathlib.Omega.{arith}
+use Prim.Native.Nat.{◌-◌, ◌≤◌, ◌<◌}
+use mathlib.Core.Path.{◌≡◌, ap, ◌∙◌}
+use Rattle.ring.specs.Ring.{point_at}
+use Rattle.frames.proofs.Widened.{next_start}
+use Rattle.ring_distance.specs.Squared.{squared_to, Carries}
+use Rattle.ring_distance.proofs.Turns.{none_taken, one_taken, at_end}
+use Rattle.ring_distance.proofs.to_edges.Given as goal
+
+abbrev pub invariant-loop-e : goal.invariant-loop-e
+invariant-loop-e l = (l.from ≤ l.e) × (l.e ≤ l.to) × Carries l.p l.ring l.from l.e l.before l.least × (l.e < l.to → l.a ≡ point_at l.ring l.e)
+
+abbrev pub decreases-loop-e : goal.decreases-loop-e
+decreases-loop-e l = l.to - l.e

@@ -1,0 +1,14 @@
+use native.Mathlib.Omega.{arith}
+use Prim.Native.Nat.{◌-◌, ◌<◌}
+use mathlib.Core.Path.{◌≡◌, sym, ap, ◌∙◌}
+use native.Mathlib.Nat.{mod-eq_of_lt}
+use Rattle.ring.specs.Ring.{point_at}
+use Rattle.ring_distance.specs.Squared.{squared_to, Carries}
+use Rattle.ring_distance.proofs.Turns.{none_taken, one_taken, last_taken}
+use Rattle.ring_distance.proofs.to_ring.Given as goal
+
+abbrev pub invariant-loop-i : goal.invariant-loop-i
+invariant-loop-i l = (l.i < l.n) × (l.a ≡ point_at l.ring l.i) × Carries l.p l.ring 0 l.i l.before l.least
+
+abbrev pub decreases-loop-i : goal.decreases-loop-i
+decreases-loop-i l = l.n - l.i

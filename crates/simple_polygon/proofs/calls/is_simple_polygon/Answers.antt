@@ -1,0 +1,11 @@
+-- `simple_polygon::calls::is_simple_polygon` meets its contract: the tests, then the answer. Assumes nothing.
+use Rattle.refusals.proofs.Calls.{goes, stops}
+use Rattle.simple_polygon.proofs.calls.is_simple_polygon.Goals as goal
+
+pub returns-then-passed : goal.returns-then-passed
+returns-then-passed c =
+    goes _ c.ring-no.ensures c.passed.ensures _ c.if-passed.true c.is_simple_polygon.ensures
+
+pub returns-else-passed : goal.returns-else-passed
+returns-else-passed c =
+    stops _ c.ring-no.ensures c.passed.ensures _ c.if-passed.false

@@ -1,0 +1,14 @@
+use native.Mathlib.Omega.{arith}
+use Prim.Native.Nat.{◌*◌, ◌-◌, ◌≤◌}
+use mathlib.Core.Path.{◌≡◌, refl, sym, ap, ◌∙◌}
+use lib.ListN.{length}
+use Rattle.ring.specs.Ring.{count}
+use Rattle.simplify.specs.Simplify.{survivors}
+use Rattle.simplify.proofs.Survive.{goes, two_more}
+use Rattle.simplify.proofs.staying.Given as goal
+
+abbrev pub invariant-loop-i : goal.invariant-loop-i
+invariant-loop-i l = (l.i ≤ l.n) × (l.kept ≤ l.i) × (2 * l.kept ≡ length (survivors l.list l.tolerance l.i))
+
+abbrev pub decreases-loop-i : goal.decreases-loop-i
+decreases-loop-i l = l.n - l.i

@@ -1,0 +1,13 @@
+use Prim.Native.Nat.{ℕ, zero, suc, ◌-◌, ◌*◌, ◌/◌, ◌%◌, ◌^◌, ◌≤◌, ◌<◌}
+use mathlib.Core.Path.{◌≡◌, refl}
+use native.Mathlib.Omega.{arith}
+use native.Mathlib.Nat.{pow-succ', one-le-pow, zero-lt-suc}
+use Rattle.square_root.specs.Root.{Pair, takes}
+use Rattle.square_root.proofs.Pairs.{Found, next_found, short, done, square}
+use Rattle.square_root.proofs.digits.Given as goal
+
+abbrev pub invariant-loop-place : goal.invariant-loop-place
+invariant-loop-place l = Inv l.m l.root l.left l.place
+
+abbrev pub decreases-loop-place : goal.decreases-loop-place
+decreases-loop-place l = l.place

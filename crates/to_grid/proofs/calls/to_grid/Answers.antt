@@ -1,0 +1,30 @@
+-- `to_grid::calls::to_grid` meets its contract: the tests, then each number on the grid. Assumes nothing.
+use mathlib.Core.Path.{◌≡◌, refl}
+use lib.ListN.{length}
+use Rattle.refusals.proofs.Calls.{goes, stops, wrote, kept}
+use Rattle.to_grid.specs.Calls.{to_grid_refusal}
+use Rattle.to_grid.proofs.Screened.{screened, passing}
+use Rattle.to_grid.proofs.calls.to_grid.Goals as goal
+
+-- what the tests found is what the definition says
+refusal : (c : goal.After-first-no)
+    → c.first-no.result
+    ≡ to_grid_refusal c.args.points.now c.args.units
+    (length c.args.room.now)
+refusal c = screened _ _ _ c.lent.ensures c.fit.ensures c.first-no.ensures
+
+pub lay-requires : goal.lay-requires
+lay-requires c =
+    passing _ _ _ (refusal c.before.before.before) c.passed.ensures c.if-passed.true
+
+pub returns-then-passed : goal.returns-then-passed
+returns-then-passed c =
+    let n = refusal c.before.before.before.before.before in
+    let p = c.passed.ensures in
+    record { result_value = goes _ n p _ c.if-passed.true refl; room_after = wrote _ n p _ _ c.if-passed.true c.lay.ensures }
+
+pub returns-else-passed : goal.returns-else-passed
+returns-else-passed c =
+    let n = refusal c.before.before in
+    let p = c.passed.ensures in
+    record { result_value = stops _ n p _ c.if-passed.false; room_after = kept _ n p _ _ c.if-passed.false }

@@ -1,0 +1,8 @@
+-- `vectors::course::direction_of` meets its contract. Assumes nothing.
+use mathlib.Core.Path.{refl}
+use Rattle.vectors.specs.Courses.{vector_is}
+use Rattle.vectors.proofs.course.direction_of.Goals as goal
+
+pub returns : goal.returns
+unfolding vector_is
+returns c = refl

@@ -1,0 +1,45 @@
+-- `vectors::next_vector` meets its contract: each step is one of the three laws. Assumes nothing.
+use native.Mathlib.Omega.{arith}
+use Rattle.pairs.proofs.Numbers.{most}
+use Rattle.contacts.proofs.Following.{FoundAt, next_at, next_none}
+use Rattle.vectors.proofs.Steps.{first_step, second_step, no_step, second_below}
+use Rattle.vectors.proofs.next_vector.Goals as goal
+
+-- the contact found
+at : (c : goal.In-At) → FoundAt c.args.stationary.now c.args.orbiting.now c.args.tol c.args.place.contact c.in-At.k
+at c = next_at _ _ _ c.next_contact.ensures c.in-At.is
+
+pub next_contact-requires : goal.next_contact-requires
+next_contact-requires c =
+    let s = c.requires in
+    record { sides = s.0; from_bound = omega (arith, s.1.contact_most) }
+
+pub vector_of-requires : goal.vector_of-requires
+vector_of-requires c = record { sides = c.requires.sides; k_bound = (at c).below }
+
+pub vector_of-requires-else-place-eq0 : goal.vector_of-requires-else-place-eq0
+vector_of-requires-else-place-eq0 c =
+    let s = c.requires in
+    record { sides = s.0; k_bound = second_below _ _ c.args.tol _ s.1 c.if-place-eq0.false }
+
+pub overflow_add-result : goal.overflow_add-result
+overflow_add-result c =
+    let s = c.requires in
+    omega (arith, s.1.contact_most, most _ _ s.0)
+
+pub overflow_add-result-else-place-eq0 : goal.overflow_add-result-else-place-eq0
+overflow_add-result-else-place-eq0 c =
+    let s = c.requires in
+    omega (arith, s.1.contact_most, s.1.source_most, most _ _ s.0)
+
+pub returns-in-Nothing : goal.returns-in-Nothing
+returns-in-Nothing c =
+    no_step _ _ _ _ c.requires.ready c.if-place-eq0.true (next_none _ _ _ _ c.next_contact.ensures c.in-Nothing.is)
+
+pub returns-in-At : goal.returns-in-At
+returns-in-At c =
+    first_step _ _ _ _ c.requires.ready c.if-place-eq0.true (at c.before) c.vector_of.ensures
+
+pub returns-else-place-eq0 : goal.returns-else-place-eq0
+returns-else-place-eq0 c =
+    second_step _ _ _ _ c.requires.ready c.if-place-eq0.false c.vector_of-else-place-eq0.ensures

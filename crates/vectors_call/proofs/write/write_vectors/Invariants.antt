@@ -1,0 +1,16 @@
+use native.Mathlib.Omega.{arith}
+use Prim.Native.Nat.{◌*◌, ◌-◌}
+use Rattle.ring.specs.Ring.{count}
+use Rattle.pairs.specs.Pairs.{pair_count}
+use Rattle.vectors.specs.Vectors.{sourced}
+use Rattle.vectors.specs.Fit.{kept_vectors, keeps}
+use Rattle.vectors.specs.Places.{Behind, far}
+use Rattle.vectors.proofs.Steps.{nearer}
+use Rattle.vectors_call.proofs.Passing.{Writing, start, vectors_fit, sources_fit, turn, done, small}
+use Rattle.vectors_call.proofs.write.write_vectors.Given as goal
+
+abbrev pub invariant-loop-vector : goal.invariant-loop-vector
+invariant-loop-vector l = Writing l.stationary l.orbiting l.tol (keeps l.from l.visited l.tol) l.initial.vectors l.initial.sources l.vectors l.sources l.n l.at
+
+abbrev pub decreases-loop-vector : goal.decreases-loop-vector
+decreases-loop-vector l = 2 * pair_count (count l.stationary) (count l.orbiting) - far l.at

@@ -1,0 +1,52 @@
+-- `whole_engine::area2` meets its contract. The invariant: the two sums are those of the first i vertices. Assumes nothing.
+use native.Mathlib.Omega.{arith}
+use mir.Syntax.{w64}
+use mir.ValLaws.{to_z-of_z}
+use Prim.Native.Nat.{◌-◌, ◌/◌}
+use mathlib.Core.Path.{ap, ◌∙◌}
+use lib.ListN.{length}
+use Rattle.shifted.specs.Shifted.{spot_at, Small}
+use Rattle.whole_engine.proofs.Sums.{Sums, start, term_most, turn, done}
+use Rattle.whole_engine.proofs.Within.{small_at}
+use Rattle.whole_engine.proofs.area2.Goals as goal
+
+-- both points are small
+small1 : (c : goal.After-spot_at-q) → Small c.spot_at-p.result
+small1 c =
+    small_at c.args.list.now c.requires.1 _ c.loop-i-test.true c.spot_at-p.ensures
+
+small2 : (c : goal.After-spot_at-q) → Small c.spot_at-q.result
+small2 c =
+    small_at c.args.list.now c.requires.1 _ c.next.ensures.1 c.spot_at-q.ensures
+
+pub loop-i-init : goal.loop-i-init
+loop-i-init c = start _ _
+
+pub overflow_mul-left : goal.overflow_mul-left
+overflow_mul-left c = omega (arith, term_most (small1 c.before.before).width (small2 c.before.before).height)
+
+pub overflow_add-left : goal.overflow_add-left
+overflow_add-left c =
+    omega (arith, c.requires.0, c.loop-i.invariant.left_most, c.loop-i.invariant.most, term_most (small1 c.before.before).width (small2 c.before.before).height)
+
+pub overflow_mul-right : goal.overflow_mul-right
+overflow_mul-right c = omega (arith, term_most (small2 c.before.before.before.before).width (small1 c.before.before.before.before).height)
+
+pub overflow_add-right : goal.overflow_add-right
+overflow_add-right c =
+    omega (arith, c.requires.0, c.loop-i.invariant.right_most, c.loop-i.invariant.most, term_most (small2 c.before.before.before.before).width (small1 c.before.before.before.before).height)
+
+pub loop-i-preserved : goal.loop-i-preserved
+loop-i-preserved c =
+    let list = c.args.list.now in
+    turn (spot_at list) (length list / 2) c.loop-i-test.true c.spot_at-p.ensures (c.spot_at-q.ensures ∙ ap (spot_at list) c.next.ensures.0) (small1 c.before.before.before.before) (small2 c.before.before.before.before) c.loop-i.invariant
+
+pub difference-requires : goal.difference-requires
+difference-requires c =
+    let v = c.loop-i.invariant in
+    (omega (arith, c.requires.0, v.left_most, v.most), omega (arith, c.requires.0, v.right_most, v.most))
+
+pub returns : goal.returns
+returns c =
+    let list = c.args.list.now in
+    to_z-of_z w64 _ (sfits_of c.difference.type-inv) ∙ done (spot_at list) (length list / 2) c.loop-i-test.false c.loop-i.invariant c.difference.ensures

@@ -1,0 +1,57 @@
+-- `whole_engine::clear_row` meets its contract. The invariant: the row from j on decides, and the edge j starts at b1. Assumes nothing.
+use native.Mathlib.Omega.{arith}
+use Prim.Native.Nat.{◌-◌, ◌/◌}
+use mathlib.Core.Path.{sym, ap, ◌∙◌}
+use lib.ListN.{length}
+use Rattle.plane.specs.Orientation.{turn_number}
+use Rattle.shifted.specs.Shifted.{spot_at, Small}
+use Rattle.whole_engine.proofs.Edges.{Row, first_edge, next_edge, edge_off, no_more}
+use Rattle.whole_engine.proofs.Within.{small_at}
+use Rattle.whole_engine.proofs.clear_row.Goals as goal
+
+-- the spots of the row are small
+small1 : (c : goal.After-spot_at-a2) → Small c.spot_at-a1.result
+small1 c =
+    small_at c.args.list.now c.requires.1 _ c.requires.0 c.spot_at-a1.ensures
+
+small2 : (c : goal.After-spot_at-a2) → Small c.spot_at-a2.result
+small2 c =
+    small_at c.args.list.now c.requires.1 _ c.next.ensures.1 c.spot_at-a2.ensures
+
+small3 : (c : goal.After-spot_at-b2) → Small c.spot_at-b2.result
+small3 c =
+    small_at c.args.list.now c.requires.1 _ c.next-in-loop-j.ensures.1 c.spot_at-b2.ensures
+
+pub turn-d3-requires : goal.turn-d3-requires
+turn-d3-requires c = (small1 c, small2 c, small2 c)
+
+pub loop-j-init : goal.loop-j-init
+loop-j-init c =
+    let at = spot_at c.args.list.now in
+    first_edge _ _ _ c.requires.0 (small2 c.before) (c.spot_at-a2.ensures ∙ ap at c.next.ensures.0) c.turn-d3.ensures
+
+pub turn-d4-requires : goal.turn-d4-requires
+turn-d4-requires c =
+    (small1 c.before.before.before.before.before, small2 c.before.before.before.before.before, small3 c)
+
+pub adjacent-requires : goal.adjacent-requires
+adjacent-requires c = (c.loop-j.invariant.past, c.loop-j-test.true)
+
+pub clear_pair-requires : goal.clear_pair-requires
+clear_pair-requires c = record { small = (small1 c.before.before.before.before.before.before.before, small2 c.before.before.before.before.before.before.before, c.loop-j.invariant.small, small3 c.before.before); d3_value = (c.loop-j.invariant.side, c.turn-d4.ensures) }
+
+pub loop-j-preserved : goal.loop-j-preserved
+loop-j-preserved c =
+    let at = spot_at c.args.list.now in
+    next_edge _ _ _ c.loop-j.invariant c.loop-j-test.true c.spot_at-a1.ensures (c.spot_at-a2.ensures ∙ ap at c.next.ensures.0) (c.spot_at-b2.ensures ∙ ap at c.next-in-loop-j.ensures.0) c.adjacent.ensures
+    c.clear_pair.ensures (small3 c.before.before.before.before) c.turn-d4.ensures c.if-clear_pair.true
+
+pub returns-else-clear_pair : goal.returns-else-clear_pair
+returns-else-clear_pair c =
+    let at = spot_at c.args.list.now in
+    sym
+    (edge_off _ _ _ c.loop-j.invariant c.loop-j-test.true c.spot_at-a1.ensures (c.spot_at-a2.ensures ∙ ap at c.next.ensures.0) (c.spot_at-b2.ensures ∙ ap at c.next-in-loop-j.ensures.0) c.adjacent.ensures
+    c.clear_pair.ensures c.if-clear_pair.false)
+
+pub returns : goal.returns
+returns c = sym (no_more _ _ _ c.loop-j.invariant c.loop-j-test.false)

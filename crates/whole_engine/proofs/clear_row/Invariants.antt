@@ -1,0 +1,15 @@
+use native.Mathlib.Omega.{arith}
+use Prim.Native.Nat.{◌-◌, ◌/◌}
+use mathlib.Core.Path.{sym, ap, ◌∙◌}
+use lib.ListN.{length}
+use Rattle.plane.specs.Orientation.{turn_number}
+use Rattle.shifted.specs.Shifted.{spot_at, Small}
+use Rattle.whole_engine.proofs.Edges.{Row, first_edge, next_edge, edge_off, no_more}
+use Rattle.whole_engine.proofs.Within.{small_at}
+use Rattle.whole_engine.proofs.clear_row.Given as goal
+
+abbrev pub invariant-loop-j : goal.invariant-loop-j
+invariant-loop-j l = Row (spot_at l.list) (length l.list / 2) l.i l.a1 l.a2 l.b1 (turn_number l.d3) l.j
+
+abbrev pub decreases-loop-j : goal.decreases-loop-j
+decreases-loop-j l = l.n - l.j

@@ -1,0 +1,26 @@
+-- `whole_moves::lower` meets its contract. The invariant: the first i numbers are written, and the rest of the room is as it
+-- came. Assumes nothing.
+use Prim.Native.Nat.{◌-◌}
+use native.Mathlib.Omega.{arith}
+use Rattle.whole_moves.proofs.Lowered.{down_stands, Lowered, start, turn, done}
+use Rattle.whole_moves.proofs.lower.Goals as goal
+
+pub loop-i-init : goal.loop-i-init
+loop-i-init c = start _ _ _
+
+pub down-requires : goal.down-requires
+down-requires c = c.requires.by_index c.loop-i.i c.loop-i-test.true
+
+pub bounds-room-i : goal.bounds-room-i
+bounds-room-i c = omega (arith, c.loop-i.invariant.same, c.requires.n_in_bounds.1)
+
+pub loop-i-preserved : goal.loop-i-preserved
+loop-i-preserved c =
+    let p = c.requires in
+    let more = c.loop-i-test.true in
+    turn _ _ _ p.0.0 p.0.1 more (down_stands _ (p.1 c.loop-i.i more) c.down.ensures) c.loop-i.invariant
+
+pub returns : goal.returns
+returns c =
+    let p = c.requires in
+    done _ _ _ p.0.0 p.0.1 c.loop-i-test.false c.loop-i.invariant

@@ -1,0 +1,33 @@
+-- `wkb_reader::check::numbers` meets its contract. The loop's invariant: the check of the coordinates left, from j on, decides. Assumes nothing.
+use Prim.Native.Nat.{◌-◌, ◌≤◌}
+use mathlib.Core.Path.{◌≡◌, sym, ap, ◌∙◌}
+use native.Mathlib.Omega.{arith}
+use borrow.Author.Tests.{not-true, not-false}
+use Rattle.refusals.specs.Bounds.{coordinate}
+use Rattle.wkb_layout.specs.Faults.{number_in}
+use Rattle.wkb_reader.proofs.Numbers.{number_at, check_from, check_start, number_good, number_bad, check_end}
+use Rattle.wkb_reader.proofs.check.numbers.Goals as goal
+
+-- what was asked of coordinate j
+asked : (c : goal.After-is_coordinate)
+    → c.is_coordinate.result ≡ coordinate (number_in c.args.f.now (number_at c.loop-j.j))
+asked c = c.is_coordinate.ensures ∙ ap coordinate c.number.ensures
+
+pub loop-j-init : goal.loop-j-init
+loop-j-init c = (omega arith, check_start c.args.f.now c.args.m)
+
+pub returns-then-not-is_coordinate : goal.returns-then-not-is_coordinate
+returns-then-not-is_coordinate c =
+    let a = c.args in
+    c.new.ensures
+    ∙ sym (c.loop-j.invariant.1 ∙ number_bad a.f.now a.m c.loop-j.j c.loop-j-test.true (sym (asked c.before.before) ∙ not-true c.is_coordinate.result c.if-not-is_coordinate.true))
+
+pub loop-j-preserved : goal.loop-j-preserved
+loop-j-preserved c =
+    let a = c.args in
+    (omega arith, c.loop-j.invariant.1 ∙ number_good a.f.now a.m c.loop-j.j c.loop-j-test.true (sym (asked c.before) ∙ not-false c.is_coordinate.result c.if-not-is_coordinate.false))
+
+pub returns : goal.returns
+returns c =
+    let a = c.args in
+    c.none.ensures ∙ sym (c.loop-j.invariant.1 ∙ check_end a.f.now a.m c.loop-j.j c.loop-j-test.false)
