@@ -7,7 +7,7 @@ use Rattle.chains.proofs.Table.{none_tabled, one_tabled}
 use Rattle.chains.proofs.fill.Given as goal
 
 abbrev pub invariant-loop-e : goal.invariant-loop-e
-invariant-loop-e l = (l.e ≤ l.initial.table) × (length l.table ≡ length l.n) × (l.e < l.initial.table → l.e % 8 ≡ 0) × Tabled l.table l.dir l.edges l.e
+invariant-loop-e l = (l.e ≤ l.n) × (length l.table ≡ length l.initial.table) × (l.e < l.n → l.e % 8 ≡ 0) × Tabled l.table l.dir l.edges l.e
 
 abbrev pub decreases-loop-e : goal.decreases-loop-e
-decreases-loop-e l = l.initial.table - l.e
+decreases-loop-e l = l.n - l.e

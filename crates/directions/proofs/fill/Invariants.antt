@@ -11,7 +11,7 @@ use Rattle.directions.proofs.Filled.{filled}
 use Rattle.directions.proofs.fill.Given as goal
 
 abbrev pub invariant-loop-i : goal.invariant-loop-i
-invariant-loop-i l = (l.i ≤ l.initial.room) × (length l.room ≡ length l.n) × (l.room ≡ points (direction_at l.ring) l.i ++ drop (2 * l.i) l.n)
+invariant-loop-i l = (l.i ≤ l.n) × (length l.room ≡ length l.initial.room) × (l.room ≡ points (direction_at l.ring) l.i ++ drop (2 * l.i) l.initial.room)
 
 abbrev pub decreases-loop-i : goal.decreases-loop-i
-decreases-loop-i l = l.initial.room - l.i
+decreases-loop-i l = l.n - l.i

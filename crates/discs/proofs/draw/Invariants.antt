@@ -10,7 +10,7 @@ use Rattle.discs.proofs.draw.Given as goal
 
 abbrev pub invariant-loop-i : goal.invariant-loop-i
 invariant-loop-i l =
-    (l.i ≤ l.initial.room) × (length l.room ≡ length l.n) × (l.room ≡ points (vertex_of l.centre l.radius l.m) l.i ++ drop (2 * l.i) l.n)
+    (l.i ≤ l.n) × (length l.room ≡ length l.initial.room) × (l.room ≡ points (vertex_of l.centre l.radius l.m) l.i ++ drop (2 * l.i) l.initial.room)
 
 abbrev pub decreases-loop-i : goal.decreases-loop-i
-decreases-loop-i l = l.initial.room - l.i
+decreases-loop-i l = l.n - l.i

@@ -10,7 +10,7 @@ use Rattle.lines.proofs.Points.{no_point, point_more}
 use Rattle.lines.proofs.put_points.Given as goal
 
 abbrev pub invariant-loop-i : goal.invariant-loop-i
-invariant-loop-i l = (l.i ≤ l.n) × (length l.out ≡ length l.at) × (l.next ≡ l.initial.out + 34 * l.i) × Put l.at l.initial.out (point_lines l.xs l.i) l.out l.next
+invariant-loop-i l = (l.i ≤ l.n) × (length l.out ≡ length l.initial.out) × (l.next ≡ l.at + 34 * l.i) × Put l.initial.out l.at (point_lines l.xs l.i) l.out l.next
 
 abbrev pub decreases-loop-i : goal.decreases-loop-i
 decreases-loop-i l = l.n - l.i

@@ -7,7 +7,7 @@ use Rattle.print.proofs.Puts.{nothing, byte_more, byte_all}
 use Rattle.print.proofs.put_text.Given as goal
 
 abbrev pub invariant-loop-i : goal.invariant-loop-i
-invariant-loop-i l = (l.i ≤ length l.initial.room) × (length l.room ≡ length l.at) × (take (l.text + l.i) l.room ≡ take l.text l.at ++ take l.i l.initial.room)
+invariant-loop-i l = (l.i ≤ length l.text) × (length l.room ≡ length l.initial.room) × (take (l.at + l.i) l.room ≡ take l.at l.initial.room ++ take l.i l.text)
 
 abbrev pub decreases-loop-i : goal.decreases-loop-i
-decreases-loop-i l = length l.initial.room - l.i
+decreases-loop-i l = length l.text - l.i

@@ -5,7 +5,7 @@ use Rattle.put_aside.proofs.Laying.{Laid, lay_start, lay_turn, lay_end}
 use Rattle.put_aside.proofs.lay.Given as goal
 
 abbrev pub invariant-loop-i : goal.invariant-loop-i
-invariant-loop-i l = Laid l.list l.r l.n l.room l.i
+invariant-loop-i l = Laid l.list l.r l.initial.room l.room l.i
 
 abbrev pub decreases-loop-i : goal.decreases-loop-i
-decreases-loop-i l = l.initial.room - l.i
+decreases-loop-i l = l.n - l.i

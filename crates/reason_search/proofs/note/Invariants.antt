@@ -4,7 +4,7 @@ use Rattle.reason_search.proofs.Flags.{Flags, start, turn}
 use Rattle.reason_search.proofs.note.Given as goal
 
 abbrev pub invariant-loop-c : goal.invariant-loop-c
-invariant-loop-c l = Flags l.a l.b l.most l.flags l.c
+invariant-loop-c l = Flags l.a l.b l.initial.flags l.flags l.c
 
 abbrev pub decreases-loop-c : goal.decreases-loop-c
-decreases-loop-c l = l.initial.flags - l.c
+decreases-loop-c l = l.most - l.c

@@ -8,7 +8,7 @@ use Rattle.contacts_call.proofs.Writing.{Writing, start, which_fits, points_fit,
 use Rattle.contacts_call.proofs.write.write_contacts.Given as goal
 
 abbrev pub invariant-loop-j : goal.invariant-loop-j
-invariant-loop-j l = Writing l.stationary l.orbiting l.tol l.sn l.on l.which l.points l.n l.k
+invariant-loop-j l = Writing l.stationary l.orbiting l.tol l.initial.which l.initial.points l.which l.points l.n l.k
 
 abbrev pub decreases-loop-j : goal.decreases-loop-j
 decreases-loop-j l = pair_count (count l.stationary) (count l.orbiting) - l.k

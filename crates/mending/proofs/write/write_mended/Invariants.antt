@@ -9,7 +9,7 @@ use Rattle.mending.proofs.Writing.{Writing, start, ring_fits, whys_fit, spots_fi
 use Rattle.mending.proofs.write.write_mended.Given as goal
 
 abbrev pub invariant-loop-i : goal.invariant-loop-i
-invariant-loop-i l = Writing l.ring l.n l.initial.room l.initial.dropped l.room l.dropped l.points l.staying l.gone l.i
+invariant-loop-i l = Writing l.ring l.initial.room l.initial.dropped l.initial.points l.room l.dropped l.points l.staying l.gone l.i
 
 abbrev pub decreases-loop-i : goal.decreases-loop-i
 decreases-loop-i l = count l.ring - l.i

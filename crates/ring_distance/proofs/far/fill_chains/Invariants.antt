@@ -7,7 +7,7 @@ use Rattle.ring_distance.proofs.Filled.{none_tabled, one_tabled}
 use Rattle.ring_distance.proofs.far.fill_chains.Given as goal
 
 abbrev pub invariant-loop-e : goal.invariant-loop-e
-invariant-loop-e l = (l.e ≤ l.initial.table) × (length l.table ≡ length l.n) × (l.e < l.initial.table → l.e % 8 ≡ 0) × Tabled l.table l.ring l.e
+invariant-loop-e l = (l.e ≤ l.n) × (length l.table ≡ length l.initial.table) × (l.e < l.n → l.e % 8 ≡ 0) × Tabled l.table l.ring l.e
 
 abbrev pub decreases-loop-e : goal.decreases-loop-e
-decreases-loop-e l = l.initial.table - l.e
+decreases-loop-e l = l.n - l.e

@@ -14,7 +14,7 @@ use Rattle.wkb_reader.proofs.Numbers.{numbers_from, load_start, load_on, load_en
 use Rattle.wkb_reader.proofs.load.load.Given as goal
 
 abbrev pub invariant-loop-j : goal.invariant-loop-j
-invariant-loop-j l = (l.j ≤ 2 * l.initial.room) × (length l.room ≡ length l.n) × (sets l.n 0 (numbers_from l.f (2 * l.initial.room) 0) ≡ sets l.room l.j (numbers_from l.f (2 * l.initial.room - l.j) l.j))
+invariant-loop-j l = (l.j ≤ 2 * l.n) × (length l.room ≡ length l.initial.room) × (sets l.initial.room 0 (numbers_from l.f (2 * l.n) 0) ≡ sets l.room l.j (numbers_from l.f (2 * l.n - l.j) l.j))
 
 abbrev pub decreases-loop-j : goal.decreases-loop-j
-decreases-loop-j l = 2 * l.initial.room - l.j
+decreases-loop-j l = 2 * l.n - l.j

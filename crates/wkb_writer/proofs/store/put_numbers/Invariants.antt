@@ -13,8 +13,8 @@ use Rattle.wkb_writer.proofs.store.put_numbers.Given as goal
 abbrev pub invariant-loop-j : goal.invariant-loop-j
 invariant-loop-j l =
     (l.j ≤ length l.xs)
-    × (length l.room ≡ length l.at)
-    × (sets l.at l.initial.room (numbers l.xs) ≡ sets l.room (l.initial.room + number_bytes * l.j) (numbers (drop l.j l.xs)))
+    × (length l.room ≡ length l.initial.room)
+    × (sets l.initial.room l.at (numbers l.xs) ≡ sets l.room (l.at + number_bytes * l.j) (numbers (drop l.j l.xs)))
 
 abbrev pub decreases-loop-j : goal.decreases-loop-j
 decreases-loop-j l = length l.xs - l.j
