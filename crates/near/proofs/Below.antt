@@ -1,6 +1,6 @@
 -- A number whose root is below a tolerance is not above the tolerance's square: in units of the smallest value the root's upper halfway point is not above the
 -- tolerance, so the number is not above the exact square, and rounding keeps that order. Assumes nothing.
-use Prim.Native.Nat.{ℕ, suc, zero_le, ◌+◌, ◌-◌, ◌*◌, ◌/◌, ◌%◌, ◌^◌, ◌≤◌, ◌<◌}
+use Prim.Native.Nat.{ℕ, suc, zero-le, ◌+◌, ◌-◌, ◌*◌, ◌/◌, ◌%◌, ◌^◌, ◌≤◌, ◌<◌}
 use native.Mathlib.Omega.{arith}
 use native.Mathlib.Numerals.{add-one}
 use native.Mathlib.Nat.{mul-le-mul, mul-le-mul_right, le_refl, mul_assoc, mul-one, mul-pos, zero-mul}
@@ -128,7 +128,7 @@ module _ (tol : Float) (G : T (fits binary64 tol)) (Q : T (positive tol)) where
       subst (λ (x : Float). T (le (fin false 0 (pos 0)) x))
       (sym (mul_at binary64 tol tol t unit t unit Q Q (pow_pos 1074) (pow_pos 1074) (value_is tol G Q) (value_is tol G Q)))
       (subst (λ (x : Float). T (le x (round binary64 false (t * t) (unit * unit)))) zero_rounds
-      (round_mono binary64 0 1 (t * t) (unit * unit) (pow_pos 0) (mul-pos (pow_pos 1074) (pow_pos 1074)) (rw zero-mul zero_le)))
+      (round_mono binary64 0 1 (t * t) (unit * unit) (pow_pos 0) (mul-pos (pow_pos 1074) (pow_pos 1074)) (rw zero-mul zero-le)))
     where
       zero_rounds : round binary64 false 0 1 ≡ fin false 0 (pos 0)
       zero_rounds = unfold round in refl

@@ -2,7 +2,7 @@
 use mathlib.Core.Path.{◌≡◌, refl, sym, ap, ◌∙◌}
 use mathlib.Core.Logic.{◌⊎◌, inl, inr}
 use mathlib.Core.Bool.{Bool, true, false, not}
-use Prim.Native.Nat.{ℕ, zero, suc, ◌*◌, ◌^◌, ◌≤◌, ◌<◌, zero_le}
+use Prim.Native.Nat.{ℕ, zero, suc, ◌*◌, ◌^◌, ◌≤◌, ◌<◌, zero-le}
 use native.Mathlib.Omega.{arith}
 use native.Mathlib.Nat.{le_of_lt, lt_of_not-le, not-le_of_lt, lt_of_le_of_lt, mul-le-mul, mul-le-mul_left}
 use native.Mathlib.Nat.{mul-lt-mul_of_pos_right, mul-mul-mul_comm, mul-pos, pow-succ'}
@@ -33,4 +33,4 @@ side_lt {r} {s} h = lt_of_not-le (λ (g : s ≤ r). not-le_of_lt h (mul-le-mul g
 
 pub square_lt : {r s : ℕ} → r < s → r * r < s * s
 square_lt {r} {s} h =
-    lt_of_le_of_lt (mul-le-mul_left r (le_of_lt h)) (mul-lt-mul_of_pos_right h (lt_of_le_of_lt zero_le h))
+    lt_of_le_of_lt (mul-le-mul_left r (le_of_lt h)) (mul-lt-mul_of_pos_right h (lt_of_le_of_lt zero-le h))

@@ -10,4 +10,4 @@ course_by-two-requires c = c.requires
 
 pub returns : goal.returns
 returns c =
-    both_sides _ _ _ c.args.best c.taken.result c.taken.result _ _ c.weigh-w1.ensures c.taken.ensures c.course_by-one.ensures c.weigh-w2.ensures c.taken.ensures c.course_by-two.ensures
+    both_sides _ _ _ c.args.best c.taken-first.result c.taken.result _ _ c.weigh-w1.ensures c.taken-first.ensures c.course_by-one.ensures c.weigh-w2.ensures c.taken.ensures c.course_by-two.ensures

@@ -7,8 +7,9 @@ use Rattle.reason_check.specs.Told.{ground}
 use Rattle.drawn_aside.specs.Found.{found_by, edge_first, least_from}
 use Rattle.clear_aside.proofs.Hows.{how_on, how_clear, how_enclosed, how_end, kept_clear, kept_edge, kept_enclosed}
 use Rattle.clear_aside.proofs.search_on.Goals as goal
+use Rattle.clear_aside.proofs.search_on.Goals.{In-loop-how}
 
-before_last : (c : goal.In-loop-how) → c.loop-how.how < 21
+before_last : (c : In-loop-how) → c.loop-how.how < 21
 before_last c = omega (arith, c.loop-how-test.true)
 
 pub loop-how-init : goal.loop-how-init

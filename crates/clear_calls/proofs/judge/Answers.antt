@@ -9,9 +9,10 @@ use Rattle.clear_calls.specs.Calls.{found_of, reason_of}
 use Rattle.clear_calls.proofs.Passed.{as_lent, still_lent}
 use Rattle.clear_calls.proofs.Written.{all_low, lowered, fits, handed_edge, handed_enclosed, handed_clear, handed_short}
 use Rattle.clear_calls.proofs.judge.Goals as goal
+use Rattle.clear_calls.proofs.judge.Goals.{After-search}
 
 -- what is found, of the move as it was lent
-found : (c : goal.After-search)
+found : (c : After-search)
     → (let s = c.args in
     ground c.search.result ≡ found_of s.stationary.now s.orbiting.now s.dx s.dy)
 found c =

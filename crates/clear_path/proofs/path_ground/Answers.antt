@@ -11,8 +11,9 @@ use Rattle.clear_path.specs.Path.{leg_found, first_leg}
 use Rattle.clear_path.specs.Lent.{LegsLent}
 use Rattle.clear_path.proofs.Placed.{ring_fits}
 use Rattle.clear_path.proofs.path_ground.Goals as goal
+use Rattle.clear_path.proofs.path_ground.Goals.{Start}
 
-fits : (s : goal.Start) → length s.args.stationary.now ≤ 512
+fits : (s : Start) → length s.args.stationary.now ≤ 512
 fits s = ring_fits s.args.stationary.now _ _ s.requires
 
 pub lift-requires : goal.lift-requires

@@ -4,4 +4,4 @@ use Rattle.collision.proofs.both.Goals as goal
 
 pub returns : goal.returns
 unfolding both_of
-returns c = rw (c.scan.ensures, c.scan.ensures, c.back-against.ensures)
+returns c = rw (c.scan.ensures, c.scan-best.ensures, c.back-against.ensures)

@@ -33,14 +33,14 @@ module _ (o d p q : Point) (tol : Float) {seg diff : Point} {den y : Float} {on 
 
 pub returns-then-is_small : goal.returns-then-is_small
 returns-then-is_small c =
-    parallel _ _ _ _ _ c.minus-seg.ensures c.cross.ensures c.minus-diff.ensures c.cross.ensures c.within_segment.ensures c.if-within_segment.true c.is_small.ensures
+    parallel _ _ _ _ _ c.minus-seg.ensures c.cross-den.ensures c.minus-diff.ensures c.cross.ensures c.within_segment.ensures c.if-within_segment.true c.is_small.ensures
     c.if-is_small.true
 
 pub returns-else-is_small : goal.returns-else-is_small
 returns-else-is_small c =
-    within _ _ _ _ _ c.minus-seg.ensures c.cross.ensures c.minus-diff.ensures c.cross.ensures c.within_segment.ensures c.if-within_segment.true c.is_small.ensures
+    within _ _ _ _ _ c.minus-seg.ensures c.cross-den.ensures c.minus-diff.ensures c.cross.ensures c.within_segment.ensures c.if-within_segment.true c.is_small.ensures
     c.if-is_small.false c.cross-then-within_segment.ensures c.in_front.ensures
 
 pub returns-else-within_segment : goal.returns-else-within_segment
 returns-else-within_segment c =
-    beside _ _ _ _ _ c.minus-seg.ensures c.cross.ensures c.minus-diff.ensures c.cross.ensures c.within_segment.ensures c.if-within_segment.false
+    beside _ _ _ _ _ c.minus-seg.ensures c.cross-den.ensures c.minus-diff.ensures c.cross.ensures c.within_segment.ensures c.if-within_segment.false

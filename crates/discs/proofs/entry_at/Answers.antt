@@ -5,9 +5,10 @@ use native.Mathlib.Nat.{mod-lt}
 use Rattle.discs.specs.Disc.{entry_at}
 use Rattle.discs.proofs.Turned.{entry_narrow, place_most, quarter_below}
 use Rattle.discs.proofs.entry_at.Goals as goal
+use Rattle.discs.proofs.entry_at.Goals.{Start}
 
 -- the vertex within its quarter
-within : (c : goal.Start) → c.args.i % c.args.m < c.args.m
+within : (c : Start) → c.args.i % c.args.m < c.args.m
 within c = mod-lt c.args.i (omega arith)
 
 pub overflow_mul-i : goal.overflow_mul-i

@@ -32,4 +32,4 @@ pub returns : goal.returns
 unfolding turned_by
 returns c =
     let q : c.args.q ≡ 3 = omega (arith, c.if-q-eq2.false, c.if-q-eq1.false, c.if-q-eq0.false, c.requires.0) in
-    rw (q, c.quarter_turn.ensures, c.quarter_turn-twice.ensures, c.quarter_turn.ensures)
+    rw (q, c.quarter_turn.ensures, c.quarter_turn-twice.ensures, c.quarter_turn-once.ensures)

@@ -14,9 +14,10 @@ use Rattle.to_grid.specs.Grid.{fits_grid}
 use Rattle.drawn_rows.specs.Rows.{grid_of}
 use Rattle.drawn_rows.proofs.Placed.{placed_is}
 use Rattle.drawn_rows.proofs.is_placed.Goals as goal
+use Rattle.drawn_rows.proofs.is_placed.Goals.{After-are_moved_within}
 
 -- the test of the point i
-is : (c : goal.After-are_moved_within)
+is : (c : After-are_moved_within)
     → (c.are_moved_within.result
     ≡ is_placed (grid_of c.args.units c.args.orbiting.now) (grid_of c.args.units c.args.path.now) c.loop-i.i)
 is c =

@@ -7,9 +7,10 @@ use Rattle.to_grid.proofs.Screened.{units_are}
 use Rattle.drawn_rows.specs.Rows.{wrong_floats}
 use Rattle.drawn_rows.proofs.Screened.{number_wrong, units_wrong, how_wrong, grid_left}
 use Rattle.drawn_rows.proofs.reason_numbers.Goals as goal
+use Rattle.drawn_rows.proofs.reason_numbers.Goals.{After-first-no}
 
 -- 2 of the floats and of the lines
-no : (c : goal.After-first-no)
+no : (c : After-first-no)
     → (c.first-no.result
     ≡ first (wrong_floats c.args.stationary.now c.args.orbiting.now c.args.path.now)
     (wrong_whole c.args.lines.now))

@@ -5,8 +5,9 @@ use lib.Ieee.{binary64, fits}
 use mathlib.Core.Path.{refl, sym, subst}
 use lib.Dec.{T}
 use Rattle.frames.proofs.is_past.Goals as goal
+use Rattle.frames.proofs.is_past.Goals.{Start}
 
-held : (c : goal.Start) → T (fits binary64 c.args.a)
+held : (c : Start) → T (fits binary64 c.args.a)
 held c = subst T (sym c.well_formed.1.0.1) tt
 
 pub returns-then-g-far : goal.returns-then-g-far

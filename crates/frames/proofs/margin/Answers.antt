@@ -5,8 +5,9 @@ use lib.Ieee.{binary64, fits, div, of_bits}
 use mathlib.Core.Path.{refl, sym, subst}
 use lib.Dec.{T}
 use Rattle.frames.proofs.margin.Goals as goal
+use Rattle.frames.proofs.margin.Goals.{Start}
 
-held : (c : goal.Start) → T (fits binary64 c.args.tol)
+held : (c : Start) → T (fits binary64 c.args.tol)
 held c = subst T (sym c.well_formed.0.1) tt
 
 pub returns-then-is_wide : goal.returns-then-is_wide

@@ -35,4 +35,4 @@ scan-requires c =
 pub returns : goal.returns
 unfolding both_noted
 returns c =
-    rw (c.scan.ensures, c.scan.ensures, c.no_tally.ensures, c.back-against.ensures)
+    rw (c.scan.ensures, c.scan-tally.ensures, c.no_tally.ensures, c.back-against.ensures)

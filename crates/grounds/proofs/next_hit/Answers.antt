@@ -5,8 +5,9 @@ use Rattle.collision.specs.Chained.{MissesTo, Ready}
 use Rattle.collision.proofs.Passed.{chain_passed}
 use Rattle.grounds.proofs.Missed.{none_missed, more_missed}
 use Rattle.grounds.proofs.next_hit.Goals as goal
+use Rattle.grounds.proofs.next_hit.Goals.{At-loop-e}
 
-ready : (c : goal.At-loop-e) →
+ready : (c : At-loop-e) →
     Ready c.args.table.now c.args.edges.now c.args.sweep
 ready c = c.requires.ready (omega arith)
 

@@ -8,9 +8,10 @@ use Rattle.grounds.proofs.Counts.{missed}
 use Rattle.grounds.proofs.Noted.{kept_new, kept_best, fields}
 use Rattle.grounds.proofs.Passed.{Sofar, from_none, next_pair, next_vertex, all_pairs, small, fewer}
 use Rattle.grounds.proofs.scan_by.Goals as goal
+use Rattle.grounds.proofs.scan_by.Goals.{At-loop-v}
 
 -- no count is near its bound
-most : (c : goal.At-loop-v) →
+most : (c : At-loop-v) →
     let l = c.loop-v in
     AtMost (record { best = l.best; others = l.others; near = l.near; between = l.between; far = l.far }) (2 * pairs_most)
 most c =

@@ -10,4 +10,4 @@ use Rattle.lines.proofs.put_number.Goals as goal
 
 pub returns : goal.returns
 returns c =
-    then c.put_text.ensures (then c.put_decimal-end.ensures.0 c.put_text.ensures)
+    then c.put_text-at.ensures (then c.put_decimal-end.ensures.0 c.put_text.ensures)

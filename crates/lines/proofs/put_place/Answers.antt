@@ -13,5 +13,5 @@ use Rattle.lines.proofs.put_place.Goals as goal
 
 pub returns : goal.returns
 returns c =
-    then c.put_text.ensures
+    then c.put_text-at.ensures
     (then c.put_decimal-blank.ensures.0 (then c.put_text-next.ensures (then c.put_decimal-end.ensures.0 c.put_text.ensures)))

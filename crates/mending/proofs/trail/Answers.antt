@@ -8,11 +8,11 @@ loop-end-init c = start _ c.requires
 
 pub loop-end-preserved : goal.loop-end-preserved
 loop-end-preserved c =
-    back _ c.loop-end-test.true c.loop-end.invariant (rw (← c.point_at.ensures, ← c.point_at.ensures, ← c.same.ensures) c.if-same.true)
+    back _ c.loop-end-test.true c.loop-end.invariant (rw (← c.point_at-first.ensures, ← c.point_at.ensures, ← c.same.ensures) c.if-same.true)
 
 pub returns-else-same : goal.returns-else-same
 returns-else-same c =
-    stopped _ c.loop-end-test.true c.loop-end.invariant (rw (← c.point_at.ensures, ← c.point_at.ensures, ← c.same.ensures) c.if-same.false)
+    stopped _ c.loop-end-test.true c.loop-end.invariant (rw (← c.point_at-first.ensures, ← c.point_at.ensures, ← c.same.ensures) c.if-same.false)
 
 pub returns : goal.returns
 returns c = done _ c.loop-end-test.false c.loop-end.invariant

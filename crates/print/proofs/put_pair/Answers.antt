@@ -11,5 +11,5 @@ use Rattle.print.proofs.put_pair.Goals as goal
 
 pub returns : goal.returns
 returns c =
-    let p = then c.put_hex-space.ensures.0 (then c.put_text.ensures (then c.put_hex-end.ensures.0 c.put_text.ensures)) in
-    (p, (omega (arith, c.put_hex-space.ensures.1, c.put_text.ensures.ends, c.put_hex-end.ensures.1, c.put_text.ensures.ends)))
+    let p = then c.put_hex-space.ensures.0 (then c.put_text-second.ensures (then c.put_hex-end.ensures.0 c.put_text.ensures)) in
+    (p, (omega (arith, c.put_hex-space.ensures.1, c.put_text-second.ensures.ends, c.put_hex-end.ensures.1, c.put_text.ensures.ends)))

@@ -10,9 +10,10 @@ use Rattle.reading.specs.Reading.{ord, flat, less, earlier, choice}
 use Rattle.reading.specs.Lent.{ring_of}
 use Rattle.reading.proofs.Places.{length_choice, left_lower, left_higher, left_equal, left_none}
 use Rattle.reading.proofs.before.Goals as goal
+use Rattle.reading.proofs.before.Goals.{After-key_at-v}
 
 -- the two readings, whose coordinates j the keys are of
-module _ (c : goal.After-key_at-v) where
+module _ (c : After-key_at-v) where
 
 
   abbrev xs : List Float

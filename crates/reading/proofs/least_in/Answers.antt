@@ -14,9 +14,10 @@ use Rattle.reading.specs.Starts.{along, Settled}
 use Rattle.reading.proofs.Places.{length_ringOf}
 use Rattle.reading.proofs.Ways.{on_low, back_low, number_within, all_back, all_on}
 use Rattle.reading.proofs.least_in.Goals as goal
+use Rattle.reading.proofs.least_in.Goals.{After-settle-back}
 
 -- both directions are settled
-module _ (c : goal.After-settle-back) where
+module _ (c : After-settle-back) where
   abbrev s : tie.Start
   s = c.before.before.before.before.before.before.before.before.before.before
 

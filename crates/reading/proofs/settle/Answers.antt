@@ -18,9 +18,10 @@ use Rattle.reading.proofs.Pushing.{Open, open_start, settled_same, settled_past}
 use Rattle.reading.proofs.Step.{Stepped, step}
 use Rattle.reading.proofs.Ways.{round, read_at, start_low}
 use Rattle.reading.proofs.settle.Goals as goal
+use Rattle.reading.proofs.settle.Goals.{After-pushed-s, At-loop-s, Else-s-ring}
 
 -- at the loop's test: the ring, its direction and the two starts
-module _ (l : goal.At-loop-s) where
+module _ (l : At-loop-s) where
 
   abbrev xs : List Float
   xs = l.args.ring.now
@@ -54,7 +55,7 @@ module _ (l : goal.At-loop-s) where
       (omega (arith, h, half))
 
 -- ---- a turn
-module _ (e : goal.Else-s-ring) where
+module _ (e : Else-s-ring) where
 
   first_low : (s e.before.before.before.before).first < length (r e.before.before.before.before)
   first_low = omega (arith, half e.before.before.before.before, e.loop-s-test.taken, e.loop-s.inv.order)
@@ -72,7 +73,7 @@ module _ (e : goal.Else-s-ring) where
   by_half u = ap (λ (n : ℕ). number_of n (b e.before.before.before.before) u) (half e.before.before.before.before)
 
 -- what the turn comes to
-module _ (c : goal.After-pushed-s) where
+module _ (c : After-pushed-s) where
 
   abbrev g : ℕ → ℕ
   g = along (r (l c.before.before.before.before.before)) (b (l c.before.before.before.before.before))

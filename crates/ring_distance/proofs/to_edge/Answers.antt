@@ -6,4 +6,4 @@ squared-requires c = c.dot.ensures
 
 pub returns : goal.returns
 returns c =
-    rw (c.nearer.ensures, c.squared.ensures, c.minus.ensures, c.minus.ensures)
+    rw (c.nearer.ensures, c.squared.ensures, c.minus.ensures, c.minus-d.ensures)

@@ -4,9 +4,10 @@ use mathlib.Core.Bool.{◌||◌}
 use Rattle.plane.specs.Orientation.{turn_number}
 use Rattle.segments.specs.Segments.{crosses_of, touches_of, intersect_of}
 use Rattle.segments.proofs.segments_intersect.Goals as goal
+use Rattle.segments.proofs.segments_intersect.Goals.{After-orientation-d4}
 
 -- what is asked, by the four turns that the code worked out
-turns : (c : goal.After-orientation-d4)
+turns : (c : After-orientation-d4)
     → (let d1 = turn_number c.orientation-d1.result in
     let d2 = turn_number c.orientation-d2.result in
     let d3 = turn_number c.orientation-d3.result in

@@ -5,8 +5,9 @@ use mir.Val.{to_z, of_z}
 use mir.ValLaws.{to_z-of_z}
 use Rattle.shifted.proofs.Laws.{too_low, not_low}
 use Rattle.shifted.proofs.is_within.Goals as goal
+use Rattle.shifted.proofs.is_within.Goals.{Start}
 
-plain : (c : goal.Start) → to_z w32 (of_z w32 c.args.x) ≡ c.args.x
+plain : (c : Start) → to_z w32 (of_z w32 c.args.x) ≡ c.args.x
 plain c = to_z-of_z w32 c.args.x c.ranges.x
 
 pub returns-then-x-ltminus1000000 : goal.returns-then-x-ltminus1000000

@@ -10,16 +10,17 @@ use mir.ValLaws.{to_z-of_z}
 use Rattle.shifted.specs.Shifted.{up_of}
 use Rattle.shifted.proofs.Laws.{low, high, sum, bound}
 use Rattle.shifted.proofs.up.Goals as goal
+use Rattle.shifted.proofs.up.Goals.{Else-x-gt1000000, Start}
 
-plain : (c : goal.Start) → to_z w32 (of_z w32 c.args.x) ≡ c.args.x
+plain : (c : Start) → to_z w32 (of_z w32 c.args.x) ≡ c.args.x
 plain c = to_z-of_z w32 c.args.x c.ranges.x
 
 -- the sum, as the machine has it
-summed : (c : goal.Else-x-gt1000000) → to_z w32 (of_z w32 c.args.x) +ℤ pos 1000000 ≡ pos (up_of c.args.x)
+summed : (c : Else-x-gt1000000) → to_z w32 (of_z w32 c.args.x) +ℤ pos 1000000 ≡ pos (up_of c.args.x)
 summed c = ap (λ z. z +ℤ pos 1000000) (plain c.before.before)
     ∙ sum _ (rw (plain c.before.before) at c.if-x-ltminus1000000.false) (rw (plain c.before.before) at c.if-x-gt1000000.false)
 
-back : (c : goal.Else-x-gt1000000) → to_z w32 (of_z w32 (to_z w32 (of_z w32 c.args.x) +ℤ pos 1000000)) ≡ pos (up_of c.args.x)
+back : (c : Else-x-gt1000000) → to_z w32 (of_z w32 (to_z w32 (of_z w32 c.args.x) +ℤ pos 1000000)) ≡ pos (up_of c.args.x)
 back c = to_z-of_z w32 _ (add-result c) ∙ summed c
 
 )

@@ -4,9 +4,10 @@ use Prim.Native.Nat.{◌+◌, ◌-◌, ◌≤◌}
 use lib.ListN.{length, length-set}
 use Rattle.simplify.proofs.Survive.{Gathering, start, room_left, put, skip, done}
 use Rattle.simplify.proofs.gather.Goals as goal
+use Rattle.simplify.proofs.gather.Goals.{Then-stays}
 
 -- there is room for a point that stays
-free : (c : goal.Then-stays) → c.loop-i.k + 2 ≤ length c.loop-i.room
+free : (c : Then-stays) → c.loop-i.k + 2 ≤ length c.loop-i.room
 free c =
     room_left _ _ c.loop-i.invariant c.loop-i-test.true c.stays.ensures c.if-stays.true c.requires
 

@@ -6,6 +6,7 @@ use native.Mathlib.Omega.{arith}
 use lib.Bits.{bit_and, and_mask}
 use Rattle.square_root.proofs.Join.{Pattern, Joined, joined}
 use Rattle.square_root.proofs.assembled.Goals as goal
+use Rattle.square_root.proofs.assembled.Goals.{After-digits-r, Start}
 
 -- what the shift by d, 0 or 1, makes of m
 record Shifted (m d n : ℕ) : Type 0 where
@@ -19,13 +20,13 @@ shifted m (suc zero) lo hi b = record { is = omega arith; long = omega arith; sh
 shifted m (suc (suc d)) lo hi b = absurd (omega arith)
 
 -- the mask is t's last digit
-form : (c : goal.Start) →
+form : (c : Start) →
     let m = c.args.m in
     let d = c.args.t % 2 in
     Shifted m d (m * 2 ^ bit_and c.args.t 1 % 2 ^ 64)
 form c = rw (and_mask c.args.t 1) (shifted _ _ c.requires.long c.requires.short (omega arith))
 
-digits_joined : (c : goal.After-digits-r) → Joined c.args.m c.args.t c.digits-r.result
+digits_joined : (c : After-digits-r) → Joined c.args.m c.args.t c.digits-r.result
 digits_joined c =
     joined _ c.args.t _ c.requires (rw (form c.before).is at c.digits-r.ensures)
 

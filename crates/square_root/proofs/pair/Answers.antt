@@ -26,6 +26,6 @@ returns c =
     (omega arith, omega arith)
     (omega arith, omega arith)
     (omega arith, eleven _ _ c.requires.0 c.requires.1)
-    c.further.ensures
+    c.further-first.ensures
     c.further-second.ensures
     c.further.ensures

@@ -10,6 +10,7 @@ use Rattle.square_root.specs.Root.{rooted}
 use Rattle.square_root.proofs.Patterns.{sqrt_at}
 use Rattle.square_root.proofs.Normal.{zeros, low_digits, low_same, high_same}
 use Rattle.square_root.proofs.pattern.Goals as goal
+use Rattle.square_root.proofs.pattern.Goals.{Else-b-lt4503599627370496}
 
 -- the mask keeps the low field
 masked : (b : ℕ) →
@@ -17,7 +18,7 @@ masked : (b : ℕ) →
     (bit_and b (2 ^ 52 - 1) + 2 ^ 52) * 2 ^ t ≡ (b % 2 ^ 52 + 2 ^ 52) * 2 ^ t
 masked b = ap (λ (x : ℕ). (x + 2 ^ 52) * 2 ^ (b / 2 ^ 52 + 1073)) (and_mask b 52)
 
-low_fields : (c : goal.Else-b-lt4503599627370496) → bit_and c.args.b (2 ^ 52 - 1) ≡ c.args.b % 2 ^ 52
+low_fields : (c : Else-b-lt4503599627370496) → bit_and c.args.b (2 ^ 52 - 1) ≡ c.args.b % 2 ^ 52
 low_fields c = and_mask c.args.b 52
 
 pub overflow_cast-z : goal.overflow_cast-z

@@ -12,12 +12,13 @@ use Rattle.square_root.proofs.Compare.{above_zero, above_no_nan, root_of_infinit
 use Rattle.square_root.proofs.Above.{above_pos, above_top}
 use Rattle.square_root.proofs.Order.{root_is}
 use Rattle.square_root.proofs.sqrt.Goals as goal
+use Rattle.square_root.proofs.sqrt.Goals.{Start, Then-x}
 
 -- what owning an `f64` tells: the format holds it
-held : (c : goal.Start) → T (fits binary64 c.args.x)
+held : (c : Start) → T (fits binary64 c.args.x)
 held c = subst T (sym c.well_formed.0.1) tt
 
-over : (c : goal.Then-x) → T (above c.args.x)
+over : (c : Then-x) → T (above c.args.x)
 over c = above_zero _ c.if-x.true
 
 pub float_to_bits-b : goal.float_to_bits-b

@@ -4,9 +4,10 @@ use lib.Dec.{T}
 use lib.Ieee.{binary64, fits}
 use Rattle.to_grid.proofs.Million.{within_exactly}
 use Rattle.to_grid.proofs.is_within.Goals as goal
+use Rattle.to_grid.proofs.is_within.Goals.{Start}
 
 -- what owning an `f64` tells: the format holds it
-held : (c : goal.Start) → T (fits binary64 c.args.x)
+held : (c : Start) → T (fits binary64 c.args.x)
 held c = subst T (sym c.well_formed.0.1) tt
 
 pub returns-then-x-most : goal.returns-then-x-most

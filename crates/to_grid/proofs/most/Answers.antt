@@ -10,13 +10,14 @@ use Rattle.square_root.proofs.Patterns.{no_nan}
 use Rattle.to_grid.proofs.Million.{first_digits, left_over, more_digits, digits_by, pattern_by, zeros, first_moved, left_moved}
 use Rattle.to_grid.proofs.Million.{digits_most, pattern_most, most_by}
 use Rattle.to_grid.proofs.most.Goals as goal
+use Rattle.to_grid.proofs.most.Goals.{Start}
 
-zero : (c : goal.Start)
+zero : (c : Start)
     → (11 < count_leading_zeros 64 (first_digits c.args.units)) × (count_leading_zeros 64 (first_digits c.args.units) ≤ 31)
 zero c = zeros c.args.units c.requires.0 c.requires.1
 
 -- no digit is lost at the top of a word
-whole : (c : goal.Start)
+whole : (c : Start)
     → first_digits c.args.units * 2 ^ more_digits c.args.units % 2 ^ 64
     + (left_over c.args.units * 2 ^ more_digits c.args.units % 2 ^ 64) / c.args.units
     ≡ digits_by c.args.units

@@ -9,12 +9,13 @@ use mir.ValLaws.{to_z_pos, to_z-of_z}
 use Rattle.refusals.proofs.Coordinate.{coordinate_number}
 use Rattle.to_grid.proofs.Sized.{fits_coordinate, nearest_small, pattern_small, plus, minus, on_grid, taken_off, off_fits}
 use Rattle.to_grid.proofs.on_grid.Goals as goal
+use Rattle.to_grid.proofs.on_grid.Goals.{After-steps-size, Start}
 
 -- what owning an `f64` tells: the format holds it
-held : (c : goal.Start) → T (fits binary64 c.args.x)
+held : (c : Start) → T (fits binary64 c.args.x)
 held c = subst T (sym c.well_formed.0.1) tt
 
-small : (c : goal.After-steps-size) → c.steps-size.result ≤ 1000000
+small : (c : After-steps-size) → c.steps-size.result ≤ 1000000
 small c = rw c.steps-size.ensures.0 (nearest_small _ _ (held c.before) c.requires.0)
 
 pub float_to_bits-b : goal.float_to_bits-b

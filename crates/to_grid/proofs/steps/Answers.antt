@@ -6,9 +6,10 @@ use mathlib.Core.Logic.{inl, inr}
 use Rattle.square_root.proofs.Numbers.{lt_or_le}
 use Rattle.to_grid.proofs.Digits.{digits_of, cut_small, steps_is}
 use Rattle.to_grid.proofs.steps.Goals as goal
+use Rattle.to_grid.proofs.steps.Goals.{After-places}
 
 -- what is left of the halves
-small : (c : goal.After-places) → c.halves.result / 2 ^ c.places.result < 2 ^ 41
+small : (c : After-places) → c.halves.result / 2 ^ c.places.result < 2 ^ 41
 small c = rw c.halves.ensures (cut_small (digits_of c.args.b) _ (omega arith) c.requires.1 _)
 
 pub halves-requires : goal.halves-requires

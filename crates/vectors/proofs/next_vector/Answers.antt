@@ -4,9 +4,10 @@ use Rattle.pairs.proofs.Numbers.{most}
 use Rattle.contacts.proofs.Following.{FoundAt, next_at, next_none}
 use Rattle.vectors.proofs.Steps.{first_step, second_step, no_step, second_below}
 use Rattle.vectors.proofs.next_vector.Goals as goal
+use Rattle.vectors.proofs.next_vector.Goals.{In-At}
 
 -- the contact found
-at : (c : goal.In-At) → FoundAt c.args.stationary.now c.args.orbiting.now c.args.tol c.args.place.contact c.in-At.k
+at : (c : In-At) → FoundAt c.args.stationary.now c.args.orbiting.now c.args.tol c.args.place.contact c.in-At.k
 at c = next_at _ _ _ c.next_contact.ensures c.in-At.is
 
 pub next_contact-requires : goal.next_contact-requires

@@ -9,13 +9,14 @@ use Rattle.shifted.specs.Shifted.{spot_at, Small}
 use Rattle.whole_engine.proofs.Sums.{Sums, start, term_most, turn, done}
 use Rattle.whole_engine.proofs.Within.{small_at}
 use Rattle.whole_engine.proofs.area2.Goals as goal
+use Rattle.whole_engine.proofs.area2.Goals.{After-spot_at-q}
 
 -- both points are small
-small1 : (c : goal.After-spot_at-q) → Small c.spot_at-p.result
+small1 : (c : After-spot_at-q) → Small c.spot_at-p.result
 small1 c =
     small_at c.args.list.now c.requires.1 _ c.loop-i-test.true c.spot_at-p.ensures
 
-small2 : (c : goal.After-spot_at-q) → Small c.spot_at-q.result
+small2 : (c : After-spot_at-q) → Small c.spot_at-q.result
 small2 c =
     small_at c.args.list.now c.requires.1 _ c.next.ensures.1 c.spot_at-q.ensures
 

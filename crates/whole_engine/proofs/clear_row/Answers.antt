@@ -8,17 +8,18 @@ use Rattle.shifted.specs.Shifted.{spot_at, Small}
 use Rattle.whole_engine.proofs.Edges.{Row, first_edge, next_edge, edge_off, no_more}
 use Rattle.whole_engine.proofs.Within.{small_at}
 use Rattle.whole_engine.proofs.clear_row.Goals as goal
+use Rattle.whole_engine.proofs.clear_row.Goals.{After-spot_at-a2, After-spot_at-b2}
 
 -- the spots of the row are small
-small1 : (c : goal.After-spot_at-a2) → Small c.spot_at-a1.result
+small1 : (c : After-spot_at-a2) → Small c.spot_at-a1.result
 small1 c =
     small_at c.args.list.now c.requires.1 _ c.requires.0 c.spot_at-a1.ensures
 
-small2 : (c : goal.After-spot_at-a2) → Small c.spot_at-a2.result
+small2 : (c : After-spot_at-a2) → Small c.spot_at-a2.result
 small2 c =
     small_at c.args.list.now c.requires.1 _ c.next.ensures.1 c.spot_at-a2.ensures
 
-small3 : (c : goal.After-spot_at-b2) → Small c.spot_at-b2.result
+small3 : (c : After-spot_at-b2) → Small c.spot_at-b2.result
 small3 c =
     small_at c.args.list.now c.requires.1 _ c.next-in-loop-j.ensures.1 c.spot_at-b2.ensures
 

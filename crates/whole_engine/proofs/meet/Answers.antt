@@ -6,9 +6,10 @@ use Rattle.segments.specs.Segments.{crosses_of}
 use Rattle.whole_rules.specs.Segments.{whole_touches, whole_intersect}
 use Rattle.whole_engine.proofs.Meeting.{by_turns}
 use Rattle.whole_engine.proofs.meet.Goals as goal
+use Rattle.whole_engine.proofs.meet.Goals.{After-turn-d2}
 
 -- what is asked, by the turns at hand
-turns : (c : goal.After-turn-d2)
+turns : (c : After-turn-d2)
     → (let d1 = turn_number c.turn-d1.result in
     let d2 = turn_number c.turn-d2.result in
     let a = c.args in

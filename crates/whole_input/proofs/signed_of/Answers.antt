@@ -3,9 +3,10 @@ use Rattle.std.proofs.Common.{◌≡◌, ◌-◌, pos, negsuc, ◌-ℤ◌, sym, 
 use mir.ValLaws.{to_z-of_z}
 use Rattle.whole_input.proofs.Signs.{low_half, high_half, from_last}
 use Rattle.whole_input.proofs.signed_of.Goals as goal
+use Rattle.whole_input.proofs.signed_of.Goals.{Else-w-lt2147483648}
 
 -- what is left, as the machine has it
-left : (c : goal.Else-w-lt2147483648) → negsuc 0 -ℤ to_z w32 (4294967295 - c.args.w) ≡ negsuc (4294967295 - c.args.w)
+left : (c : Else-w-lt2147483648) → negsuc 0 -ℤ to_z w32 (4294967295 - c.args.w) ≡ negsuc (4294967295 - c.args.w)
 left c =
     let k = 4294967295 - c.args.w in
     ap (λ z. negsuc 0 -ℤ z) (to_z-of_z w32 (pos k) (cast-result-2 c)) ∙ from_last k

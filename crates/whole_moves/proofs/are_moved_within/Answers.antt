@@ -12,9 +12,10 @@ use lib.IntN.{ℤ, pos, ◌+ℤ◌}
 use Rattle.shifted.specs.Shifted.{in_bounds}
 use Rattle.whole_moves.proofs.Turns.{Rest, rest_start, rest_off, rest_turn, rest_end}
 use Rattle.whole_moves.proofs.are_moved_within.Goals as goal
+use Rattle.whole_moves.proofs.are_moved_within.Goals.{After-is_moved_within}
 
 -- the test of number i
-is : (c : goal.After-is_moved_within)
+is : (c : After-is_moved_within)
     → (c.is_moved_within.result ≡ in_bounds (get_or c.args.list.now c.loop-i.i (pos 0) +ℤ to_z w32 c.loop-i.d))
 is c =
     let z = get_or c.args.list.now c.loop-i.i (pos 0) in

@@ -6,8 +6,9 @@ use mir.Val.{to_z, of_z}
 use Rattle.shifted.proofs.Laws.{too_low, not_low}
 use Rattle.whole_moves.proofs.Sums.{stands}
 use Rattle.whole_moves.proofs.is_moved_within.Goals as goal
+use Rattle.whole_moves.proofs.is_moved_within.Goals.{After-moved-s}
 
-plain : (c : goal.After-moved-s) → to_z w64 (of_z w64 c.moved-s.result) ≡ c.args.z +ℤ c.args.d
+plain : (c : After-moved-s) → to_z w64 (of_z w64 c.moved-s.result) ≡ c.args.z +ℤ c.args.d
 plain c = stands c.ranges.z c.ranges.d c.moved-s.ensures
 
 pub returns-then-s-ltminus1000000 : goal.returns-then-s-ltminus1000000

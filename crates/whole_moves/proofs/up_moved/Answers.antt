@@ -11,22 +11,23 @@ use Rattle.shifted.specs.Shifted.{up_of}
 use Rattle.shifted.proofs.Laws.{low, high, sum, bound}
 use Rattle.whole_moves.proofs.Sums.{stands}
 use Rattle.whole_moves.proofs.up_moved.Goals as goal
+use Rattle.whole_moves.proofs.up_moved.Goals.{After-moved-s, Else-s-gt1000000}
 
-plain : (c : goal.After-moved-s) → to_z w64 (of_z w64 c.moved-s.result) ≡ c.args.z +ℤ c.args.d
+plain : (c : After-moved-s) → to_z w64 (of_z w64 c.moved-s.result) ≡ c.args.z +ℤ c.args.d
 plain c = stands c.ranges.z c.ranges.d c.moved-s.ensures
 
 -- what is asked for
-asked : (c : goal.Else-s-gt1000000) → ℤ
+asked : (c : Else-s-gt1000000) → ℤ
 asked c = c.args.z +ℤ c.args.d
 
 -- the sum, as the machine has it
-summed : (c : goal.Else-s-gt1000000) → to_z w64 (of_z w64 c.moved-s.result) +ℤ pos 1000000 ≡ pos (up_of (asked c))
+summed : (c : Else-s-gt1000000) → to_z w64 (of_z w64 c.moved-s.result) +ℤ pos 1000000 ≡ pos (up_of (asked c))
 unfolding asked
 summed c =
     let p = plain c.before.before in
     ap (λ (z : ℤ). z +ℤ pos 1000000) p ∙ sum _ (rw p at c.if-s-ltminus1000000.false) (rw p at c.if-s-gt1000000.false)
 
-back : (c : goal.Else-s-gt1000000)
+back : (c : Else-s-gt1000000)
     → to_z w64 (of_z w64 (to_z w64 (of_z w64 c.moved-s.result) +ℤ pos 1000000)) ≡ pos (up_of (asked c))
 back c = to_z-of_z w64 _ (add-result c) ∙ summed c
 

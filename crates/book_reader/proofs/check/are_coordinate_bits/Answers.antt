@@ -9,8 +9,9 @@ use Rattle.refusals.specs.Bounds.{coordinate}
 use Rattle.refusals.proofs.Coordinate.{coordinate_number}
 use Rattle.book_reader.proofs.Fields.{no_coordinate, as_kept, too_high, not_high}
 use Rattle.book_reader.proofs.check.are_coordinate_bits.Goals as goal
+use Rattle.book_reader.proofs.check.are_coordinate_bits.Goals.{Else-not-is_coordinate}
 
-held : (c : goal.Else-not-is_coordinate) → coordinate (of_bits binary64 c.args.b) ≡ true
+held : (c : Else-not-is_coordinate) → coordinate (of_bits binary64 c.args.b) ≡ true
 held c = sym c.is_coordinate.ensures ∙ not-false c.is_coordinate.result c.if-not-is_coordinate.false
 
 pub returns-then-b-gt9218868437227405312 : goal.returns-then-b-gt9218868437227405312

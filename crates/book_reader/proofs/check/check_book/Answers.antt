@@ -12,17 +12,18 @@ use Rattle.book_layout.specs.Faults.{coords_check, least_check, book_check}
 use Rattle.book_reader.specs.Parts.{tail_check, list_check}
 use Rattle.book_reader.proofs.Files.{Tail, tail_passed, after_tail, after_list, book_is}
 use Rattle.book_reader.proofs.check.check_book.Goals as goal
+use Rattle.book_reader.proofs.check.check_book.Goals.{After-check_coords-coords, After-check_entries-list, After-ring_count-k, Else-not-passed, Else-not-passed-2}
 
 abbrev file : tie.Else1 → List ℕ
 file c = c.before.before.before.before.args.f.now
 
 -- the last fields are right
-tail : (c : goal.Else-not-passed) → Tail (file c)
+tail : (c : Else-not-passed) → Tail (file c)
 tail c =
     tail_passed c.args.f.now (ap passed (sym c.check_tail-tail.ensures) ∙ sym c.passed.ensures ∙ not-false c.passed.result c.if-not-passed.false)
 
 -- the two numbers that it goes on with
-module _ (c : goal.After-ring_count-k) where
+module _ (c : After-ring_count-k) where
 
   abbrev f : List ℕ
   f = file c.before.before
@@ -39,20 +40,20 @@ module _ (c : goal.After-ring_count-k) where
   is_k : k ≡ ring_count f
   is_k = c.ring_count-k.ensures.0
 
-listed : (c : goal.After-check_entries-list) → c.check_entries-list.result ≡ list_check (f c.before) (entry_offset (f c.before)) (ring_count (f c.before))
+listed : (c : After-check_entries-list) → c.check_entries-list.result ≡ list_check (f c.before) (entry_offset (f c.before)) (ring_count (f c.before))
 listed c = c.check_entries-list.ensures ∙ ap₂ (list_check (f c.before)) (is_from c.before) (is_k c.before)
 
 -- past the last fields: what the other parts find
-past_tail : (c : goal.Else-not-passed) → book_check (file c) ≡ after_tail (file c)
+past_tail : (c : Else-not-passed) → book_check (file c) ≡ after_tail (file c)
 past_tail c =
     book_is (file c) ∙ on (tail_check (file c)) (after_tail (file c)) c.check_tail-tail.ensures c.passed.ensures (not-false c.passed.result c.if-not-passed.false)
 
-coords_checked : (c : goal.After-check_coords-coords) → c.check_coords-coords.result ≡ coords_check (entry_offset (f c.before.before.before.before) / coordinate_bytes) 0 (f c.before.before.before.before)
+coords_checked : (c : After-check_coords-coords) → c.check_coords-coords.result ≡ coords_check (entry_offset (f c.before.before.before.before) / coordinate_bytes) 0 (f c.before.before.before.before)
 coords_checked c =
     c.check_coords-coords.ensures ∙ ap (λ (e : ℕ). coords_check (e / coordinate_bytes) 0 (f c.before.before.before.before)) (is_from c.before.before.before.before)
 
 -- past the entries
-past_list : (c : goal.Else-not-passed-2) → book_check (f c.before.before.before) ≡ after_list (f c.before.before.before)
+past_list : (c : Else-not-passed-2) → book_check (f c.before.before.before) ≡ after_list (f c.before.before.before)
 past_list c =
     past_tail (one c.before.before.before)
     ∙ on (list_check (f c.before.before.before) (entry_offset (f c.before.before.before)) (ring_count (f c.before.before.before))) (after_list (f c.before.before.before)) (listed c.before.before) c.passed-2.ensures (not-false c.passed-2.result c.if-not-passed-2.false)

@@ -9,12 +9,13 @@ use Rattle.book_layout.specs.Layout.{coordinate_bytes, coordinate_bits}
 use Rattle.book_layout.specs.Faults.{fault_at, coords_check}
 use Rattle.book_reader.proofs.Coords.{coords_start, coord_good, coord_bad, coords_end}
 use Rattle.book_reader.proofs.check.check_coords.Goals as goal
+use Rattle.book_reader.proofs.check.check_coords.Goals.{After-are_coordinate_bits}
 
 -- where the coordinate lies, and what was asked of it
 place : (j : ℕ) → coordinate_bytes * j ≡ 0 + coordinate_bytes * j
 place j = omega arith
 
-asked : (c : goal.After-are_coordinate_bits)
+asked : (c : After-are_coordinate_bits)
     → c.are_coordinate_bits.result ≡ coordinate_bits (number_of (take coordinate_bytes (drop (0 + coordinate_bytes * c.loop-j.j) c.args.f.now)))
 asked c =
     c.are_coordinate_bits.ensures

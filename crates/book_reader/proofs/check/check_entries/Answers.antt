@@ -16,9 +16,10 @@ use Rattle.refusals.specs.Refusals.{none}
 use Rattle.refusals.proofs.Counts.{is_within}
 use Rattle.book_reader.proofs.Entries.{offset_bad, count_bad, entry_good, total_left, entries_start, entries_end, fields_start, total_end, list_wrong, list_long, list_fine}
 use Rattle.book_reader.proofs.check.check_entries.Goals as goal
+use Rattle.book_reader.proofs.check.check_entries.Goals.{After-is_right, After-is_right-in-loop-i, After-loop-i, Else-not-is_right, Else-not-is_right-2}
 
 -- the entry of this turn: what was asked of its offset, and of its vertices
-module _ (c : goal.After-is_right) where
+module _ (c : After-is_right) where
 
   abbrev f : List ℕ
   f = c.args.f.now
@@ -41,15 +42,15 @@ module _ (c : goal.After-is_right) where
   offset_asked : c.is_right.result ≡ eqb (number_of (take field_bytes (drop (from + entry_bytes * i) f))) before
   offset_asked = c.is_right.ensures ∙ ap (λ (o : ℕ). eqb o before) c.number4-offset.ensures.0
 
-vertices_asked : (c : goal.After-is_right-in-loop-i)
+vertices_asked : (c : After-is_right-in-loop-i)
     → c.is_right-in-loop-i.result ≡ within vertices_least vertices_most (number_of (take field_bytes (drop (from c.before.before.before + entry_bytes * i c.before.before.before + field_bytes) (f c.before.before.before))))
 vertices_asked c = c.is_right-in-loop-i.ensures ∙ ap (within vertices_least vertices_most) c.number4-n.ensures.0
 
-offset_right : (c : goal.Else-not-is_right) → eqb (number_of (take field_bytes (drop (from c.before + entry_bytes * i c.before) (f c.before)))) (before c.before) ≡ true
+offset_right : (c : Else-not-is_right) → eqb (number_of (take field_bytes (drop (from c.before + entry_bytes * i c.before) (f c.before)))) (before c.before) ≡ true
 offset_right c = sym (offset_asked c.before) ∙ not-false c.is_right.result c.if-not-is_right.false
 
 -- the vertices are right
-module _ (c : goal.Else-not-is_right-2) where
+module _ (c : Else-not-is_right-2) where
 
   abbrev n : ℕ
   n = number_of (take field_bytes (drop (from c.before.before.before.before + entry_bytes * i c.before.before.before.before + field_bytes) (f c.before.before.before.before)))
@@ -64,7 +65,7 @@ module _ (c : goal.Else-not-is_right-2) where
   small = (is_within vertices_least vertices_most n right).1
 
 -- all entries passed
-module _ (c : goal.After-loop-i) where
+module _ (c : After-loop-i) where
   passed : entries_check c.args.k c.args.from 0 (drop c.args.from c.args.f.now) ≡ none
   passed =
       let s = c.args in

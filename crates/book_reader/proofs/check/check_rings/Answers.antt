@@ -15,9 +15,10 @@ use Rattle.book_layout.specs.Faults.{◌passes, entries_check, coords_check, lea
 use Rattle.book_reader.proofs.Entries.{entry_held, total_left, entries_start, fields_start, fields_end, list_passed}
 use Rattle.book_reader.proofs.Rings.{coords_next, least_good, least_bad, least_end}
 use Rattle.book_reader.proofs.check.check_rings.Goals as goal
+use Rattle.book_reader.proofs.check.check_rings.Goals.{After-is_least_at, After-number4-n}
 
 -- the ring of this turn
-module _ (c : goal.After-number4-n) where
+module _ (c : After-number4-n) where
 
   abbrev f : List ℕ
   f = c.args.f.now
@@ -56,7 +57,7 @@ module _ (c : goal.After-number4-n) where
   coords = coords_next f from k i at turn c.loop-i.inv.4
 
 -- what was asked of it
-asked : (c : goal.After-is_least_at) → c.is_least_at.result ≡ is_least (vertices (coords_in (2 * n c.before) (drop (at c.before) (f c.before))))
+asked : (c : After-is_least_at) → c.is_least_at.result ≡ is_least (vertices (coords_in (2 * n c.before) (drop (at c.before) (f c.before))))
 asked c =
     c.is_least_at.ensures ∙ ap (λ (j : ℕ). is_least (vertices (coords_in (2 * j) (drop (at c.before) (f c.before))))) (is_n c.before)
 

@@ -9,16 +9,17 @@ use Rattle.refusals.specs.Rings.{rings_most, within}
 use Rattle.book_layout.specs.Layout.{entry_bytes, tail_bytes, ring_count, entry_offset}
 use Rattle.book_reader.proofs.Files.{too_short, too_long, bad_count, bad_end, good_end}
 use Rattle.book_reader.proofs.check.check_tail.Goals as goal
+use Rattle.book_reader.proofs.check.check_tail.Goals.{After-is_right, After-is_right-2, Else-not-is_right}
 
 -- what was asked of the ring count, and that it is right
-count_asked : (c : goal.After-is_right) → c.is_right.result ≡ within 1 rings_most (ring_count c.args.f.now)
+count_asked : (c : After-is_right) → c.is_right.result ≡ within 1 rings_most (ring_count c.args.f.now)
 count_asked c = c.is_right.ensures ∙ ap (within 1 rings_most) c.ring_count-k.ensures.0
 
-count_right : (c : goal.Else-not-is_right) → within 1 rings_most (ring_count c.args.f.now) ≡ true
+count_right : (c : Else-not-is_right) → within 1 rings_most (ring_count c.args.f.now) ≡ true
 count_right c = sym (count_asked c.before) ∙ not-false c.is_right.result c.if-not-is_right.false
 
 -- what was asked of the end of the entries
-end_asked : (c : goal.After-is_right-2)
+end_asked : (c : After-is_right-2)
     → c.is_right-2.result
     ≡ eqb (entry_offset c.args.f.now + entry_bytes * ring_count c.args.f.now + tail_bytes) (length c.args.f.now)
 end_asked c =

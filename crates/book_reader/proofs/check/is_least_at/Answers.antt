@@ -10,9 +10,10 @@ use Rattle.reading.specs.Lent.{ring_of, Lent}
 use Rattle.book_layout.specs.Layout.{coords_in}
 use Rattle.book_reader.proofs.Rings.{loaded_length, loaded_lent, loaded_ring}
 use Rattle.book_reader.proofs.check.is_least_at.Goals as goal
+use Rattle.book_reader.proofs.check.is_least_at.Goals.{After-load}
 
 -- the three laws of what `load` left
-module _ (c : goal.After-load) where
+module _ (c : After-load) where
 
   abbrev r : List Float
   r = c.load.new.room

@@ -7,9 +7,10 @@ use Rattle.book_layout.specs.Faults.{◌passes, book_check}
 use Rattle.book_layout.proofs.Exact.{checked}
 use Rattle.book_reader.proofs.Files.{at_fault, rooms_read}
 use Rattle.book_reader.proofs.check.refusal.Goals as goal
+use Rattle.book_reader.proofs.check.refusal.Goals.{Else-not-passed}
 
 -- the file has no fault
-fine : (c : goal.Else-not-passed) → book_check c.args.f.now passes
+fine : (c : Else-not-passed) → book_check c.args.f.now passes
 fine c =
     ap passed (sym c.check_book-no.ensures) ∙ sym c.passed.ensures ∙ not-false c.passed.result c.if-not-passed.false
 

@@ -15,12 +15,13 @@ use Rattle.ring.proofs.Emit.{laid_is}
 use Rattle.book_layout.proofs.Exact.{Checked, checked}
 use Rattle.book_layout.proofs.Lent.{length_numbers, length_counts, length_parts}
 use Rattle.book_reader.proofs.load.load_book.Goals as goal
+use Rattle.book_reader.proofs.load.load_book.Goals.{After-ring_count-k, After-slice_known-3-1}
 
 -- the file
-all : (c : goal.After-slice_known-3-1) → Checked c.args.f.now
+all : (c : After-slice_known-3-1) → Checked c.args.f.now
 all c = checked c.args.f.now c.requires.book_check
 
-module _ (c : goal.After-ring_count-k) where
+module _ (c : After-ring_count-k) where
 
   abbrev f : List ℕ
   f = c.args.f.now

@@ -6,9 +6,10 @@ use lib.ListN.{length}
 use Rattle.refusals.specs.Rings.{vertices_most, total}
 use Rattle.refusals.proofs.Counts.{total_bounds}
 use Rattle.book_writer.proofs.lent.size_of.Goals as goal
+use Rattle.book_writer.proofs.lent.size_of.Goals.{After-sum_of}
 
 -- the sum, and that it is small
-small : (c : goal.After-sum_of) → (c.sum_of.result ≡ total c.args.counts.now) × (total c.args.counts.now ≤ vertices_most * length c.args.counts.now)
+small : (c : After-sum_of) → (c.sum_of.result ≡ total c.args.counts.now) × (total c.args.counts.now ≤ vertices_most * length c.args.counts.now)
 small c =
     (c.sum_of.ensures.value, (total_bounds c.args.counts.now c.requires.1).1)
 

@@ -13,9 +13,10 @@ use Rattle.refusals.proofs.Counts.{total_bounds}
 use Rattle.book_writer.proofs.Storing.{stored}
 use Rattle.book_writer.proofs.Stored.{four_runs}
 use Rattle.book_writer.proofs.store.put_book.Goals as goal
+use Rattle.book_writer.proofs.store.put_book.Goals.{After-put, After-put_entries, After-put_rings, After-sum_of-from}
 
 -- what is lent, the sum, and that it is small
-module _ (c : goal.After-sum_of-from) where
+module _ (c : After-sum_of-from) where
 
   abbrev xs : List Float
   xs = c.args.xs.now
@@ -36,21 +37,21 @@ module _ (c : goal.After-sum_of-from) where
   small = (total_bounds ns c.requires.held.sized).1
 
 -- the room after each run
-first_run : (c : goal.After-put_rings) → c.put_rings.new.room ≡ sets (room c.before.before) 0 (stored (ns c.before.before) (xs c.before.before))
+first_run : (c : After-put_rings) → c.put_rings.new.room ≡ sets (room c.before.before) 0 (stored (ns c.before.before) (xs c.before.before))
 first_run c = c.put_rings.ensures
 
-first_length : (c : goal.After-put_rings) → length c.put_rings.new.room ≡ length (room c.before.before)
+first_length : (c : After-put_rings) → length c.put_rings.new.room ≡ length (room c.before.before)
 first_length c = ap length (first_run c) ∙ length-sets (room c.before.before) 0 (stored (ns c.before.before) (xs c.before.before))
 
-second_run : (c : goal.After-put_entries) → c.put_entries.new.room ≡ sets c.put_rings.new.room (vertex_bytes * total (ns c.before.before.before.before.before.before)) (entries 0 (ns c.before.before.before.before.before.before) (ps c.before.before.before.before.before.before))
+second_run : (c : After-put_entries) → c.put_entries.new.room ≡ sets c.put_rings.new.room (vertex_bytes * total (ns c.before.before.before.before.before.before)) (entries 0 (ns c.before.before.before.before.before.before) (ps c.before.before.before.before.before.before))
 second_run c =
     c.put_entries.ensures ∙ ap (λ (j : ℕ). sets c.put_rings.new.room (vertex_bytes * j) (entries 0 (ns c.before.before.before.before.before.before) (ps c.before.before.before.before.before.before))) (sum c.before.before.before.before.before.before)
 
-second_length : (c : goal.After-put_entries) → length c.put_entries.new.room ≡ length (room c.before.before.before.before.before.before)
+second_length : (c : After-put_entries) → length c.put_entries.new.room ≡ length (room c.before.before.before.before.before.before)
 second_length c =
     ap length (second_run c) ∙ length-sets c.put_rings.new.room (vertex_bytes * total (ns c.before.before.before.before.before.before)) (entries 0 (ns c.before.before.before.before.before.before) (ps c.before.before.before.before.before.before)) ∙ first_length c.before.before.before.before
 
-third_run : (c : goal.After-put) → c.put.new.room ≡ sets c.put_entries.new.room (vertex_bytes * total (ns c.before.before.before.before.before.before.before.before.before.before) + entry_bytes * length (ns c.before.before.before.before.before.before.before.before.before.before)) (bytes_of field_bytes (length (ns c.before.before.before.before.before.before.before.before.before.before)))
+third_run : (c : After-put) → c.put.new.room ≡ sets c.put_entries.new.room (vertex_bytes * total (ns c.before.before.before.before.before.before.before.before.before.before) + entry_bytes * length (ns c.before.before.before.before.before.before.before.before.before.before)) (bytes_of field_bytes (length (ns c.before.before.before.before.before.before.before.before.before.before)))
 third_run c =
     let n = length (ns c.before.before.before.before.before.before.before.before.before.before) in
     c.put.ensures ∙ ap (λ (j : ℕ). sets c.put_entries.new.room (vertex_bytes * j + entry_bytes * n) (bytes_of field_bytes n)) (sum c.before.before.before.before.before.before.before.before.before.before)

@@ -12,9 +12,10 @@ use Rattle.book_layout.specs.Layout.{field_bytes, vertex_bytes, entry_bytes, ent
 use Rattle.refusals.proofs.Counts.{total_on}
 use Rattle.book_writer.proofs.Storing.{entries_start, entries_on, entries_end}
 use Rattle.book_writer.proofs.store.put_entries.Goals as goal
+use Rattle.book_writer.proofs.store.put_entries.Goals.{In-loop-i}
 
 -- the count of this turn is a part of the total
-share : (c : goal.In-loop-i)
+share : (c : In-loop-i)
     → total (drop c.loop-i.i c.args.counts.now)
     ≡ get_or c.args.counts.now c.loop-i.i 0 + total (drop (c.loop-i.i + 1) c.args.counts.now)
 share c = total_on c.args.counts.now c.loop-i.i c.loop-i-test.true

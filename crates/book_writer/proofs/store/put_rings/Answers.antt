@@ -16,9 +16,10 @@ use Rattle.refusals.proofs.Counts.{total_on, sized_here}
 use Rattle.book_writer.proofs.Storing.{stored, rings_on, rings_end}
 use Rattle.book_writer.proofs.Part.{part_is, part_length, part_lent}
 use Rattle.book_writer.proofs.store.put_rings.Goals as goal
+use Rattle.book_writer.proofs.store.put_rings.Goals.{In-loop-i}
 
 -- the ring of this turn
-module _ (c : goal.In-loop-i) where
+module _ (c : In-loop-i) where
 
   abbrev xs : List Float
   xs = c.args.xs.now

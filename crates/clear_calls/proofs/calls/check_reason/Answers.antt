@@ -8,9 +8,10 @@ use Rattle.refusals.proofs.Calls.{goes, stops}
 use Rattle.clear_calls.specs.Calls.{check_reason_call}
 use Rattle.clear_calls.proofs.Passed.{as_lent, reason_lent}
 use Rattle.clear_calls.proofs.calls.check_reason.Goals as goal
+use Rattle.clear_calls.proofs.calls.check_reason.Goals.{Start}
 
 -- of the move as it was lent
-lent : (s : goal.Start)
+lent : (s : Start)
     → (let st = s.args.stationary.now in
     let orb = s.args.orbiting.now in
     let ls = s.args.reason.now in

@@ -12,9 +12,10 @@ use Rattle.clear_calls.proofs.Written.{call_goes, call_stops}
 use Rattle.clear_calls.specs.Calls.{clear_move_call, clear_move_room}
 use Rattle.clear_calls.proofs.Passed.{as_lent, move_lent}
 use Rattle.clear_calls.proofs.calls.clear_move.Goals as goal
+use Rattle.clear_calls.proofs.calls.clear_move.Goals.{Start}
 
 -- of the move as it was lent
-lent : (s : goal.Start) {o : Outcome Ground} {out : List ℤ}
+lent : (s : Start) {o : Outcome Ground} {out : List ℤ}
     → (let st = s.args.stationary.now in
     let orb = s.args.orbiting.now in
     let held = s.args.reason.now in

@@ -9,4 +9,4 @@ use Rattle.clear_calls.proofs.row.move_numbers.Goals as goal
 pub returns : goal.returns
 returns c =
     let moved = c.end.ensures ∙ as_lent (λ (x y : ℤ). wrong_end c.args.orbiting.now x y) c.ranges.dx c.ranges.dy in
-    rw (c.first.ensures, c.numbers-2.ensures, c.first.ensures, moved, c.numbers.ensures)
+    rw (c.first.ensures, c.numbers-2.ensures, c.first-ends.ensures, moved, c.numbers.ensures)

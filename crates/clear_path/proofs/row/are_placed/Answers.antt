@@ -12,9 +12,10 @@ use Rattle.clear_calls.proofs.Passed.{as_lent}
 use Rattle.clear_path.specs.Rows.{is_placed}
 use Rattle.clear_path.proofs.Placed.{all_left}
 use Rattle.clear_path.proofs.row.are_placed.Goals as goal
+use Rattle.clear_path.proofs.row.are_placed.Goals.{After-are_moved_within}
 
 -- the test of the point i
-is : (c : goal.After-are_moved_within)
+is : (c : After-are_moved_within)
     → (c.are_moved_within.result ≡ is_placed c.args.orbiting.now c.args.path.now c.loop-i.i)
 is c =
     let path = c.args.path.now in

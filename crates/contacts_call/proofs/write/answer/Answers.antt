@@ -8,12 +8,13 @@ use Rattle.refusals.proofs.Sized.{rooms_fit}
 use Rattle.contacts_call.specs.Calls.{contact_count}
 use Rattle.refusals.proofs.Calls.{goes, stops, wrote, kept}
 use Rattle.contacts_call.proofs.write.answer.Goals as goal
+use Rattle.contacts_call.proofs.write.answer.Goals.{After-rooms-no, Then-passed}
 
 -- what the rooms' tests found, and that both rooms are long enough where they pass
-refusal : (c : goal.After-rooms-no) → c.rooms-no.result ≡ of_rooms (entry * contact_count c.args.stationary.now c.args.orbiting.now c.args.tol) (length c.args.which.now) (2 * contact_count c.args.stationary.now c.args.orbiting.now c.args.tol) (length c.args.points.now)
+refusal : (c : After-rooms-no) → c.rooms-no.result ≡ of_rooms (entry * contact_count c.args.stationary.now c.args.orbiting.now c.args.tol) (length c.args.which.now) (2 * contact_count c.args.stationary.now c.args.orbiting.now c.args.tol) (length c.args.points.now)
 refusal c = rw c.count_contacts-n.ensures.0 at c.rooms-no.ensures
 
-fine : (c : goal.Then-passed) → (entry * contact_count c.args.stationary.now c.args.orbiting.now c.args.tol ≤ length c.args.which.now) × (2 * contact_count c.args.stationary.now c.args.orbiting.now c.args.tol ≤ length c.args.points.now)
+fine : (c : Then-passed) → (entry * contact_count c.args.stationary.now c.args.orbiting.now c.args.tol ≤ length c.args.which.now) × (2 * contact_count c.args.stationary.now c.args.orbiting.now c.args.tol ≤ length c.args.points.now)
 fine c = rooms_fit _ _ _ _ (refusal c.before.before) c.passed.ensures c.if-passed.true
 
 pub write_contacts-requires : goal.write_contacts-requires

@@ -7,9 +7,10 @@ use Rattle.pairs.proofs.Numbers.{most}
 use Rattle.contacts.proofs.Following.{FoundAt, next_at, next_none}
 use Rattle.contacts_call.proofs.Counting.{Counting, start, one_more, all}
 use Rattle.contacts_call.proofs.write.count_contacts.Goals as goal
+use Rattle.contacts_call.proofs.write.count_contacts.Goals.{In-At}
 
 -- the contact found
-at : (c : goal.In-At) → FoundAt c.args.stationary.now c.args.orbiting.now c.args.tol c.loop-j.k c.in-At.j
+at : (c : In-At) → FoundAt c.args.stationary.now c.args.orbiting.now c.args.tol c.loop-j.k c.in-At.j
 at c = next_at _ _ _ c.next_within.ensures c.in-At.is
 
 pub loop-j-init : goal.loop-j-init

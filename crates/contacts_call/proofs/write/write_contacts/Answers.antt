@@ -7,13 +7,14 @@ use Rattle.pairs.proofs.Numbers.{most, within}
 use Rattle.contacts.proofs.Following.{FoundAt, next_at, next_none}
 use Rattle.contacts_call.proofs.Writing.{Writing, start, which_fits, points_fit, turn, done}
 use Rattle.contacts_call.proofs.write.write_contacts.Goals as goal
+use Rattle.contacts_call.proofs.write.write_contacts.Goals.{In-At}
 
 -- the contact found
-at : (c : goal.In-At) → FoundAt c.args.stationary.now c.args.orbiting.now c.args.tol c.loop-j.k c.in-At.j
+at : (c : In-At) → FoundAt c.args.stationary.now c.args.orbiting.now c.args.tol c.loop-j.k c.in-At.j
 at c = next_at _ _ _ c.next_within.ensures c.in-At.is
 
 -- what is known of the pairs, and of n
-bounds : (c : goal.In-At) → (c.loop-j.n ≤ 196608) × (c.in-At.j < 196608)
+bounds : (c : In-At) → (c.loop-j.n ≤ 196608) × (c.in-At.j < 196608)
 bounds c =
     let m = most _ _ c.requires.sides in
     let i = c.loop-j.invariant in

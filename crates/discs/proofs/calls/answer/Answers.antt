@@ -9,15 +9,16 @@ use Rattle.discs.specs.Calls.{of_vertices}
 use Rattle.discs.proofs.Seven.{quarter_most}
 use Rattle.discs.proofs.Screened.{tested, copied, fits}
 use Rattle.discs.proofs.calls.answer.Goals as goal
+use Rattle.discs.proofs.calls.answer.Goals.{After-first-no, Start}
 
-most : (c : goal.Start) → c.args.m ≤ 64
+most : (c : Start) → c.args.m ≤ 64
 most c = quarter_most c.args.m c.requires
 
 abbrev start : tie.After-first → tie.Start
 start c = c.before.before.before.before.before.before.before.before
 
 -- what the tests found is what the definition says
-refusal : (c : goal.After-first-no) → c.first-no.result ≡ of_vertices (start c).args.centre (start c).args.radius (start c).args.m (length (start c).args.room.now)
+refusal : (c : After-first-no) → c.first-no.result ≡ of_vertices (start c).args.centre (start c).args.radius (start c).args.m (length (start c).args.room.now)
 refusal c =
     tested _ _ _ _ _ c.draw.ensures c.numbers.ensures c.short.ensures c.first-no.ensures
 

@@ -5,9 +5,10 @@ use Rattle.refusals.proofs.Calls.{goes, stops, wrote, kept}
 use Rattle.inspection.specs.Calls.{next_refusal}
 use Rattle.inspection.proofs.Screened.{screened, passing, shift_is}
 use Rattle.inspection.proofs.calls.next_places.Goals as goal
+use Rattle.inspection.proofs.calls.next_places.Goals.{After-first-no}
 
 -- what the tests found is what the definition says
-refusal : (c : goal.After-first-no) → c.first-no.result ≡ next_refusal c.args.n c.args.k c.args.start (length c.args.room.now)
+refusal : (c : After-first-no) → c.first-no.result ≡ next_refusal c.args.n c.args.k c.args.start (length c.args.room.now)
 refusal c =
     screened _ _ _ _ c.per_shift-m.ensures c.lent.ensures c.fit.ensures c.first-no.ensures
 

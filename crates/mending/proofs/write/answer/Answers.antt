@@ -6,14 +6,15 @@ use Rattle.mending.specs.Mending.{staying, going}
 use Rattle.mending.specs.Calls.{fitting}
 use Rattle.mending.proofs.Screened.{Fits, fit_is, screened, sizes}
 use Rattle.mending.proofs.write.answer.Goals as goal
+use Rattle.mending.proofs.write.answer.Goals.{After-mending-no, Then-passed}
 
 -- what the tests found, and that all is well where they pass
-refusal : (c : goal.After-mending-no)
+refusal : (c : After-mending-no)
     → (let a = c.args in
     c.mending-no.result ≡ fitting a.ring.now (length a.room.now) (length a.dropped.now) (length a.points.now))
 refusal c = screened _ c.count_staying-staying.ensures.0 _ _ _ c.mending-no.ensures
 
-fine : (c : goal.Then-passed)
+fine : (c : Then-passed)
     → (let a = c.args in
     Fits (length (staying a.ring.now)) (length (going a.ring.now)) (length a.room.now) (length a.dropped.now) (length a.points.now))
 fine c = fit_is _ _ _ _ _ (refusal c.before.before) c.passed.ensures c.if-passed.true

@@ -8,14 +8,15 @@ use Rattle.mending.specs.Mending.{goes_at, why_of}
 use Rattle.mending.proofs.Fates.{is_going, is_staying}
 use Rattle.mending.proofs.Writing.{Writing, start, ring_fits, whys_fit, spots_fit, stay, go, done}
 use Rattle.mending.proofs.write.write_mended.Goals as goal
+use Rattle.mending.proofs.write.write_mended.Goals.{In-Goes, In-Stays}
 
 -- vertex i stays
-stayed : (c : goal.In-Stays)
+stayed : (c : In-Stays)
     → (goes_at c.args.ring.now c.loop-i.i ≡ false)
 stayed c = is_staying _ _ (sym c.fate_at.ensures ∙ c.in-Stays.is)
 
 -- vertex i goes, and why
-went : (c : goal.In-Goes)
+went : (c : In-Goes)
     → ((goes_at c.args.ring.now c.loop-i.i ≡ true)
     × (c.in-Goes.why ≡ why_of c.args.ring.now c.loop-i.i))
 went c = is_going _ _ (sym c.fate_at.ensures ∙ c.in-Goes.is)

@@ -11,4 +11,4 @@ returns-in_default c =
 pub returns : goal.returns
 unfolding blocked_of made_of
 returns c =
-    rw (← c.times.ensures, ← c.check_translation_collision.ensures, c.in-Hit.is, c.times.ensures, c.larger.ensures) refl
+    rw (← c.times-full.ensures, ← c.check_translation_collision.ensures, c.in-Hit.is, c.times.ensures, c.larger.ensures) refl

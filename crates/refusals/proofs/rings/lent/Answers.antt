@@ -5,13 +5,14 @@ use borrow.Author.Tests.{not-true, not-false}
 use Rattle.refusals.specs.Refusals.{first}
 use Rattle.refusals.proofs.RingRow.{lists, few_rings, number_speaks, lists_speak, numbers_speak}
 use Rattle.refusals.proofs.rings.lent.Goals as goal
+use Rattle.refusals.proofs.rings.lent.Goals.{After-first-lists, Else-not-passed}
 
 -- the number of rings is not refused
-numbered : (c : goal.Else-not-passed) → c.passed.result ≡ true
+numbered : (c : Else-not-passed) → c.passed.result ≡ true
 numbered c = not-false c.passed.result c.if-not-passed.false
 
 -- the rings one by one, then the sum and the number of parts
-both : (c : goal.After-first-lists) →
+both : (c : After-first-lists) →
     let a = c.args in
     c.first-lists.result ≡ lists a.xs.now a.counts.now a.parts.now
 both c = c.first-lists.ensures ∙ ap₂ first c.counts-each.ensures c.sums-sums.ensures

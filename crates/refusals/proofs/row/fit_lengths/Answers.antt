@@ -5,5 +5,5 @@ use Rattle.refusals.proofs.row.fit_lengths.Goals as goal
 pub returns : goal.returns
 unfolding fit_lengths
 returns c =
-    rw (c.first.ensures, c.polygon-2.ensures, c.first.ensures, c.points.ensures)
+    rw (c.first.ensures, c.polygon-2.ensures, c.first-rest.ensures, c.points.ensures)
     (rw c.polygon.ensures)

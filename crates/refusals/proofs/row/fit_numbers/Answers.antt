@@ -6,4 +6,4 @@ pub returns : goal.returns
 unfolding fit_numbers
 returns c =
     rw (c.first-2.ensures, c.first.ensures, c.numbers-2.ensures, c.numbers.ensures, c.first-rest.ensures)
-    (rw (c.position.ensures, c.first.ensures, c.tolerance.ensures, c.finite_numbers.ensures))
+    (rw (c.position.ensures, c.first-last.ensures, c.tolerance.ensures, c.finite_numbers.ensures))

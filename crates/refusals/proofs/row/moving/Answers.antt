@@ -5,4 +5,4 @@ use Rattle.refusals.proofs.row.moving.Goals as goal
 pub returns : goal.returns
 unfolding of_moving
 returns c =
-    rw (c.first.ensures, c.two_polygons.ensures, c.first.ensures, c.tolerance.ensures, c.position.ensures)
+    rw (c.first.ensures, c.two_polygons.ensures, c.first-last.ensures, c.tolerance.ensures, c.position.ensures)

@@ -5,5 +5,5 @@ use Rattle.refusals.proofs.row.tracing.Goals as goal
 pub returns : goal.returns
 unfolding of_trace
 returns c =
-    rw (c.first.ensures, c.two_polygons.ensures, c.first-rest.ensures, c.settings.ensures, c.first.ensures)
+    rw (c.first.ensures, c.two_polygons.ensures, c.first-rest.ensures, c.settings.ensures, c.first-rooms.ensures)
     (rw (c.result_room.ensures, c.work_room.ensures))

@@ -9,12 +9,13 @@ use Rattle.refusals.proofs.Sized.{Sized}
 use Rattle.ring_copies.specs.Calls.{copy_refusal}
 use Rattle.ring_copies.proofs.Screened.{screened, passing}
 use Rattle.ring_copies.proofs.calls.mirror_polygon.Goals as goal
+use Rattle.ring_copies.proofs.calls.mirror_polygon.Goals.{After-first-no, Then-passed}
 
 -- what the tests found is what the definition says, and where they pass the ring and its copy fit
-refusal : (c : goal.After-first-no) → c.first-no.result ≡ copy_refusal c.args.ring.now (count c.args.ring.now) (length c.args.room.now)
+refusal : (c : After-first-no) → c.first-no.result ≡ copy_refusal c.args.ring.now (count c.args.ring.now) (length c.args.room.now)
 refusal c = screened _ _ _ c.ring.ensures (rw c.room.ensures at c.first-no.ensures)
 
-fine : (c : goal.Then-passed) → Sized c.args.ring.now × (2 * count c.args.ring.now ≤ length c.args.room.now)
+fine : (c : Then-passed) → Sized c.args.ring.now × (2 * count c.args.ring.now ≤ length c.args.room.now)
 fine c = passing _ _ _ (refusal c.before.before) c.passed.ensures c.if-passed.true
 
 pub mirror-requires : goal.mirror-requires

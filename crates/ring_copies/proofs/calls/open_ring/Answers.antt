@@ -11,12 +11,13 @@ use Rattle.ring_copies.specs.Copies.{open_count}
 use Rattle.ring_copies.proofs.Opening.{open_le}
 use Rattle.ring_copies.proofs.Screened.{screened, passing}
 use Rattle.ring_copies.proofs.calls.open_ring.Goals as goal
+use Rattle.ring_copies.proofs.calls.open_ring.Goals.{After-open_fits-no, Then-passed}
 
 -- what the tests found is what the definition says, and where they pass the ring and its copy fit
-refusal : (c : goal.After-open_fits-no) → c.open_fits-no.result ≡ copy_refusal c.args.ring.now (open_count c.args.ring.now) (length c.args.room.now)
+refusal : (c : After-open_fits-no) → c.open_fits-no.result ≡ copy_refusal c.args.ring.now (open_count c.args.ring.now) (length c.args.room.now)
 refusal c = screened _ _ _ c.ring.ensures c.open_fits-no.ensures
 
-fine : (c : goal.Then-passed) → Sized c.args.ring.now × (2 * open_count c.args.ring.now ≤ length c.args.room.now)
+fine : (c : Then-passed) → Sized c.args.ring.now × (2 * open_count c.args.ring.now ≤ length c.args.room.now)
 fine c = passing _ _ _ (refusal c.before.before) c.passed.ensures c.if-passed.true
 
 pub overflow_mul-n : goal.overflow_mul-n

@@ -5,9 +5,10 @@ use Rattle.refusals.proofs.Calls.{goes, stops, wrote, kept}
 use Rattle.to_grid.specs.Calls.{to_grid_refusal}
 use Rattle.to_grid.proofs.Screened.{screened, passing}
 use Rattle.to_grid.proofs.calls.to_grid.Goals as goal
+use Rattle.to_grid.proofs.calls.to_grid.Goals.{After-first-no}
 
 -- what the tests found is what the definition says
-refusal : (c : goal.After-first-no)
+refusal : (c : After-first-no)
     → c.first-no.result
     ≡ to_grid_refusal c.args.points.now c.args.units
     (length c.args.room.now)

@@ -7,12 +7,13 @@ use Rattle.refusals.proofs.Sized.{rooms_fit}
 use Rattle.vectors.specs.Fit.{fit_of}
 use Rattle.refusals.proofs.Calls.{goes, stops, wrote, kept}
 use Rattle.vectors_call.proofs.write.answer.Goals as goal
+use Rattle.vectors_call.proofs.write.answer.Goals.{After-rooms-no, Then-passed}
 
 -- what the rooms' tests found, and that both rooms are long enough where they pass
-refusal : (c : goal.After-rooms-no) → c.rooms-no.result ≡ of_rooms (3 * length (fit_of c.args.stationary.now c.args.orbiting.now c.args.from c.args.visited.now c.args.tol)) (length c.args.vectors.now) (length (fit_of c.args.stationary.now c.args.orbiting.now c.args.from c.args.visited.now c.args.tol)) (length c.args.sources.now)
+refusal : (c : After-rooms-no) → c.rooms-no.result ≡ of_rooms (3 * length (fit_of c.args.stationary.now c.args.orbiting.now c.args.from c.args.visited.now c.args.tol)) (length c.args.vectors.now) (length (fit_of c.args.stationary.now c.args.orbiting.now c.args.from c.args.visited.now c.args.tol)) (length c.args.sources.now)
 refusal c = rw c.count_vectors-n.ensures.value at c.rooms-no.ensures
 
-fine : (c : goal.Then-passed) → (3 * length (fit_of c.args.stationary.now c.args.orbiting.now c.args.from c.args.visited.now c.args.tol) ≤ length c.args.vectors.now) × (length (fit_of c.args.stationary.now c.args.orbiting.now c.args.from c.args.visited.now c.args.tol) ≤ length c.args.sources.now)
+fine : (c : Then-passed) → (3 * length (fit_of c.args.stationary.now c.args.orbiting.now c.args.from c.args.visited.now c.args.tol) ≤ length c.args.vectors.now) × (length (fit_of c.args.stationary.now c.args.orbiting.now c.args.from c.args.visited.now c.args.tol) ≤ length c.args.sources.now)
 fine c = rooms_fit _ _ _ _ (refusal c.before.before) c.passed.ensures c.if-passed.true
 
 pub write_vectors-requires : goal.write_vectors-requires

@@ -9,9 +9,10 @@ use Rattle.vectors.specs.Places.{Behind, far}
 use Rattle.vectors.proofs.Steps.{nearer}
 use Rattle.vectors_call.proofs.Passing.{Counting, count_none, count_one, count_all, small}
 use Rattle.vectors_call.proofs.write.count_vectors.Goals as goal
+use Rattle.vectors_call.proofs.write.count_vectors.Goals.{In-Vector}
 
 -- the vector found
-behind : (c : goal.In-Vector) → Behind c.args.stationary.now c.args.orbiting.now c.args.tol (kept_vectors (keeps c.args.from c.args.visited.now c.args.tol)) c.loop-rest.at (sourced c.in-Vector.vector c.in-Vector.source) c.in-Vector.rest
+behind : (c : In-Vector) → Behind c.args.stationary.now c.args.orbiting.now c.args.tol (kept_vectors (keeps c.args.from c.args.visited.now c.args.tol)) c.loop-rest.at (sourced c.in-Vector.vector c.in-Vector.source) c.in-Vector.rest
 behind c = rw c.in-Vector.is at c.next_kept.ensures
 
 pub loop-rest-init : goal.loop-rest-init

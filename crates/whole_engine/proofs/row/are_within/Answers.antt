@@ -10,9 +10,10 @@ use Rattle.shifted.specs.Shifted.{in_bounds}
 use Rattle.whole_engine.specs.Rows.{all_in_bounds}
 use Rattle.whole_engine.proofs.Within.{within_on, within_off, within_end}
 use Rattle.whole_engine.proofs.row.are_within.Goals as goal
+use Rattle.whole_engine.proofs.row.are_within.Goals.{After-is_within}
 
 -- the test of number i
-is : (c : goal.After-is_within)
+is : (c : After-is_within)
     → (c.is_within.result ≡ in_bounds (get_or c.args.list.now c.loop-i.i (pos 0)))
 is c =
     c.is_within.ensures

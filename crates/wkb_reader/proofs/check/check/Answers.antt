@@ -10,9 +10,10 @@ use Rattle.wkb_layout.specs.Layout.{head_bytes, order_in}
 use Rattle.wkb_layout.specs.Faults.{numbers_check}
 use Rattle.wkb_reader.proofs.Checked.{Headed, headed, check_is}
 use Rattle.wkb_reader.proofs.check.check.Goals as goal
+use Rattle.wkb_reader.proofs.check.check.Goals.{Else-not-passed}
 
 -- the fields pass
-head_held : (c : goal.Else-not-passed) → Headed c.args.f.now
+head_held : (c : Else-not-passed) → Headed c.args.f.now
 head_held c =
     headed c.args.f.now (ap passed (sym c.head-head.ensures) ∙ sym c.passed.ensures ∙ not-false c.passed.result c.if-not-passed.false)
 

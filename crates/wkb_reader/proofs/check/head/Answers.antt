@@ -24,6 +24,6 @@ pub returns : goal.returns
 returns c =
     let f = c.args.f.now in
     c.first-3.ensures
-    ∙ ap (first c.unless-order.result) (c.first-2.ensures ∙ ap (first c.field-kind.result) (c.first.ensures ∙ ap (first c.field-rings.result) c.first.ensures))
+    ∙ ap (first c.unless-order.result) (c.first-2.ensures ∙ ap (first c.field-kind.result) (c.first.ensures ∙ ap (first c.field-rings.result) c.first-last.ensures))
     ∙ head_is f c.if-f-lt-HEAD_BYTES.false (c.unless-order.ensures ∙ ap (λ (t : Bool). wkb_fault t 0) c.is_right.ensures) c.field-kind.ensures c.field-rings.ensures c.field-number.ensures
     (c.unless-whole.ensures ∙ ap (λ (m : ℕ). wkb_fault (eqb (length f) (head_bytes + point_bytes * m)) 0) c.points.ensures.0)

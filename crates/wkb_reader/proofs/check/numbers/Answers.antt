@@ -7,9 +7,10 @@ use Rattle.refusals.specs.Bounds.{coordinate}
 use Rattle.wkb_layout.specs.Faults.{number_in}
 use Rattle.wkb_reader.proofs.Numbers.{number_at, check_from, check_start, number_good, number_bad, check_end}
 use Rattle.wkb_reader.proofs.check.numbers.Goals as goal
+use Rattle.wkb_reader.proofs.check.numbers.Goals.{After-is_coordinate}
 
 -- what was asked of coordinate j
-asked : (c : goal.After-is_coordinate)
+asked : (c : After-is_coordinate)
     → c.is_coordinate.result ≡ coordinate (number_in c.args.f.now (number_at c.loop-j.j))
 asked c = c.is_coordinate.ensures ∙ ap coordinate c.number.ensures
 

@@ -9,9 +9,10 @@ use Rattle.refusals.proofs.First.{on, off}
 use Rattle.wkb_layout.specs.Reader.{read_wkb_refusal}
 use Rattle.wkb_reader.proofs.Checked.{Headed, passing}
 use Rattle.wkb_reader.proofs.check.refusal.Goals as goal
+use Rattle.wkb_reader.proofs.check.refusal.Goals.{Else-not-passed}
 
 -- the file passes
-held : (c : goal.Else-not-passed) → Headed c.args.f.now
+held : (c : Else-not-passed) → Headed c.args.f.now
 held c =
     passing c.args.f.now (ap passed (sym c.check-no.ensures) ∙ sym c.passed.ensures ∙ not-false c.passed.result c.if-not-passed.false)
 

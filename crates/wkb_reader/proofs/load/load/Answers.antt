@@ -14,9 +14,10 @@ use Rattle.wkb_layout.proofs.Numbers.{length_numbersIn}
 use Rattle.wkb_reader.proofs.Checked.{Headed, passing}
 use Rattle.wkb_reader.proofs.Numbers.{numbers_from, load_start, load_on, load_end}
 use Rattle.wkb_reader.proofs.load.load.Goals as goal
+use Rattle.wkb_reader.proofs.load.load.Goals.{After-slice_known-1}
 
 -- the file passes
-held : (c : goal.After-slice_known-1) → Headed c.args.f.now
+held : (c : After-slice_known-1) → Headed c.args.f.now
 held c = passing c.args.f.now c.requires.f_value
 
 pub points-requires : goal.points-requires
