@@ -1,4 +1,5 @@
 -- `clear_aside::put_both` meets its contract: one room after the other. Assumes nothing.
+use borrow.Author.Rules.{rules}
 use Rattle.clear_aside.proofs.Held.{end_lent, start_leaves, start_stays, both_hold}
 use Rattle.clear_aside.proofs.put_both.Goals as goal
 

@@ -1,4 +1,5 @@
 -- `clear_drawn::judge` meets its contract: by what is found, and where it is clear by the room. Assumes nothing.
+use borrow.Author.Rules.{rules}
 use Prim.Native.Nat.{◌-◌}
 use mathlib.Core.Path.{sym, ap, ◌∙◌}
 use native.Mathlib.Omega.{arith}

@@ -10,26 +10,30 @@ use Rattle.reading.specs.Reading.{ord, flat, less, earlier, choice}
 use Rattle.reading.specs.Lent.{ring_of}
 use Rattle.reading.proofs.Places.{length_choice, left_lower, left_higher, left_equal, left_none}
 use Rattle.reading.proofs.before.Goals as goal
-use Rattle.reading.proofs.before.Goals.{After-key_at-v}
+use Rattle.reading.proofs.before.Goals.{After-key_at-v, At-loop-j, Start}
 
 -- the two readings, whose coordinates j the keys are of
 module _ (c : After-key_at-v) where
+  abbrev l : At-loop-j
+  l = c.before.before.before
 
+  abbrev s : Start
+  s = l.before.before.before
 
   abbrev xs : List Float
-  xs = c.args.ring.now
+  xs = s.args.ring.now
 
   abbrev p : List ℕ
-  p = flat (choice (ring_of xs) c.args.a)
+  p = flat (choice (ring_of xs) s.args.a)
 
   abbrev q : List ℕ
-  q = flat (choice (ring_of xs) c.args.b)
+  q = flat (choice (ring_of xs) s.args.b)
 
-  in_first : c.loop-j.j < length p
-  in_first = omega (arith, length_choice xs c.requires.lent.0.even c.args.a, c.loop-j-test.true)
+  in_first : l.loop-j.j < length p
+  in_first = omega (arith, length_choice xs s.requires.lent.0.even s.args.a, c.loop-j-test.true)
 
-  in_second : c.loop-j.j < length q
-  in_second = omega (arith, length_choice xs c.requires.lent.0.even c.args.b, c.loop-j-test.true)
+  in_second : l.loop-j.j < length q
+  in_second = omega (arith, length_choice xs s.requires.lent.0.even s.args.b, c.loop-j-test.true)
 
 pub loop-j-init : goal.loop-j-init
 loop-j-init c = ((omega arith), refl)
@@ -38,21 +42,21 @@ pub returns-then-u-v : goal.returns-then-u-v
 returns-then-u-v c =
     let u = c.key_at-u.ensures in
     let v = c.key_at-v.ensures in
-    sym ((l c.before).loop.invariant.1 ∙ left_lower (p c.before) (q c.before) (l c.before).loop.j (in_first c.before) (in_second c.before) (omega (arith, c.if-u-v.true)))
+    sym ((l c.before).loop-j.invariant.1 ∙ left_lower (p c.before) (q c.before) (l c.before).loop-j.j (in_first c.before) (in_second c.before) (omega (arith, c.if-u-v.true)))
 
 pub returns-then-v-u : goal.returns-then-v-u
 returns-then-v-u c =
     let u = c.key_at-u.ensures in
     let v = c.key_at-v.ensures in
-    sym ((l c.before.before).loop.invariant.1 ∙ left_higher (p c.before.before) (q c.before.before) (l c.before.before).loop.j (in_first c.before.before) (in_second c.before.before) (omega (arith, c.if-v-u.true)))
+    sym ((l c.before.before).loop-j.invariant.1 ∙ left_higher (p c.before.before) (q c.before.before) (l c.before.before).loop-j.j (in_first c.before.before) (in_second c.before.before) (omega (arith, c.if-v-u.true)))
 
 pub loop-j-preserved : goal.loop-j-preserved
 loop-j-preserved c =
     let u = c.key_at-u.ensures in
     let v = c.key_at-v.ensures in
-    let j = (l c.before.before).loop.j in
+    let j = (l c.before.before).loop-j.j in
     let e : ord (get_or (p c.before.before) j 0) ≡ ord (get_or (q c.before.before) j 0) = omega (arith, c.if-v-u.false, c.if-u-v.false) in
-    ((omega arith), (l c.before.before).loop.invariant.1 ∙ left_equal (p c.before.before) (q c.before.before) j (in_first c.before.before) (in_second c.before.before) e)
+    ((omega arith), (l c.before.before).loop-j.invariant.1 ∙ left_equal (p c.before.before) (q c.before.before) j (in_first c.before.before) (in_second c.before.before) e)
 
 pub returns : goal.returns
 returns c =

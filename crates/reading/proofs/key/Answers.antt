@@ -1,4 +1,5 @@
 -- `reading::key` meets its contract: the two tests of `ord`. Assumes nothing.
+use borrow.Author.Rules.{rules}
 use mathlib.Core.Path.{sym}
 use Rattle.reading.proofs.Order.{ord_low, ord_high}
 use Rattle.reading.proofs.key.Goals as goal

@@ -14,12 +14,12 @@ use Rattle.reading.specs.Starts.{along, Settled}
 use Rattle.reading.proofs.Places.{length_ringOf}
 use Rattle.reading.proofs.Ways.{on_low, back_low, number_within, all_back, all_on}
 use Rattle.reading.proofs.least_in.Goals as goal
-use Rattle.reading.proofs.least_in.Goals.{After-settle-back}
+use Rattle.reading.proofs.least_in.Goals.{After-settle-back, Start}
 
 -- both directions are settled
 module _ (c : After-settle-back) where
-  abbrev s : tie.Start
-  s = c.before.before.before.before.before.before.before.before.before.before
+  abbrev s : Start
+  s = c.before.before.before.before.before.before.before.before
 
   abbrev xs : List Float
   xs = s.args.ring.now
@@ -43,10 +43,10 @@ module _ (c : After-settle-back) where
   q = c.settle-back.result.second
 
   vertices_of : length xs ≡ 2 * length r
-  vertices_of = length_ringOf xs s.pre.0.even
+  vertices_of = length_ringOf xs s.requires.lent.even
 
   some : 0 < length r
-  some = omega (arith, vertices_of, s.pre.1.0)
+  some = omega (arith, vertices_of, s.requires.ring_nonzero.0)
 
   half : n ≡ length r
   half = omega (arith, vertices_of)
@@ -67,7 +67,7 @@ module _ (c : After-settle-back) where
   b_low = omega (arith, half, vertices_of, number_within r some n i j p q half onward back)
 
   b_fits : Fits w64 (n + (n - 1 - p) % (q - p))
-  b_fits = omega (arith, b_low, s.pre.0.most)
+  b_fits = omega (arith, b_low, s.requires.lent.most)
 
 pub overflow_sub-b-2 : goal.overflow_sub-b-2
 overflow_sub-b-2 c = p_low c.before
@@ -76,14 +76,14 @@ pub overflow_add-b : goal.overflow_add-b
 overflow_add-b c = b_fits c.before.before
 
 pub before-requires : goal.before-requires
-before-requires c = record { lent = ((s c.before.before.before).requires.0, c.fill.ensures); a_in_bounds = (b_low c.before.before.before, i_low c.before.before.before) }
+before-requires c = record { lent = ((s c.before.before).requires.lent, c.fill.ensures); a_in_bounds = (b_low c.before.before, i_low c.before.before) }
 
 pub returns-then-before : goal.returns-then-before
 returns-then-before c =
     let e = sym c.before-2.ensures ∙ c.if-before.true in
-    (all_back (r c.before.before.before.before.before) (some c.before.before.before.before.before) (n c.before.before.before.before.before) (i c.before.before.before.before.before) (j c.before.before.before.before.before) (p c.before.before.before.before.before) (q c.before.before.before.before.before) (half c.before.before.before.before.before) (onward c.before.before.before.before.before) (back c.before.before.before.before.before) e, b_low c.before.before.before.before.before)
+    (all_back (r c.before.before.before.before) (some c.before.before.before.before) (n c.before.before.before.before) (i c.before.before.before.before) (j c.before.before.before.before) (p c.before.before.before.before) (q c.before.before.before.before) (half c.before.before.before.before) (onward c.before.before.before.before) (back c.before.before.before.before) e, b_low c.before.before.before.before)
 
 pub returns-else-before : goal.returns-else-before
 returns-else-before c =
     let e = sym c.before-2.ensures ∙ c.if-before.false in
-    (all_on (r c.before.before.before.before.before) (some c.before.before.before.before.before) (n c.before.before.before.before.before) (i c.before.before.before.before.before) (j c.before.before.before.before.before) (p c.before.before.before.before.before) (q c.before.before.before.before.before) (half c.before.before.before.before.before) (onward c.before.before.before.before.before) (back c.before.before.before.before.before) e, i_low c.before.before.before.before.before)
+    (all_on (r c.before.before.before.before) (some c.before.before.before.before) (n c.before.before.before.before) (i c.before.before.before.before) (j c.before.before.before.before) (p c.before.before.before.before) (q c.before.before.before.before) (half c.before.before.before.before) (onward c.before.before.before.before) (back c.before.before.before.before) e, i_low c.before.before.before.before)

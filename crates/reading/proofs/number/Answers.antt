@@ -1,4 +1,5 @@
 -- `reading::number` meets its contract: from the last vertex back, or from the first onward. Assumes nothing.
+use borrow.Author.Rules.{rules}
 use Rattle.reading.proofs.number.Goals as goal
 
 pub returns-then-back : goal.returns-then-back

@@ -18,90 +18,96 @@ use Rattle.reading.proofs.Pushing.{Open, open_start, settled_same, settled_past}
 use Rattle.reading.proofs.Step.{Stepped, step}
 use Rattle.reading.proofs.Ways.{round, read_at, start_low}
 use Rattle.reading.proofs.settle.Goals as goal
-use Rattle.reading.proofs.settle.Goals.{After-pushed-s, At-loop-s, Else-s-ring}
+use Rattle.reading.proofs.settle.Goals.{After-pushed-s, At-loop-s, Else-s-ring, Start}
 
 -- at the loop's test: the ring, its direction and the two starts
 module _ (l : At-loop-s) where
+  abbrev st : Start
+  st = l.before.before.before
 
   abbrev xs : List Float
-  xs = l.args.ring.now
+  xs = st.args.ring.now
 
   abbrev r : List Vertex
   r = ring_of xs
 
   abbrev b : Bool
-  b = l.args.back
+  b = st.args.back
 
   abbrev s : Starts
   s = l.loop-s.s
 
   vertices_of : length xs ≡ 2 * length r
-  vertices_of = length_ringOf xs l.requires.lent.0.even
+  vertices_of = length_ringOf xs st.requires.lent.0.even
 
   half : length xs / 2 ≡ length r
   half = omega (arith, vertices_of)
 
   some : 0 < length r
-  some = omega (arith, vertices_of, l.requires.ring_nonzero)
+  some = omega (arith, vertices_of, st.requires.ring_nonzero)
 
   same_end : s.alike ≡ length xs → Settled (along r b) (length r) s.first s.second
   same_end e =
-      settled_same (along r b) (length r) (round r b) s.first s.second s.alike l.loop-s.inv some
+      settled_same (along r b) (length r) (round r b) s.first s.second s.alike l.loop-s.invariant some
       (omega (arith, e, vertices_of))
 
   past_end : length xs / 2 ≤ s.second → Settled (along r b) (length r) s.first (s.first + length r)
   past_end h =
-      settled_past (along r b) (length r) (round r b) s.first s.second s.alike l.loop-s.inv some
+      settled_past (along r b) (length r) (round r b) s.first s.second s.alike l.loop-s.invariant some
       (omega (arith, h, half))
 
 -- ---- a turn
 module _ (e : Else-s-ring) where
+  abbrev l : At-loop-s
+  l = e.before.before.before.before
 
-  first_low : (s e.before.before.before.before).first < length (r e.before.before.before.before)
-  first_low = omega (arith, half e.before.before.before.before, e.loop-s-test.taken, e.loop-s.inv.order)
+  first_low : (s l).first < length (r l)
+  first_low = omega (arith, half l, e.loop-s-test.true, l.loop-s.invariant.order)
 
-  second_low : (s e.before.before.before.before).second < length (r e.before.before.before.before)
-  second_low = omega (arith, half e.before.before.before.before, e.loop-s-test.taken)
+  second_low : (s l).second < length (r l)
+  second_low = omega (arith, half l, e.loop-s-test.true)
 
-  short : (s e.before.before.before.before).alike < length (xs e.before.before.before.before)
-  short = omega (arith, vertices_of e.before.before.before.before, e.loop-s.inv.short, e.if-s-ring.left)
+  short : (s l).alike < length (xs l)
+  short = omega (arith, vertices_of l, l.loop-s.invariant.short, e.if-s-ring.false)
 
-  most : length (xs e.before.before.before.before) ≤ 512
-  most = (st e.before.before.before.before).pre.0.0.most
+  most : length (xs l) ≤ 512
+  most = (st l).requires.lent.0.most
 
-  by_half : (u : ℕ) → number_of (length (xs e.before.before.before.before) / 2) (b e.before.before.before.before) u ≡ number_of (length (r e.before.before.before.before)) (b e.before.before.before.before) u
-  by_half u = ap (λ (n : ℕ). number_of n (b e.before.before.before.before) u) (half e.before.before.before.before)
+  by_half : (u : ℕ) → number_of (length (xs l) / 2) (b l) u ≡ number_of (length (r l)) (b l) u
+  by_half u = ap (λ (n : ℕ). number_of n (b l) u) (half l)
 
 -- what the turn comes to
 module _ (c : After-pushed-s) where
+  abbrev e : Else-s-ring
+  e = c.before.before.before.before.before
 
   abbrev g : ℕ → ℕ
-  g = along (r (l c.before.before.before.before.before)) (b (l c.before.before.before.before.before))
+  g = along (r (l e)) (b (l e))
 
   abbrev t : Starts
-  t = s (l c.before.before.before.before.before)
+  t = s (l e)
 
-  alike_low : t.alike < 2 * length (r (l c.before.before.before.before.before))
-  alike_low = omega (arith, short c.before.before.before.before.before, vertices_of (l c.before.before.before.before.before))
+  alike_low : t.alike < 2 * length (r (l e))
+  alike_low = omega (arith, short e, vertices_of (l e))
 
   first_key : c.key_at-u.result ≡ g (2 * t.first + t.alike)
   first_key =
-      read_at (r (l c.before.before.before.before.before)) (b (l c.before.before.before.before.before)) c.number.result t.first t.alike c.key_at-u.result (first_low c.before.before.before.before.before) alike_low
-      (c.number.ensures.0 ∙ by_half c.before.before.before.before.before t.first) c.key_at-u.ensures
+      read_at (r (l e)) (b (l e)) c.number.result t.first t.alike c.key_at-u.result (first_low e) alike_low
+      (c.number.ensures.0 ∙ by_half e t.first) c.key_at-u.ensures
 
   second_key : c.key_at-v.result ≡ g (2 * t.second + t.alike)
   second_key =
-      read_at (r (l c.before.before.before.before.before)) (b (l c.before.before.before.before.before)) c.number-in-loop-s.result t.second t.alike c.key_at-v.result (second_low c.before.before.before.before.before) alike_low
-      (c.number-in-loop-s.ensures.0 ∙ by_half c.before.before.before.before.before t.second) c.key_at-v.ensures
+      read_at (r (l e)) (b (l e)) c.number-in-loop-s.result t.second t.alike c.key_at-v.result (second_low e) alike_low
+      (c.number-in-loop-s.ensures.0 ∙ by_half e t.second) c.key_at-v.ensures
 
-  stepped : Stepped g (length (r (l c.before.before.before.before.before))) t c.pushed-s.result
+  stepped : Stepped g (length (r (l e))) t c.pushed-s.result
   stepped =
-      subst (Stepped g (length (r (l c.before.before.before.before.before))) t) (sym c.pushed-s.ensures)
-      (step g (length (r (l c.before.before.before.before.before))) (round (r (l c.before.before.before.before.before)) (b (l c.before.before.before.before.before))) t (l c.before.before.before.before.before).loop.inv (second_low c.before.before.before.before.before) alike_low
+      subst (Stepped g (length (r (l e))) t) (sym c.pushed-s.ensures)
+      (step g (length (r (l e))) (round (r (l e)) (b (l e))) t (l e).loop-s.invariant (second_low e) alike_low
       c.key_at-u.result c.key_at-v.result first_key second_key)
 
-  in_reach : 2 * t.first + 2 * t.second + t.alike < 3 * length (xs (l c.before.before.before.before.before))
-  in_reach = omega (arith, first_low c.before.before.before.before.before, second_low c.before.before.before.before.before, short c.before.before.before.before.before, vertices_of (l c.before.before.before.before.before))
+  in_reach : 2 * t.first + 2 * t.second + t.alike < 3 * length (xs (l e))
+  in_reach = omega (arith, first_low e, second_low e, short e, vertices_of (l e))
 
 -- a number that grows from below m leaves less of m
 left_falls : (m a b : ℕ) → a < b → a < m → m - b < m - a
@@ -120,10 +126,10 @@ pub returns-then-s-ring : goal.returns-then-s-ring
 returns-then-s-ring c = same_end c.before.before.before.before c.if-s-ring.true
 
 pub key_at-u-requires : goal.key_at-u-requires
-key_at-u-requires c = record { lent = (st (l c.before)).pre.0; c_in_bounds = ((omega (arith, c.number.ensures.1, vertices_of (l c.before))), short c.before) }
+key_at-u-requires c = record { lent = (st (l c.before)).requires.lent; c_in_bounds = ((omega (arith, c.number.ensures.1, vertices_of (l c.before))), short c.before) }
 
 pub key_at-v-requires : goal.key_at-v-requires
-key_at-v-requires c = record { lent = (st (l c.before.before.before)).pre.0; c_in_bounds = ((omega (arith, c.number-in-loop-s.ensures.1, vertices_of (l c.before.before.before))), short c.before.before.before) }
+key_at-v-requires c = record { lent = (st (l c.before.before.before)).requires.lent; c_in_bounds = ((omega (arith, c.number-in-loop-s.ensures.1, vertices_of (l c.before.before.before))), short c.before.before.before) }
 
 pub pushed-s-requires : goal.pushed-s-requires
 pushed-s-requires c =
@@ -139,7 +145,7 @@ loop-s-preserved c = (stepped c).still
 pub overflow_add-result : goal.overflow_add-result
 overflow_add-result c =
     let h = half c.before.before.before in
-    let m = (st c.before.before.before).requires.0.0.most in
+    let m = (st c.before.before.before).requires.lent.0.most in
     let i = start_low (r c.before.before.before) (some c.before.before.before) (s c.before.before.before).first ((s c.before.before.before).first + length (r c.before.before.before)) (b c.before.before.before) (past_end c.before.before.before c.loop-s-test.false) in
     sum_fits (s c.before.before.before).first (length (xs c.before.before.before) / 2) (omega arith) (omega arith)
 

@@ -6,13 +6,8 @@ use native.Mathlib.Omega.{arith}
 use native.Mathlib.Nat.{pow-succ', one-le-pow, zero-lt-suc}
 use Rattle.square_root.specs.Root.{Pair, takes}
 use Rattle.square_root.proofs.Pairs.{Found, next_found, short, done, square}
+use Rattle.square_root.proofs.digits.Invariants.{Inv}
 use Rattle.square_root.proofs.digits.Goals as goal
-
-record Inv (m root left place : ℕ) : Type 0 where
-  power : ℕ
-  is : place ≡ 4 ^ power
-  most : place ≤ 2 ^ 54
-  found : Found (m * 2 ^ 54) place root left
 
 -- ---- a turn, on plain numbers
 -- a power of 4 above 1 is four times another

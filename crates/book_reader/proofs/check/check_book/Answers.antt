@@ -14,8 +14,8 @@ use Rattle.book_reader.proofs.Files.{Tail, tail_passed, after_tail, after_list, 
 use Rattle.book_reader.proofs.check.check_book.Goals as goal
 use Rattle.book_reader.proofs.check.check_book.Goals.{After-check_coords-coords, After-check_entries-list, After-ring_count-k, Else-not-passed, Else-not-passed-2}
 
-abbrev file : tie.Else1 → List ℕ
-file c = c.before.before.before.before.args.f.now
+abbrev file : Else-not-passed → List ℕ
+file c = c.args.f.now
 
 -- the last fields are right
 tail : (c : Else-not-passed) → Tail (file c)
@@ -24,9 +24,11 @@ tail c =
 
 -- the two numbers that it goes on with
 module _ (c : After-ring_count-k) where
+  abbrev one : Else-not-passed
+  one = c.before.before
 
   abbrev f : List ℕ
-  f = file c.before.before
+  f = file one
 
   abbrev from : ℕ
   from = c.entry_offset-from.result

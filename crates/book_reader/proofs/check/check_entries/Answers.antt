@@ -16,25 +16,27 @@ use Rattle.refusals.specs.Refusals.{none}
 use Rattle.refusals.proofs.Counts.{is_within}
 use Rattle.book_reader.proofs.Entries.{offset_bad, count_bad, entry_good, total_left, entries_start, entries_end, fields_start, total_end, list_wrong, list_long, list_fine}
 use Rattle.book_reader.proofs.check.check_entries.Goals as goal
-use Rattle.book_reader.proofs.check.check_entries.Goals.{After-is_right, After-is_right-in-loop-i, After-loop-i, Else-not-is_right, Else-not-is_right-2}
+use Rattle.book_reader.proofs.check.check_entries.Goals.{After-is_right, After-is_right-in-loop-i, After-loop-i, At-loop-i, Else-not-is_right, Else-not-is_right-2}
 
 -- the entry of this turn: what was asked of its offset, and of its vertices
 module _ (c : After-is_right) where
+  abbrev l : At-loop-i
+  l = c.before.before.before
 
   abbrev f : List ℕ
-  f = c.args.f.now
+  f = l.args.f.now
 
   abbrev from : ℕ
-  from = c.args.from
+  from = l.args.from
 
   abbrev k : ℕ
-  k = c.args.k
+  k = l.args.k
 
   abbrev i : ℕ
-  i = c.loop-i.i
+  i = l.loop-i.i
 
   abbrev before : ℕ
-  before = c.loop-i.before
+  before = l.loop-i.before
 
   abbrev turn : i < k
   turn = c.loop-i-test.true
@@ -51,9 +53,11 @@ offset_right c = sym (offset_asked c.before) ∙ not-false c.is_right.result c.i
 
 -- the vertices are right
 module _ (c : Else-not-is_right-2) where
+  abbrev a : After-is_right
+  a = c.before.before.before.before
 
   abbrev n : ℕ
-  n = number_of (take field_bytes (drop (from c.before.before.before.before + entry_bytes * i c.before.before.before.before + field_bytes) (f c.before.before.before.before)))
+  n = number_of (take field_bytes (drop (from a + entry_bytes * i a + field_bytes) (f a)))
 
   is_n : c.number4-n.result ≡ n
   is_n = c.number4-n.ensures.0
@@ -86,13 +90,13 @@ pub returns-then-not-is_right : goal.returns-then-not-is_right
 returns-then-not-is_right c =
     c.fault.ensures
     ∙ list_wrong (f c.before.before) (from c.before.before) (k c.before.before) (from c.before.before + entry_bytes * i c.before.before)
-    ((l c.before.before).loop.invariant.2 ∙ offset_bad (f c.before.before) (from c.before.before) (k c.before.before) (i c.before.before) (before c.before.before) (turn c.before.before) (sym (offset_asked c.before.before) ∙ not-true c.is_right.result c.if-not-is_right.true))
+    ((l c.before.before).loop-i.invariant.2 ∙ offset_bad (f c.before.before) (from c.before.before) (k c.before.before) (i c.before.before) (before c.before.before) (turn c.before.before) (sym (offset_asked c.before.before) ∙ not-true c.is_right.result c.if-not-is_right.true))
 
 pub returns-then-not-is_right-2 : goal.returns-then-not-is_right-2
 returns-then-not-is_right-2 c =
     c.fault-then-not-is_right-2.ensures
     ∙ list_wrong (f c.before.before.before.before.before) (from c.before.before.before.before.before) (k c.before.before.before.before.before) (from c.before.before.before.before.before + entry_bytes * i c.before.before.before.before.before + field_bytes)
-    ((l c.before.before.before.before.before).loop.invariant.2 ∙ count_bad (f c.before.before.before.before.before) (from c.before.before.before.before.before) (k c.before.before.before.before.before) (i c.before.before.before.before.before) (before c.before.before.before.before.before) (turn c.before.before.before.before.before) (offset_right c.before.before.before.before) (sym (vertices_asked c.before.before) ∙ not-true c.is_right-in-loop-i.result c.if-not-is_right-2.true))
+    ((l c.before.before.before.before.before).loop-i.invariant.2 ∙ count_bad (f c.before.before.before.before.before) (from c.before.before.before.before.before) (k c.before.before.before.before.before) (i c.before.before.before.before.before) (before c.before.before.before.before.before) (turn c.before.before.before.before.before) (offset_right c.before.before.before.before) (sym (vertices_asked c.before.before) ∙ not-true c.is_right-in-loop-i.result c.if-not-is_right-2.true))
 
 pub overflow_mul-before : goal.overflow_mul-before
 overflow_mul-before c = omega (arith, is_n c, small c)
@@ -104,11 +108,11 @@ pub loop-i-preserved : goal.loop-i-preserved
 loop-i-preserved c =
     (
       (omega arith),
-      (omega (arith, is_n c, small c, (l c.before.before.before.before).loop.invariant.1)),
-      (l c.before.before.before.before).loop.invariant.2
+      (omega (arith, is_n c, small c, (l c.before.before.before.before).loop-i.invariant.1)),
+      (l c.before.before.before.before).loop-i.invariant.2
           ∙ entry_good (f c.before.before.before.before) (from c.before.before.before.before) (k c.before.before.before.before) (i c.before.before.before.before) (before c.before.before.before.before) (turn c.before.before.before.before) (offset_right c.before.before.before) (right c)
           ∙ ap (λ (j : ℕ). entries_check (k c.before.before.before.before - (i c.before.before.before.before + 1)) (from c.before.before.before.before + entry_bytes * (i c.before.before.before.before + 1)) (before c.before.before.before.before + vertex_bytes * j) (drop (from c.before.before.before.before + entry_bytes * (i c.before.before.before.before + 1)) (f c.before.before.before.before))) (sym (is_n c)),
-      (omega (arith, is_n c, (l c.before.before.before.before).loop.invariant.3, total_left (f c.before.before.before.before) (from c.before.before.before.before) (k c.before.before.before.before) (i c.before.before.before.before) (before c.before.before.before.before) (turn c.before.before.before.before))),
+      (omega (arith, is_n c, (l c.before.before.before.before).loop-i.invariant.3, total_left (f c.before.before.before.before) (from c.before.before.before.before) (k c.before.before.before.before) (i c.before.before.before.before) (before c.before.before.before.before) (turn c.before.before.before.before))),
     )
 
 pub returns-then-before-from : goal.returns-then-before-from

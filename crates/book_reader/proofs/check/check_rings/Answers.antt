@@ -15,25 +15,27 @@ use Rattle.book_layout.specs.Faults.{◌passes, entries_check, coords_check, lea
 use Rattle.book_reader.proofs.Entries.{entry_held, total_left, entries_start, fields_start, fields_end, list_passed}
 use Rattle.book_reader.proofs.Rings.{coords_next, least_good, least_bad, least_end}
 use Rattle.book_reader.proofs.check.check_rings.Goals as goal
-use Rattle.book_reader.proofs.check.check_rings.Goals.{After-is_least_at, After-number4-n}
+use Rattle.book_reader.proofs.check.check_rings.Goals.{After-is_least_at, After-number4-n, At-loop-i}
 
 -- the ring of this turn
 module _ (c : After-number4-n) where
+  abbrev l : At-loop-i
+  l = c.before.before
 
   abbrev f : List ℕ
-  f = c.args.f.now
+  f = l.args.f.now
 
   abbrev from : ℕ
-  from = c.args.from
+  from = l.args.from
 
   abbrev k : ℕ
-  k = c.args.k
+  k = l.args.k
 
   abbrev i : ℕ
-  i = c.loop-i.i
+  i = l.loop-i.i
 
   abbrev at : ℕ
-  at = c.loop-i.at
+  at = l.loop-i.at
 
   abbrev turn : i < k
   turn = c.loop-i-test.true
@@ -48,13 +50,13 @@ module _ (c : After-number4-n) where
   is_n = c.number4-n.ensures.0
 
   entry : (vertices_least ≤ n) × (n ≤ vertices_most) × (entries_check (k - (i + 1)) (from + entry_bytes * (i + 1)) (at + vertex_bytes * n) (drop (from + entry_bytes * (i + 1)) f) passes)
-  entry = entry_held f from k i at turn c.loop-i.inv.3
+  entry = entry_held f from k i at turn l.loop-i.invariant.3
 
   left : at + vertex_bytes * n + vertex_bytes * total rest ≡ from
-  left = omega (arith, total_left f from k i at turn, c.loop-i.inv.2)
+  left = omega (arith, total_left f from k i at turn, l.loop-i.invariant.2)
 
   coords : (coords_check (2 * n) at (drop at f) passes) × (coords_check (2 * total rest) (at + vertex_bytes * n) (drop (at + vertex_bytes * n) f) passes)
-  coords = coords_next f from k i at turn c.loop-i.inv.4
+  coords = coords_next f from k i at turn l.loop-i.invariant.4
 
 -- what was asked of it
 asked : (c : After-is_least_at) → c.is_least_at.result ≡ is_least (vertices (coords_in (2 * n c.before) (drop (at c.before) (f c.before))))
@@ -84,7 +86,7 @@ is_least_at-requires c =
 pub returns-then-not-is_least_at : goal.returns-then-not-is_least_at
 returns-then-not-is_least_at c =
     c.fault.ensures
-    ∙ sym ((l c.before.before.before).loop.invariant.1 ∙ least_bad (f c.before.before.before) (from c.before.before.before) (k c.before.before.before) (i c.before.before.before) (at c.before.before.before) (turn c.before.before.before) (sym (asked c.before.before) ∙ not-true c.is_least_at.result c.if-not-is_least_at.true))
+    ∙ sym ((l c.before.before.before).loop-i.invariant.1 ∙ least_bad (f c.before.before.before) (from c.before.before.before) (k c.before.before.before) (i c.before.before.before) (at c.before.before.before) (turn c.before.before.before) (sym (asked c.before.before) ∙ not-true c.is_least_at.result c.if-not-is_least_at.true))
 
 pub overflow_mul-at : goal.overflow_mul-at
 overflow_mul-at c = omega (arith, is_n c.before.before, (entry c.before.before).1)
@@ -96,7 +98,7 @@ pub loop-i-preserved : goal.loop-i-preserved
 loop-i-preserved c =
     (
       (omega arith),
-      (l c.before.before).loop.invariant.1
+      (l c.before.before).loop-i.invariant.1
           ∙ least_good (f c.before.before) (from c.before.before) (k c.before.before) (i c.before.before) (at c.before.before) (turn c.before.before) (sym (asked c.before) ∙ not-false c.is_least_at.result c.if-not-is_least_at.false)
           ∙ ap (λ (j : ℕ). least_check (rest c.before.before) (at c.before.before + vertex_bytes * j) (drop (at c.before.before + vertex_bytes * j) (f c.before.before))) (sym (is_n c.before.before)),
       (omega (arith, is_n c.before.before, left c.before.before)),

@@ -10,28 +10,30 @@ use Rattle.reading.specs.Lent.{ring_of, Lent}
 use Rattle.book_layout.specs.Layout.{coords_in}
 use Rattle.book_reader.proofs.Rings.{loaded_length, loaded_lent, loaded_ring}
 use Rattle.book_reader.proofs.check.is_least_at.Goals as goal
-use Rattle.book_reader.proofs.check.is_least_at.Goals.{After-load}
+use Rattle.book_reader.proofs.check.is_least_at.Goals.{After-load, Start}
 
 -- the three laws of what `load` left
 module _ (c : After-load) where
+  abbrev s : Start
+  s = c.before.before.before
 
   abbrev r : List Float
   r = c.load.new.room
 
-  long : length (take (2 * c.args.n) r) ≡ 2 * c.args.n
-  long = loaded_length c.args.f.now (λ i. omega (arith, c.type_inv.f.given i)) c.args.at c.args.n c.requires.n_in_bounds.0 c.requires.n_in_bounds.2 c.requires.coords_check (replicate 512 (of_bits binary64 0)) r refl c.load.ensures
+  long : length (take (2 * s.args.n) r) ≡ 2 * s.args.n
+  long = loaded_length s.args.f.now (λ i. omega (arith, c.type_inv.f.given i)) s.args.at s.args.n s.requires.n_in_bounds.0 s.requires.n_in_bounds.2 s.requires.coords_check (replicate 512 (of_bits binary64 0)) r refl c.load.ensures
 
-  lent : Lent (take (2 * c.args.n) r)
-  lent = loaded_lent c.args.f.now (λ i. omega (arith, c.type_inv.f.given i)) c.args.at c.args.n c.requires.n_in_bounds.0 c.requires.n_in_bounds.2 c.requires.coords_check (replicate 512 (of_bits binary64 0)) r refl c.load.ensures
+  lent : Lent (take (2 * s.args.n) r)
+  lent = loaded_lent s.args.f.now (λ i. omega (arith, c.type_inv.f.given i)) s.args.at s.args.n s.requires.n_in_bounds.0 s.requires.n_in_bounds.2 s.requires.coords_check (replicate 512 (of_bits binary64 0)) r refl c.load.ensures
 
-  ring : ring_of (take (2 * c.args.n) r) ≡ vertices (coords_in (2 * c.args.n) (drop c.args.at c.args.f.now))
-  ring = loaded_ring c.args.f.now (λ i. omega (arith, c.type_inv.f.given i)) c.args.at c.args.n c.requires.n_in_bounds.0 c.requires.n_in_bounds.2 c.requires.coords_check (replicate 512 (of_bits binary64 0)) r refl c.load.ensures
+  ring : ring_of (take (2 * s.args.n) r) ≡ vertices (coords_in (2 * s.args.n) (drop s.args.at s.args.f.now))
+  ring = loaded_ring s.args.f.now (λ i. omega (arith, c.type_inv.f.given i)) s.args.at s.args.n s.requires.n_in_bounds.0 s.requires.n_in_bounds.2 s.requires.coords_check (replicate 512 (of_bits binary64 0)) r refl c.load.ensures
 
 pub slice_bounds-is_least-end : goal.slice_bounds-is_least-end
 slice_bounds-is_least-end c = sym (long c.before.before)
 
 pub is_least-requires : goal.is_least-requires
-is_least-requires c = record { lent = lent c.before.before; ring_nonzero = (omega (arith, long c.before.before, (s c.before.before).requires.0.1)) }
+is_least-requires c = record { lent = lent c.before.before; ring_nonzero = (omega (arith, long c.before.before, (s c.before.before).requires.n_in_bounds.1)) }
 
 pub returns : goal.returns
 returns c = c.is_least.ensures ∙ ap is_least (ring c.before.before.before)

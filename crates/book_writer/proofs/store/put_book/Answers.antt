@@ -13,28 +13,30 @@ use Rattle.refusals.proofs.Counts.{total_bounds}
 use Rattle.book_writer.proofs.Storing.{stored}
 use Rattle.book_writer.proofs.Stored.{four_runs}
 use Rattle.book_writer.proofs.store.put_book.Goals as goal
-use Rattle.book_writer.proofs.store.put_book.Goals.{After-put, After-put_entries, After-put_rings, After-sum_of-from}
+use Rattle.book_writer.proofs.store.put_book.Goals.{After-put, After-put_entries, After-put_rings, After-sum_of-from, Start}
 
 -- what is lent, the sum, and that it is small
 module _ (c : After-sum_of-from) where
+  abbrev s : Start
+  s = c.before.before.before.before.before
 
   abbrev xs : List Float
-  xs = c.args.xs.now
+  xs = s.args.xs.now
 
   abbrev ns : List ℕ
-  ns = c.args.counts.now
+  ns = s.args.counts.now
 
   abbrev ps : List ℕ
-  ps = c.args.parts.now
+  ps = s.args.parts.now
 
   abbrev room : List ℕ
-  room = c.args.room.now
+  room = s.args.room.now
 
   sum : c.sum_of-from.result ≡ total ns
   sum = c.sum_of-from.ensures.value
 
   small : total ns ≤ vertices_most * length ns
-  small = (total_bounds ns c.requires.held.sized).1
+  small = (total_bounds ns s.requires.held.sized).1
 
 -- the room after each run
 first_run : (c : After-put_rings) → c.put_rings.new.room ≡ sets (room c.before.before) 0 (stored (ns c.before.before) (xs c.before.before))
@@ -71,24 +73,24 @@ put_rings-requires c =
     record { counts_value = (h.sized, h.whole, h.bounded); xs_in_bounds = (omega (arith, h.whole)) }
 
 pub put_entries-requires : goal.put_entries-requires
-put_entries-requires c = record { counts_len_bound = ((s c.before.before.before.before.before).requires.0.few, (omega (arith, first_length c.before.before.before, sum c.before.before.before.before.before, (s c.before.before.before.before.before).requires.1))); counts_bound = ((omega (arith, small c.before.before.before.before.before, (s c.before.before.before.before.before).requires.0.few)), (s c.before.before.before.before.before).requires.0.many) }
+put_entries-requires c = record { counts_len_bound = ((s c.before.before.before.before.before).requires.held.few, (omega (arith, first_length c.before.before.before, sum c.before.before.before.before.before, (s c.before.before.before.before.before).requires.counts_in_bounds))); counts_bound = ((omega (arith, small c.before.before.before.before.before, (s c.before.before.before.before.before).requires.held.few)), (s c.before.before.before.before.before).requires.held.many) }
 
 pub put-requires : goal.put-requires
 put-requires c =
-    omega (arith, second_length c.before.before.before, sum c.before.before.before.before.before.before.before.before.before, (s c.before.before.before.before.before.before.before.before.before).requires.1)
+    omega (arith, second_length c.before.before.before, sum c.before.before.before.before.before.before.before.before.before, (s c.before.before.before.before.before.before.before.before.before).requires.counts_in_bounds)
 
 pub overflow_add-tail-2 : goal.overflow_add-tail-2
 overflow_add-tail-2 c =
-    omega (arith, sum c.before.before.before.before.before.before.before.before.before.before.before.before.before, small c.before.before.before.before.before.before.before.before.before.before.before.before.before, (s c.before.before.before.before.before.before.before.before.before.before.before.before.before).requires.0.few)
+    omega (arith, sum c.before.before.before.before.before.before.before.before.before.before.before.before.before, small c.before.before.before.before.before.before.before.before.before.before.before.before.before, (s c.before.before.before.before.before.before.before.before.before.before.before.before.before).requires.held.few)
 
 pub put-requires-2 : goal.put-requires-2
 put-requires-2 c =
     let n = length (ns c.before.before.before.before.before.before.before.before.before.before.before.before.before) in
-    omega (arith, ap length (third_run c.before.before.before) ∙ length-sets c.put_entries.new.room (vertex_bytes * total (ns c.before.before.before.before.before.before.before.before.before.before.before.before.before) + entry_bytes * n) (bytes_of field_bytes n) ∙ second_length c.before.before.before.before.before.before.before, sum c.before.before.before.before.before.before.before.before.before.before.before.before.before, (s c.before.before.before.before.before.before.before.before.before.before.before.before.before).requires.1)
+    omega (arith, ap length (third_run c.before.before.before) ∙ length-sets c.put_entries.new.room (vertex_bytes * total (ns c.before.before.before.before.before.before.before.before.before.before.before.before.before) + entry_bytes * n) (bytes_of field_bytes n) ∙ second_length c.before.before.before.before.before.before.before, sum c.before.before.before.before.before.before.before.before.before.before.before.before.before, (s c.before.before.before.before.before.before.before.before.before.before.before.before.before).requires.counts_in_bounds)
 
 pub overflow_add-result : goal.overflow_add-result
 overflow_add-result c =
-    omega (arith, sum c.before.before.before.before.before.before.before.before.before.before.before.before.before.before.before.before, small c.before.before.before.before.before.before.before.before.before.before.before.before.before.before.before.before, (s c.before.before.before.before.before.before.before.before.before.before.before.before.before.before.before.before).requires.0.few)
+    omega (arith, sum c.before.before.before.before.before.before.before.before.before.before.before.before.before.before.before.before, small c.before.before.before.before.before.before.before.before.before.before.before.before.before.before.before.before, (s c.before.before.before.before.before.before.before.before.before.before.before.before.before.before.before.before).requires.held.few)
 
 pub returns : goal.returns
 returns c =
@@ -96,4 +98,4 @@ returns c =
     let n = length (ns c.before.before.before.before.before.before.before.before.before.before.before.before.before.before.before.before) in record { value = (omega (arith, sum c.before.before.before.before.before.before.before.before.before.before.before.before.before.before.before.before)); room_after = c.put-2.ensures
           ∙ ap (λ (j : ℕ). sets c.put.new.room (vertex_bytes * j + entry_bytes * n + field_bytes) (bytes_of field_bytes (vertex_bytes * j))) (sum c.before.before.before.before.before.before.before.before.before.before.before.before.before.before.before.before)
           ∙ ap (λ (r : List ℕ). sets r (f + entry_bytes * n + field_bytes) (bytes_of field_bytes f)) (third_run c.before.before.before.before.before.before ∙ ap (λ (r : List ℕ). sets r (f + entry_bytes * n) (bytes_of field_bytes n)) (second_run c.before.before.before.before.before.before.before.before.before.before ∙ ap (λ (r : List ℕ). sets r f (entries 0 (ns c.before.before.before.before.before.before.before.before.before.before.before.before.before.before.before.before) (ps c.before.before.before.before.before.before.before.before.before.before.before.before.before.before.before.before))) (first_run c.before.before.before.before.before.before.before.before.before.before.before.before.before.before)))
-          ∙ four_runs (xs c.before.before.before.before.before.before.before.before.before.before.before.before.before.before.before.before) (ns c.before.before.before.before.before.before.before.before.before.before.before.before.before.before.before.before) (ps c.before.before.before.before.before.before.before.before.before.before.before.before.before.before.before.before) (room c.before.before.before.before.before.before.before.before.before.before.before.before.before.before.before.before) (s c.before.before.before.before.before.before.before.before.before.before.before.before.before.before.before.before).requires.0.sized (s c.before.before.before.before.before.before.before.before.before.before.before.before.before.before.before.before).requires.0.whole (s c.before.before.before.before.before.before.before.before.before.before.before.before.before.before.before.before).requires.0.many (s c.before.before.before.before.before.before.before.before.before.before.before.before.before.before.before.before).requires.1 }
+          ∙ four_runs (xs c.before.before.before.before.before.before.before.before.before.before.before.before.before.before.before.before) (ns c.before.before.before.before.before.before.before.before.before.before.before.before.before.before.before.before) (ps c.before.before.before.before.before.before.before.before.before.before.before.before.before.before.before.before) (room c.before.before.before.before.before.before.before.before.before.before.before.before.before.before.before.before) (s c.before.before.before.before.before.before.before.before.before.before.before.before.before.before.before.before).requires.held.sized (s c.before.before.before.before.before.before.before.before.before.before.before.before.before.before.before.before).requires.held.whole (s c.before.before.before.before.before.before.before.before.before.before.before.before.before.before.before.before).requires.held.many (s c.before.before.before.before.before.before.before.before.before.before.before.before.before.before.before.before).requires.counts_in_bounds }

@@ -16,27 +16,29 @@ use Rattle.refusals.proofs.Counts.{total_on, sized_here}
 use Rattle.book_writer.proofs.Storing.{stored, rings_on, rings_end}
 use Rattle.book_writer.proofs.Part.{part_is, part_length, part_lent}
 use Rattle.book_writer.proofs.store.put_rings.Goals as goal
-use Rattle.book_writer.proofs.store.put_rings.Goals.{In-loop-i}
+use Rattle.book_writer.proofs.store.put_rings.Goals.{At-loop-i, In-loop-i}
 
 -- the ring of this turn
 module _ (c : In-loop-i) where
+  abbrev l : At-loop-i
+  l = c.before
 
   abbrev xs : List Float
-  xs = c.args.xs.now
+  xs = l.args.xs.now
 
   abbrev ns : List ℕ
-  ns = c.args.counts.now
+  ns = l.args.counts.now
 
   abbrev n : ℕ
-  n = get_or ns c.loop-i.i 0
+  n = get_or ns l.loop-i.i 0
 
-  sized : (vertices_least ≤ n) × (n ≤ vertices_most) × (sized_all (drop (c.loop-i.i + 1) ns) ≡ true)
-  sized = sized_here ns c.loop-i.i c.loop-i-test.true c.loop-i.inv.3
+  sized : (vertices_least ≤ n) × (n ≤ vertices_most) × (sized_all (drop (l.loop-i.i + 1) ns) ≡ true)
+  sized = sized_here ns l.loop-i.i c.loop-i-test.true l.loop-i.invariant.3
 
-  left : c.loop-i.at + 2 * n + 2 * total (drop (c.loop-i.i + 1) ns) ≡ length xs
-  left = omega (arith, total_on ns c.loop-i.i c.loop-i-test.true, c.loop-i.inv.2)
+  left : l.loop-i.at + 2 * n + 2 * total (drop (l.loop-i.i + 1) ns) ≡ length xs
+  left = omega (arith, total_on ns l.loop-i.i c.loop-i-test.true, l.loop-i.invariant.2)
 
-  inside : (n ≤ vertices_most) × (c.loop-i.at + 2 * n ≤ length xs)
+  inside : (n ≤ vertices_most) × (l.loop-i.at + 2 * n ≤ length xs)
   inside = (sized.1, (omega (arith, left)))
 
 pub loop-i-init : goal.loop-i-init
@@ -72,25 +74,25 @@ pub put_least-requires : goal.put_least-requires
 put_least-requires c =
     let s = (l c.before.before.before).before.before.before.before in
     let t = s.pre.0.2 in
-    let z = part_length (xs c.before.before.before) (l c.before.before.before).loop.at (n c.before.before.before) t (inside c.before.before.before).1 in (
-      part_lent (xs c.before.before.before) (l c.before.before.before).loop.at (n c.before.before.before) t (inside c.before.before.before).1 (inside c.before.before.before).0,
-      ((omega (arith, (sized c.before.before.before).0)), (omega (arith, (inside c.before.before.before).1, s.pre.1, (l c.before.before.before).loop.invariant.1))),
+    let z = part_length (xs c.before.before.before) (l c.before.before.before).loop-i.at (n c.before.before.before) t (inside c.before.before.before).1 in (
+      part_lent (xs c.before.before.before) (l c.before.before.before).loop-i.at (n c.before.before.before) t (inside c.before.before.before).1 (inside c.before.before.before).0,
+      ((omega (arith, (sized c.before.before.before).0)), (omega (arith, (inside c.before.before.before).1, s.pre.1, (l c.before.before.before).loop-i.invariant.1))),
     )
 
 pub loop-i-preserved : goal.loop-i-preserved
 loop-i-preserved c =
-    let at = (l c.before.before.before.before.before.before).loop.at in
-    let i = (l c.before.before.before.before.before.before).loop.i in
-    let room = (l c.before.before.before.before.before.before).loop.room in
+    let at = (l c.before.before.before.before.before.before).loop-i.at in
+    let i = (l c.before.before.before.before.before.before).loop-i.i in
+    let room = (l c.before.before.before.before.before.before).loop-i.room in
     let u = coord_bytes (flat (least_reading (ring_of (take (2 * n c.before.before.before.before.before.before) (drop at (xs c.before.before.before.before.before.before)))))) in
     let e : c.put_least.new.room ≡ sets room (coordinate_bytes * at) u =
     c.put_least.ensures
-    ∙ ap (λ (p : List Float). sets room (coordinate_bytes * at) (coord_bytes (flat (least_reading (ring_of p))))) (part_is (xs c.before.before.before.before.before.before) at (n c.before.before.before.before.before.before) (l c.before.before.before.before.before.before).before.before.before.before.requires.0.2 (inside c.before.before.before.before.before.before).1) in (
+    ∙ ap (λ (p : List Float). sets room (coordinate_bytes * at) (coord_bytes (flat (least_reading (ring_of p))))) (part_is (xs c.before.before.before.before.before.before) at (n c.before.before.before.before.before.before) (l c.before.before.before.before.before.before).requires.counts_value.2 (inside c.before.before.before.before.before.before).1) in (
       (omega arith),
-      ap length e ∙ length-sets room (coordinate_bytes * at) u ∙ (l c.before.before.before.before.before.before).loop.invariant.1,
+      ap length e ∙ length-sets room (coordinate_bytes * at) u ∙ (l c.before.before.before.before.before.before).loop-i.invariant.1,
       left c.before.before.before.before.before.before,
       (sized c.before.before.before.before.before.before).2,
-      (l c.before.before.before.before.before.before).loop.invariant.4
+      (l c.before.before.before.before.before.before).loop-i.invariant.4
           ∙ rings_on room (ns c.before.before.before.before.before.before) (xs c.before.before.before.before.before.before) at i c.loop-i-test.true (omega (arith, (sized c.before.before.before.before.before.before).0)) (inside c.before.before.before.before.before.before).1
           ∙ ap (λ (r : List ℕ). sets r (coordinate_bytes * (at + 2 * n c.before.before.before.before.before.before)) (stored (drop (i + 1) (ns c.before.before.before.before.before.before)) (drop (at + 2 * n c.before.before.before.before.before.before) (xs c.before.before.before.before.before.before)))) (sym e),
     )

@@ -14,7 +14,7 @@ use Rattle.discs.proofs.calls.answer.Goals.{After-first-no, Start}
 most : (c : Start) → c.args.m ≤ 64
 most c = quarter_most c.args.m c.requires
 
-abbrev start : tie.After-first → tie.Start
+abbrev start : After-first-no → Start
 start c = c.before.before.before.before.before.before.before.before
 
 -- what the tests found is what the definition says
