@@ -42,21 +42,21 @@ pub returns-then-u-v : goal.returns-then-u-v
 returns-then-u-v c =
     let u = c.key_at-u.ensures in
     let v = c.key_at-v.ensures in
-    sym ((l c.before).loop-j.invariant.1 ∙ left_lower (p c.before) (q c.before) (l c.before).loop-j.j (in_first c.before) (in_second c.before) (omega (arith, c.if-u-v.true)))
+    sym ((l c.before.before).loop-j.invariant.1 ∙ left_lower (p c.before.before) (q c.before.before) (l c.before.before).loop-j.j (in_first c.before.before) (in_second c.before.before) (omega (arith, c.if-u-v.true)))
 
 pub returns-then-v-u : goal.returns-then-v-u
 returns-then-v-u c =
     let u = c.key_at-u.ensures in
     let v = c.key_at-v.ensures in
-    sym ((l c.before.before).loop-j.invariant.1 ∙ left_higher (p c.before.before) (q c.before.before) (l c.before.before).loop-j.j (in_first c.before.before) (in_second c.before.before) (omega (arith, c.if-v-u.true)))
+    sym ((l c.before.before.before).loop-j.invariant.1 ∙ left_higher (p c.before.before.before) (q c.before.before.before) (l c.before.before.before).loop-j.j (in_first c.before.before.before) (in_second c.before.before.before) (omega (arith, c.if-v-u.true)))
 
 pub loop-j-preserved : goal.loop-j-preserved
 loop-j-preserved c =
     let u = c.key_at-u.ensures in
     let v = c.key_at-v.ensures in
-    let j = (l c.before.before).loop-j.j in
-    let e : ord (get_or (p c.before.before) j 0) ≡ ord (get_or (q c.before.before) j 0) = omega (arith, c.if-v-u.false, c.if-u-v.false) in
-    ((omega arith), (l c.before.before).loop-j.invariant.1 ∙ left_equal (p c.before.before) (q c.before.before) j (in_first c.before.before) (in_second c.before.before) e)
+    let j = (l c.before.before.before).loop-j.j in
+    let e : ord (get_or (p c.before.before.before) j 0) ≡ ord (get_or (q c.before.before.before) j 0) = omega (arith, c.if-v-u.false, c.if-u-v.false) in
+    ((omega arith), (l c.before.before.before).loop-j.invariant.1 ∙ left_equal (p c.before.before.before) (q c.before.before.before) j (in_first c.before.before.before) (in_second c.before.before.before) e)
 
 pub returns : goal.returns
 returns c =

@@ -15,11 +15,12 @@ use Rattle.reading.proofs.Places.{length_ringOf}
 use Rattle.reading.proofs.Ways.{on_low, back_low, number_within, all_back, all_on}
 use Rattle.reading.proofs.least_in.Goals as goal
 use Rattle.reading.proofs.least_in.Goals.{After-settle-back, Start}
+use Rattle.reading.proofs.least_in.Lts.View.{up-After-settle-back}
 
 -- both directions are settled
 module _ (c : After-settle-back) where
   abbrev s : Start
-  s = c.before.before.before.before.before.before.before.before
+  s = c.before.before.before.before.before.before.before.before.before
 
   abbrev xs : List Float
   xs = s.args.ring.now
@@ -70,20 +71,20 @@ module _ (c : After-settle-back) where
   b_fits = omega (arith, b_low, s.requires.lent.most)
 
 pub overflow_sub-b-2 : goal.overflow_sub-b-2
-overflow_sub-b-2 c = p_low c.before
+overflow_sub-b-2 c = p_low (up-After-settle-back _ _ _ _ c.before.before)
 
 pub overflow_add-b : goal.overflow_add-b
-overflow_add-b c = b_fits c.before.before
+overflow_add-b c = b_fits (up-After-settle-back _ _ _ _ c.before.before.before)
 
 pub before-requires : goal.before-requires
-before-requires c = record { lent = ((s c.before.before).requires.lent, c.fill.ensures); a_in_bounds = (b_low c.before.before, i_low c.before.before) }
+before-requires c = record { lent = ((s (up-After-settle-back _ _ _ _ c.before.before.before)).requires.lent, c.fill.ensures); a_in_bounds = (b_low (up-After-settle-back _ _ _ _ c.before.before.before), i_low (up-After-settle-back _ _ _ _ c.before.before.before)) }
 
 pub returns-then-before : goal.returns-then-before
 returns-then-before c =
     let e = sym c.before-2.ensures ∙ c.if-before.true in
-    (all_back (r c.before.before.before.before) (some c.before.before.before.before) (n c.before.before.before.before) (i c.before.before.before.before) (j c.before.before.before.before) (p c.before.before.before.before) (q c.before.before.before.before) (half c.before.before.before.before) (onward c.before.before.before.before) (back c.before.before.before.before) e, b_low c.before.before.before.before)
+    (all_back (r (up-After-settle-back _ _ _ _ c.before.before.before.before.before)) (some (up-After-settle-back _ _ _ _ c.before.before.before.before.before)) (n (up-After-settle-back _ _ _ _ c.before.before.before.before.before)) (i (up-After-settle-back _ _ _ _ c.before.before.before.before.before)) (j (up-After-settle-back _ _ _ _ c.before.before.before.before.before)) (p (up-After-settle-back _ _ _ _ c.before.before.before.before.before)) (q (up-After-settle-back _ _ _ _ c.before.before.before.before.before)) (half (up-After-settle-back _ _ _ _ c.before.before.before.before.before)) (onward (up-After-settle-back _ _ _ _ c.before.before.before.before.before)) (back (up-After-settle-back _ _ _ _ c.before.before.before.before.before)) e, b_low (up-After-settle-back _ _ _ _ c.before.before.before.before.before))
 
 pub returns-else-before : goal.returns-else-before
 returns-else-before c =
     let e = sym c.before-2.ensures ∙ c.if-before.false in
-    (all_on (r c.before.before.before.before) (some c.before.before.before.before) (n c.before.before.before.before) (i c.before.before.before.before) (j c.before.before.before.before) (p c.before.before.before.before) (q c.before.before.before.before) (half c.before.before.before.before) (onward c.before.before.before.before) (back c.before.before.before.before) e, i_low c.before.before.before.before)
+    (all_on (r (up-After-settle-back _ _ _ _ c.before.before.before.before.before)) (some (up-After-settle-back _ _ _ _ c.before.before.before.before.before)) (n (up-After-settle-back _ _ _ _ c.before.before.before.before.before)) (i (up-After-settle-back _ _ _ _ c.before.before.before.before.before)) (j (up-After-settle-back _ _ _ _ c.before.before.before.before.before)) (p (up-After-settle-back _ _ _ _ c.before.before.before.before.before)) (q (up-After-settle-back _ _ _ _ c.before.before.before.before.before)) (half (up-After-settle-back _ _ _ _ c.before.before.before.before.before)) (onward (up-After-settle-back _ _ _ _ c.before.before.before.before.before)) (back (up-After-settle-back _ _ _ _ c.before.before.before.before.before)) e, i_low (up-After-settle-back _ _ _ _ c.before.before.before.before.before))

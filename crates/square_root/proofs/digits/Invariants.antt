@@ -7,10 +7,10 @@ use Rattle.square_root.proofs.Pairs.{Found, next_found, short, done, square}
 use Rattle.square_root.proofs.digits.Given as goal
 
 pub record Inv (m root left place : ℕ) : Type 0 where
-  power : ℕ
-  is : place ≡ 4 ^ power
-  most : place ≤ 2 ^ 54
-  found : Found (m * 2 ^ 54) place root left
+  pub power : ℕ
+  pub is : place ≡ 4 ^ power
+  pub most : place ≤ 2 ^ 54
+  pub found : Found (m * 2 ^ 54) place root left
 
 abbrev pub invariant-loop-place : goal.invariant-loop-place
 invariant-loop-place l = Inv l.m l.root l.left l.place
