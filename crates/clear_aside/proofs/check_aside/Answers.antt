@@ -7,11 +7,11 @@ use Rattle.clear_aside.proofs.check_aside.Goals as goal
 
 pub slice_bounds-check-end : goal.slice_bounds-check-end
 slice_bounds-check-end c =
-    sym (length-take-le _ _ (omega (arith, c.put_both.auto.1.1.1.1.1.0)))
+    sym (length-take-le _ _ (omega (arith, c.put_both.auto.start)))
 
 pub slice_bounds-check-end-then-put_both : goal.slice_bounds-check-end-then-put_both
 slice_bounds-check-end-then-put_both c =
-    sym (length-take-le _ _ (omega (arith, c.put_both.auto.1.1.1.1.1.1.0)))
+    sym (length-take-le _ _ (omega (arith, c.put_both.auto.end)))
 
 pub check-requires : goal.check-requires
 check-requires c =

@@ -7,11 +7,11 @@ use Rattle.clear_aside.proofs.search_by.Goals as goal
 
 pub slice_bounds-search-end : goal.slice_bounds-search-end
 slice_bounds-search-end c =
-    sym (length-take-le _ _ (omega (arith, c.put_both.auto.1.1.1.1.1.0)))
+    sym (length-take-le _ _ (omega (arith, c.put_both.auto.start)))
 
 pub slice_bounds-search-end-then-put_both : goal.slice_bounds-search-end-then-put_both
 slice_bounds-search-end-then-put_both c =
-    sym (length-take-le _ _ (omega (arith, c.put_both.auto.1.1.1.1.1.1.0)))
+    sym (length-take-le _ _ (omega (arith, c.put_both.auto.end)))
 
 pub search-requires : goal.search-requires
 search-requires c =
@@ -26,7 +26,7 @@ returns-then-put_both c =
       found_is _ _ _ _ _ _ is c.if-put_both.true holds out.0,
       (
         lines_held _ _ _ _ _ _ is c.if-put_both.true holds _ out.0 out.1,
-        c.search.auto.1.1.1.0,
+        c.search.auto.lines,
       ),
     )
 

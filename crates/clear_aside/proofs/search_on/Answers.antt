@@ -8,6 +8,7 @@ use Rattle.drawn_aside.specs.Found.{found_by, edge_first, least_from}
 use Rattle.clear_aside.proofs.Hows.{how_on, how_clear, how_enclosed, how_end, kept_clear, kept_edge, kept_enclosed}
 use Rattle.clear_aside.proofs.search_on.Goals as goal
 use Rattle.clear_aside.proofs.search_on.Goals.{In-loop-how}
+use Rattle.clear_aside.proofs.search_on.Lts.View.{up-In-loop-how}
 
 before_last : (c : In-loop-how) → c.loop-how.how < 21
 before_last c = omega (arith, c.loop-how-test.true)
@@ -20,7 +21,7 @@ returns-in-Clear c =
     let g = c.args in
     let told = ap ground c.in-Clear.is in
     let found = c.search_by.ensures in (
-      sym (c.loop-how.invariant.1 ∙ how_clear _ _ _ _ (before_last c.before.before.before.before.before.before) found.0 told),
+      sym (c.loop-how.invariant.1 ∙ how_clear _ _ _ _ (before_last (up-In-loop-how _ _ _ _ _ c.before.before.before.before.before.before.before)) found.0 told),
       kept_clear g.st.now g.a.now g.b.now g.from g.to _ _ (found.1.0 told),
     )
 
@@ -29,14 +30,14 @@ loop-how-preserved c =
     let told = ap ground c.in-Edge.is in
     let found = c.search_by.ensures in (
       omega arith,
-      c.loop-how.invariant.1 ∙ how_on _ _ _ _ (before_last c.before.before.before.before.before.before) found.0 told,
+      c.loop-how.invariant.1 ∙ how_on _ _ _ _ (before_last (up-In-loop-how _ _ _ _ _ c.before.before.before.before.before.before.before)) found.0 told,
       found.1.1 ∙ c.loop-how.invariant.2,
     )
 
 pub returns-in-Enclosed : goal.returns-in-Enclosed
 returns-in-Enclosed c =
     let g = c.args in
-    let told = ap ground c.in-Enclosed.is in record { result_value = sym (c.loop-how.invariant.1 ∙ how_enclosed _ _ _ _ (before_last c.before.before.before.before.before.before) c.search_by.ensures.result_value told); kept = kept_enclosed g.st.now g.a.now g.b.now g.from g.to _ _ }
+    let told = ap ground c.in-Enclosed.is in record { result_value = sym (c.loop-how.invariant.1 ∙ how_enclosed _ _ _ _ (before_last (up-In-loop-how _ _ _ _ _ c.before.before.before.before.before.before.before)) c.search_by.ensures.result_value told); kept = kept_enclosed g.st.now g.a.now g.b.now g.from g.to _ _ }
 
 pub returns : goal.returns
 returns c =

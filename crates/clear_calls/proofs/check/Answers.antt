@@ -11,19 +11,19 @@ use Rattle.clear_calls.proofs.check.Goals as goal
 
 pub slice_bounds-check-end : goal.slice_bounds-check-end
 slice_bounds-check-end c =
-    sym (length-take-le _ _ (omega (arith, c.lift.auto.1.0)))
+    sym (length-take-le _ _ (omega (arith, c.lift.auto.room)))
 
 pub slice_bounds-check-end-2 : goal.slice_bounds-check-end-2
 slice_bounds-check-end-2 c =
-    sym (length-take-le _ _ (omega (arith, c.lift-2.auto.1.0)))
+    sym (length-take-le _ _ (omega (arith, c.lift-2.auto.room)))
 
 pub slice_bounds-check-end-3 : goal.slice_bounds-check-end-3
 slice_bounds-check-end-3 c =
-    sym (length-take-le _ _ (omega (arith, c.lift_moved.auto.1.1.1.0)))
+    sym (length-take-le _ _ (omega (arith, c.lift_moved.auto.room)))
 
 pub slice_bounds-check-end-4 : goal.slice_bounds-check-end-4
 slice_bounds-check-end-4 c =
-    sym (length-take-le _ _ (omega (arith, c.lift-3.auto.1.0)))
+    sym (length-take-le _ _ (omega (arith, c.lift-3.auto.room)))
 
 pub check-requires : goal.check-requires
 check-requires c =

@@ -26,7 +26,7 @@ lower-requires c =
     let orb = c.args.orbiting.now in
     let is_clear = sym (ap ground c.in-Clear.is) ∙ c.search.ensures.result_value in
     record { n_in_bounds = (
-        omega (arith, c.search.auto.1.1.1.1.0, c.requires.ring_most),
+        omega (arith, c.search.auto.lines, c.requires.ring_most),
         fits _ _ c.fit-no.ensures c.passed.ensures c.if-passed.true,
       ); by_index = all_low st orb _ _ _ c.search.ensures.lines_after is_clear (still_lent st orb c.ranges.dx c.ranges.dy c.requires) (search rules) }
 

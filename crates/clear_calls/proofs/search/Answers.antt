@@ -11,15 +11,15 @@ use Rattle.clear_calls.proofs.search.Goals as goal
 
 pub slice_bounds-search-end : goal.slice_bounds-search-end
 slice_bounds-search-end c =
-    sym (length-take-le _ _ (omega (arith, c.lift.auto.1.0)))
+    sym (length-take-le _ _ (omega (arith, c.lift.auto.room)))
 
 pub slice_bounds-search-end-2 : goal.slice_bounds-search-end-2
 slice_bounds-search-end-2 c =
-    sym (length-take-le _ _ (omega (arith, c.lift-2.auto.1.0)))
+    sym (length-take-le _ _ (omega (arith, c.lift-2.auto.room)))
 
 pub slice_bounds-search-end-3 : goal.slice_bounds-search-end-3
 slice_bounds-search-end-3 c =
-    sym (length-take-le _ _ (omega (arith, c.lift_moved.auto.1.1.1.0)))
+    sym (length-take-le _ _ (omega (arith, c.lift_moved.auto.room)))
 
 pub search-requires : goal.search-requires
 search-requires c =

@@ -9,11 +9,11 @@ use Rattle.clear_drawn.proofs.check_leg.Goals as goal
 
 pub slice_bounds-check_aside-end : goal.slice_bounds-check_aside-end
 slice_bounds-check_aside-end c =
-    sym (length-take-le _ _ (omega (arith, c.place.auto.1.1.1.0)))
+    sym (length-take-le _ _ (omega (arith, c.place.auto.room)))
 
 pub slice_bounds-check_aside-end-2 : goal.slice_bounds-check_aside-end-2
 slice_bounds-check_aside-end-2 c =
-    sym (length-take-le _ _ (omega (arith, c.place-2.auto.1.1.1.0)))
+    sym (length-take-le _ _ (omega (arith, c.place-2.auto.room)))
 
 pub check_aside-requires : goal.check_aside-requires
 check_aside-requires c =

@@ -12,20 +12,20 @@ use Rattle.clear_drawn.proofs.check_move.Goals as goal
 
 pub slice_bounds-check_leg-end : goal.slice_bounds-check_leg-end
 slice_bounds-check_leg-end c =
-    sym (length-take-le _ _ (omega (arith, c.lift_drawn.auto.1.1.0)))
+    sym (length-take-le _ _ (omega (arith, c.lift_drawn.auto.room)))
 
 pub slice_bounds-check_leg-end-2 : goal.slice_bounds-check_leg-end-2
 slice_bounds-check_leg-end-2 c =
-    sym (length-take-le _ _ (omega (arith, c.lay.auto.1.1.0)))
+    sym (length-take-le _ _ (omega (arith, c.lay.auto.room)))
 
 pub slice_bounds-check_leg-end-3 : goal.slice_bounds-check_leg-end-3
 slice_bounds-check_leg-end-3 c =
-    sym (length-take-le _ _ (omega (arith, c.lay-2.auto.1.1.0)))
+    sym (length-take-le _ _ (omega (arith, c.lay-2.auto.room)))
 
 pub slice_bounds-check_leg-end-4 : goal.slice_bounds-check_leg-end-4
 slice_bounds-check_leg-end-4 c =
     let p = c.requires in
-    sym (length-take-le _ _ (omega (arith, c.lift.auto.1.0, p.1.0.four_each, p.0.0.ring_most)))
+    sym (length-take-le _ _ (omega (arith, c.lift.auto.room, p.1.0.four_each, p.0.0.ring_most)))
 
 pub check_leg-g-requires : goal.check_leg-g-requires
 check_leg-g-requires c =

@@ -12,7 +12,7 @@ use Rattle.clear_drawn.proofs.judge.Goals as goal
 pub lower-requires : goal.lower-requires
 lower-requires c =
     let is = sym (ap least c.in-Clear.is) ∙ c.search_move.ensures.result_value in
-    let long = c.search_move.auto.1.1.1.1.0 in record { n_in_bounds = (
+    let long = c.search_move.auto.lines in record { n_in_bounds = (
         omega (arith, long, c.requires.0.ring_most),
         fits _ _ c.fit-no.ensures c.passed.ensures c.if-passed.true,
       ); by_index = all_low c.requires.0 c.requires.1 _ is _ _ c.search_move.ensures.move_kept c.in-Clear.is _ long (search rules) }

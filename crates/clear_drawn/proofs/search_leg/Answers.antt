@@ -9,11 +9,11 @@ use Rattle.clear_drawn.proofs.search_leg.Goals as goal
 
 pub slice_bounds-search_aside-end : goal.slice_bounds-search_aside-end
 slice_bounds-search_aside-end c =
-    sym (length-take-le _ _ (omega (arith, c.place.auto.1.1.1.0)))
+    sym (length-take-le _ _ (omega (arith, c.place.auto.room)))
 
 pub slice_bounds-search_aside-end-2 : goal.slice_bounds-search_aside-end-2
 slice_bounds-search_aside-end-2 c =
-    sym (length-take-le _ _ (omega (arith, c.place-2.auto.1.1.1.0)))
+    sym (length-take-le _ _ (omega (arith, c.place-2.auto.room)))
 
 pub search_aside-requires : goal.search_aside-requires
 search_aside-requires c =

@@ -9,15 +9,15 @@ use Rattle.clear_drawn_path.proofs.path_found.Goals as goal
 
 pub slice_bounds-first_leg-end : goal.slice_bounds-first_leg-end
 slice_bounds-first_leg-end c =
-    sym (length-take-le _ _ (omega (arith, c.lift_drawn.auto.1.1.0)))
+    sym (length-take-le _ _ (omega (arith, c.lift_drawn.auto.room)))
 
 pub slice_bounds-first_leg-end-2 : goal.slice_bounds-first_leg-end-2
 slice_bounds-first_leg-end-2 c =
-    sym (length-take-le _ _ (omega (arith, c.lay.auto.1.1.0)))
+    sym (length-take-le _ _ (omega (arith, c.lay.auto.room)))
 
 pub slice_bounds-first_leg-end-3 : goal.slice_bounds-first_leg-end-3
 slice_bounds-first_leg-end-3 c =
-    sym (length-take-le _ _ (omega (arith, c.lay-2.auto.1.1.0)))
+    sym (length-take-le _ _ (omega (arith, c.lay-2.auto.room)))
 
 pub first_leg-requires : goal.first_leg-requires
 first_leg-requires c =

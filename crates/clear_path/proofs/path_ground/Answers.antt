@@ -24,7 +24,7 @@ slice_bounds-st-end c = omega (arith, fits c.before.before.before)
 
 pub slice_bounds-first_leg-end : goal.slice_bounds-first_leg-end
 slice_bounds-first_leg-end c =
-    sym (length-take-le _ _ (omega (arith, c.lift.auto.1.0, fits c.before.before.before.before)))
+    sym (length-take-le _ _ (omega (arith, c.lift.auto.room, fits c.before.before.before.before)))
 
 pub first_leg-requires : goal.first_leg-requires
 first_leg-requires c =

@@ -10,11 +10,11 @@ use Rattle.clear_path.proofs.search_leg.Goals as goal
 
 pub slice_bounds-search-end : goal.slice_bounds-search-end
 slice_bounds-search-end c =
-    sym (length-take-le _ _ (omega (arith, c.place.auto.1.1.1.0)))
+    sym (length-take-le _ _ (omega (arith, c.place.auto.room)))
 
 pub slice_bounds-search-end-2 : goal.slice_bounds-search-end-2
 slice_bounds-search-end-2 c =
-    sym (length-take-le _ _ (omega (arith, c.place-2.auto.1.1.1.0)))
+    sym (length-take-le _ _ (omega (arith, c.place-2.auto.room)))
 
 pub search-requires : goal.search-requires
 search-requires c =

@@ -4,4 +4,4 @@ use Rattle.collision.proofs.chained_scan.Goals as goal
 
 pub rows_by-requires : goal.rows_by-requires
 rows_by-requires c =
-    record { few = c.requires; room = omega (arith, c.fill.auto.1.1.0); chains = c.fill.ensures }
+    record { few = c.requires; room = omega (arith, c.fill.auto.table); chains = c.fill.ensures }

@@ -18,7 +18,7 @@ loop-i-init c = (omega arith, refl, refl)
 pub loop-i-preserved : goal.loop-i-preserved
 loop-i-preserved c =
     let v = c.loop-i.invariant in
-    (omega arith, omega (arith, c.put.auto.0), put_next _ _ _ (omega arith) v.2 (c.normalize.ensures ∙ ap normalize_of c.edge.ensures) c.put.ensures)
+    (omega arith, omega (arith, c.put.auto.room), put_next _ _ _ (omega arith) v.2 (c.normalize.ensures ∙ ap normalize_of c.edge.ensures) c.put.ensures)
 
 pub returns : goal.returns
 returns c =

@@ -15,7 +15,7 @@ loop-i-init c = (omega arith, refl, refl)
 
 pub loop-i-preserved : goal.loop-i-preserved
 loop-i-preserved c =
-    (omega arith, omega (arith, c.put.auto.0), put_next _ _ _ (omega arith) c.loop-i.invariant.2 c.vertex.ensures c.put.ensures)
+    (omega arith, omega (arith, c.put.auto.room), put_next _ _ _ (omega arith) c.loop-i.invariant.2 c.vertex.ensures c.put.ensures)
 
 pub returns : goal.returns
 unfolding disc_of

@@ -15,6 +15,7 @@ use Rattle.drawn_rows.specs.Rows.{grid_of}
 use Rattle.drawn_rows.proofs.Placed.{placed_is}
 use Rattle.drawn_rows.proofs.is_placed.Goals as goal
 use Rattle.drawn_rows.proofs.is_placed.Goals.{After-are_moved_within}
+use Rattle.drawn_rows.proofs.is_placed.Lts.View.{up-After-are_moved_within}
 
 -- the test of the point i
 is : (c : After-are_moved_within)
@@ -46,15 +47,15 @@ on_grid-y-requires c =
 
 pub slice_bounds-are_moved_within-end : goal.slice_bounds-are_moved_within-end
 slice_bounds-are_moved_within-end c =
-    sym (length-take-le _ _ (omega (arith, c.lay.auto.1.1.0)))
+    sym (length-take-le _ _ (omega (arith, c.lay.auto.room)))
 
 pub loop-i-preserved : goal.loop-i-preserved
 loop-i-preserved c =
-    (omega arith, c.loop-i.invariant.1 ∙ each_on _ _ _ c.loop-i-test.true (sym (is c.before) ∙ c.if-are_moved_within.true))
+    (omega arith, c.loop-i.invariant.1 ∙ each_on _ _ _ c.loop-i-test.true (sym (is (up-After-are_moved_within _ _ _ _ _ _ c.before.before)) ∙ c.if-are_moved_within.true))
 
 pub returns-else-are_moved_within : goal.returns-else-are_moved_within
 returns-else-are_moved_within c =
-    sym (c.loop-i.invariant.1 ∙ each_off _ _ _ c.loop-i-test.true (sym (is c.before) ∙ c.if-are_moved_within.false))
+    sym (c.loop-i.invariant.1 ∙ each_off _ _ _ c.loop-i-test.true (sym (is (up-After-are_moved_within _ _ _ _ _ _ c.before.before)) ∙ c.if-are_moved_within.false))
 
 pub returns : goal.returns
 returns c = sym (c.loop-i.invariant.1 ∙ each_end _ _ _ c.loop-i-test.false)

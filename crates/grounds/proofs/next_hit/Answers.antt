@@ -6,6 +6,7 @@ use Rattle.collision.proofs.Passed.{chain_passed}
 use Rattle.grounds.proofs.Missed.{none_missed, more_missed}
 use Rattle.grounds.proofs.next_hit.Goals as goal
 use Rattle.grounds.proofs.next_hit.Goals.{At-loop-e}
+use Rattle.grounds.proofs.next_hit.Lts.View.{up-At-loop-e}
 
 ready : (c : At-loop-e) →
     Ready c.args.table.now c.args.edges.now c.args.sweep
@@ -18,7 +19,7 @@ pub loop-e-init : goal.loop-e-init
 loop-e-init c = (omega arith, omega arith, none_missed _ _ _ _ _)
 
 pub is_passed-requires : goal.is_passed-requires
-is_passed-requires c = let r = ready c.before.before.before in omega (arith, r.room, r.few.edges)
+is_passed-requires c = let r = ready (up-At-loop-e _ _ _ _ _ _ c.before.before.before.before) in omega (arith, r.room, r.few.edges)
 
 pub loop-e-smaller-then-is_passed : goal.loop-e-smaller-then-is_passed
 loop-e-smaller-then-is_passed c = omega (arith, c.chain_end-to.ensures.0)
@@ -26,7 +27,7 @@ loop-e-smaller-then-is_passed c = omega (arith, c.chain_end-to.ensures.0)
 pub loop-e-preserved-then-is_passed : goal.loop-e-preserved-then-is_passed
 loop-e-preserved-then-is_passed c =
     let end = c.chain_end-to.ensures in
-    (omega (arith, c.loop-e.invariant.0, end.0), end.1, more_missed _ _ _ _ _ _ _ c.loop-e.invariant.2 (chain_passed _ _ _ _ _ _ (ready c.before.before.before.before.before) c.is_passed.ensures c.if-is_passed.true end.2 end.1))
+    (omega (arith, c.loop-e.invariant.0, end.0), end.1, more_missed _ _ _ _ _ _ _ c.loop-e.invariant.2 (chain_passed _ _ _ _ _ _ (ready (up-At-loop-e _ _ _ _ _ _ c.before.before.before.before.before.before)) c.is_passed.ensures c.if-is_passed.true end.2 end.1))
 
 pub first_hit-met-requires : goal.first_hit-met-requires
 first_hit-met-requires c = let end = c.chain_end-to.ensures in (omega (arith, end.0), end.1)

@@ -9,6 +9,7 @@ use Rattle.grounds.proofs.Noted.{kept_new, kept_best, fields}
 use Rattle.grounds.proofs.Passed.{Sofar, from_none, next_pair, next_vertex, all_pairs, small, fewer}
 use Rattle.grounds.proofs.scan_by.Goals as goal
 use Rattle.grounds.proofs.scan_by.Goals.{At-loop-v}
+use Rattle.grounds.proofs.scan_by.Lts.View.{up-At-loop-v}
 
 -- no count is near its bound
 most : (c : At-loop-v) →
@@ -26,16 +27,16 @@ pub next_hit-met-requires : goal.next_hit-met-requires
 next_hit-met-requires c = record { from_bound = c.loop-v.invariant.1; ready = c.requires.ready }
 
 pub others_after-others-requires : goal.others_after-others-requires
-others_after-others-requires c = (most c.before.before.before.before.before.before.before.before).others_below
+others_after-others-requires c = (most (up-At-loop-v _ _ _ _ _ _ c.before.before.before.before.before.before.before.before.before)).others_below
 
 pub one_more-near-requires : goal.one_more-near-requires
-one_more-near-requires c = (most c.before.before.before.before.before.before.before.before.before.before).near_below
+one_more-near-requires c = (most (up-At-loop-v _ _ _ _ _ _ c.before.before.before.before.before.before.before.before.before.before.before)).near_below
 
 pub one_more-between-requires : goal.one_more-between-requires
-one_more-between-requires c = (most c.before.before.before.before.before.before.before.before.before.before.before.before).between_below
+one_more-between-requires c = (most (up-At-loop-v _ _ _ _ _ _ c.before.before.before.before.before.before.before.before.before.before.before.before.before)).between_below
 
 pub one_more-far-requires : goal.one_more-far-requires
-one_more-far-requires c = (most c.before.before.before.before.before.before.before.before.before.before.before.before.before.before).far_below
+one_more-far-requires c = (most (up-At-loop-v _ _ _ _ _ _ c.before.before.before.before.before.before.before.before.before.before.before.before.before.before.before)).far_below
 
 pub loop-v-smaller-then-is_nearer : goal.loop-v-smaller-then-is_nearer
 loop-v-smaller-then-is_nearer c =

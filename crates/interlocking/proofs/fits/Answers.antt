@@ -23,7 +23,7 @@ unfolding fits_of
 tested s o at d even e h = rw (h, e, moved_front o at d even)
 
 pub slice_bounds-polygons_overlap-end : goal.slice_bounds-polygons_overlap-end
-slice_bounds-polygons_overlap-end c = sym (length-take-le _ _ (omega (arith, c.move_ring.auto.1.1.0)))
+slice_bounds-polygons_overlap-end c = sym (length-take-le _ _ (omega (arith, c.move_ring.auto.room)))
 
 pub returns : goal.returns
 returns c =

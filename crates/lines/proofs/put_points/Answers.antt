@@ -18,7 +18,7 @@ loop-i-preserved c =
     let xs = c.args.xs.now in
     let e = c.point_at-p.ensures in (
       (omega arith),
-      c.put_pair-next.auto.0 ∙ c.loop-i.invariant.1,
+      c.put_pair-next.auto.room ∙ c.loop-i.invariant.1,
       (omega (arith, c.put_pair-next.ensures.1)),
       point_more xs c.loop-i.i c.bits_of.result c.bits_of-in-loop-i.result c.loop-i.invariant.3 c.put_pair-next.ensures.0
           (c.bits_of.ensures ∙ ap (λ (p : Point). to_bits binary64 p.x) e) (c.bits_of-in-loop-i.ensures ∙ ap (λ (p : Point). to_bits binary64 p.y) e),

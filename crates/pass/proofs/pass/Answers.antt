@@ -8,7 +8,7 @@ use Rattle.pass.proofs.pass.Goals as goal
 
 pub slice_bounds-pass_at-end-2 : goal.slice_bounds-pass_at-end-2
 slice_bounds-pass_at-end-2 c =
-    sym (length-take-le _ _ (omega (arith, c.move_ring.auto.1.1.0, c.requires.orbiting_len_bound.1)))
+    sym (length-take-le _ _ (omega (arith, c.move_ring.auto.room, c.requires.orbiting_len_bound.1)))
 
 pub pass_at-requires : goal.pass_at-requires
 pass_at-requires c =

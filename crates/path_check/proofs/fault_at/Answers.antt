@@ -9,7 +9,7 @@ use Rattle.path_check.proofs.fault_at.Goals as goal
 pub slice_bounds-fault_by-end-2 : goal.slice_bounds-fault_by-end-2
 slice_bounds-fault_by-end-2 c =
     let s = m.before.before.before.before.before.before.before in
-    sym (length-take-le _ _ (omega (arith, c.move_ring.auto.1.1.0, s.requires.1.0.1)))
+    sym (length-take-le _ _ (omega (arith, c.move_ring.auto.room, s.requires.1.0.1)))
 
 pub fault_by-requires : goal.fault_by-requires
 fault_by-requires c =

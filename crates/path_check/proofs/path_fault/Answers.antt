@@ -23,7 +23,7 @@ slice_bounds-fault_at-end c = sym c.loop-i.invariant.1
 
 pub loop-i-preserved : goal.loop-i-preserved
 loop-i-preserved c =
-    (omega arith, c.fault_at.auto.1.1.1.1.1.0 ∙ c.loop-i.invariant.1, c.loop-i.invariant.2 ∙ fault_on _ _ _ c.loop-i-test.true c.fault_at.ensures c.in-Nothing.is)
+    (omega arith, c.fault_at.auto.room ∙ c.loop-i.invariant.1, c.loop-i.invariant.2 ∙ fault_on _ _ _ c.loop-i-test.true c.fault_at.ensures c.in-Nothing.is)
 
 pub returns-in-Point : goal.returns-in-Point
 returns-in-Point c =

@@ -15,5 +15,5 @@ returns-in-1 c = (rw c.in-1.is, omega (arith, c.requires.2.height))
 
 pub returns-in_default : goal.returns-in_default
 returns-in_default c =
-    let r = c.in_default.rest in
+    let r = c.in_default.in_default-own.rest in
     (c.across_of.ensures.0 ∙ level_last _ _ _ _ (omega (arith, r.0.1, r.1)), c.across_of.ensures.1)

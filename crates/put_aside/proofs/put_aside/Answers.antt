@@ -1,4 +1,6 @@
 -- `put_aside::put_aside` meets its contract: the rule, the test, and the corners. Assumes nothing.
+use mathlib.Core.Path.{ap}
+use mathlib.Core.Bool.{not}
 use borrow.Author.Tests.{not-true, not-false}
 use Rattle.put_aside.proofs.Laying.{leaves, stays}
 use Rattle.put_aside.proofs.put_aside.Goals as goal
@@ -10,7 +12,7 @@ pub returns-then-not-stay_by : goal.returns-then-not-stay_by
 returns-then-not-stay_by c =
     let g = c.args in
     leaves g.list.now g.from g.to g.how c.rule_of-r.ensures.0 c.stay_by.ensures
-    g.room.now (not-true _ c.if-not-stay_by.true)
+    g.room.now (not-true _ (ap not c.if-not-stay_by.true))
 
 pub lay-requires : goal.lay-requires
 lay-requires c =
@@ -20,4 +22,4 @@ pub returns : goal.returns
 returns c =
     let g = c.args in
     stays g.list.now g.from g.to g.how c.rule_of-r.ensures.0 c.stay_by.ensures
-    g.room.now (not-false _ c.if-not-stay_by.false) c.lay.ensures
+    g.room.now (not-false _ (ap not c.if-not-stay_by.false)) c.lay.ensures

@@ -34,6 +34,6 @@ returns-in-9 c = rw c.in-9.is c.step_by-in-9.ensures
 
 pub returns-in_default : goal.returns-in_default
 returns-in_default c =
-    let r = c.in_default.rest in
+    let r = c.in_default.in_default-own.rest in
     c.step_by-in_default.ensures
     ∙ set_last _ _ r.0.0.0.0.0.0.1 r.0.0.0.0.0.1 r.0.0.0.0.1 r.0.0.0.1 r.0.0.1 r.0.1 r.1

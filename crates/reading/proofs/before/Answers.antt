@@ -11,14 +11,15 @@ use Rattle.reading.specs.Lent.{ring_of}
 use Rattle.reading.proofs.Places.{length_choice, left_lower, left_higher, left_equal, left_none}
 use Rattle.reading.proofs.before.Goals as goal
 use Rattle.reading.proofs.before.Goals.{After-key_at-v, At-loop-j, Start}
+use Rattle.reading.proofs.before.Lts.View.{up-After-key_at-v, up-After-shared_slice_known-2-1, up-At-loop-j}
 
 -- the two readings, whose coordinates j the keys are of
 module _ (c : After-key_at-v) where
   abbrev l : At-loop-j
-  l = c.before.before.before
+  l = up-At-loop-j _ _ _ _ _ _ (up-After-shared_slice_known-2-1 _ _ _ _ _ _ c.before.before.before.before.before)
 
   abbrev s : Start
-  s = l.before.before.before
+  s = l.before.before.before.before
 
   abbrev xs : List Float
   xs = s.args.ring.now
@@ -42,21 +43,21 @@ pub returns-then-u-v : goal.returns-then-u-v
 returns-then-u-v c =
     let u = c.key_at-u.ensures in
     let v = c.key_at-v.ensures in
-    sym ((l c.before.before).loop-j.invariant.1 ∙ left_lower (p c.before.before) (q c.before.before) (l c.before.before).loop-j.j (in_first c.before.before) (in_second c.before.before) (omega (arith, c.if-u-v.true)))
+    sym ((l (up-After-key_at-v _ _ _ _ _ _ c.before.before)).loop-j.invariant.1 ∙ left_lower (p (up-After-key_at-v _ _ _ _ _ _ c.before.before)) (q (up-After-key_at-v _ _ _ _ _ _ c.before.before)) (l (up-After-key_at-v _ _ _ _ _ _ c.before.before)).loop-j.j (in_first (up-After-key_at-v _ _ _ _ _ _ c.before.before)) (in_second (up-After-key_at-v _ _ _ _ _ _ c.before.before)) (omega (arith, c.if-u-v.true)))
 
 pub returns-then-v-u : goal.returns-then-v-u
 returns-then-v-u c =
     let u = c.key_at-u.ensures in
     let v = c.key_at-v.ensures in
-    sym ((l c.before.before.before).loop-j.invariant.1 ∙ left_higher (p c.before.before.before) (q c.before.before.before) (l c.before.before.before).loop-j.j (in_first c.before.before.before) (in_second c.before.before.before) (omega (arith, c.if-v-u.true)))
+    sym ((l (up-After-key_at-v _ _ _ _ _ _ c.before.before.before)).loop-j.invariant.1 ∙ left_higher (p (up-After-key_at-v _ _ _ _ _ _ c.before.before.before)) (q (up-After-key_at-v _ _ _ _ _ _ c.before.before.before)) (l (up-After-key_at-v _ _ _ _ _ _ c.before.before.before)).loop-j.j (in_first (up-After-key_at-v _ _ _ _ _ _ c.before.before.before)) (in_second (up-After-key_at-v _ _ _ _ _ _ c.before.before.before)) (omega (arith, c.if-v-u.true)))
 
 pub loop-j-preserved : goal.loop-j-preserved
 loop-j-preserved c =
     let u = c.key_at-u.ensures in
     let v = c.key_at-v.ensures in
-    let j = (l c.before.before.before).loop-j.j in
-    let e : ord (get_or (p c.before.before.before) j 0) ≡ ord (get_or (q c.before.before.before) j 0) = omega (arith, c.if-v-u.false, c.if-u-v.false) in
-    ((omega arith), (l c.before.before.before).loop-j.invariant.1 ∙ left_equal (p c.before.before.before) (q c.before.before.before) j (in_first c.before.before.before) (in_second c.before.before.before) e)
+    let j = (l (up-After-key_at-v _ _ _ _ _ _ c.before.before.before)).loop-j.j in
+    let e : ord (get_or (p (up-After-key_at-v _ _ _ _ _ _ c.before.before.before)) j 0) ≡ ord (get_or (q (up-After-key_at-v _ _ _ _ _ _ c.before.before.before)) j 0) = omega (arith, c.if-v-u.false, c.if-u-v.false) in
+    ((omega arith), (l (up-After-key_at-v _ _ _ _ _ _ c.before.before.before)).loop-j.invariant.1 ∙ left_equal (p (up-After-key_at-v _ _ _ _ _ _ c.before.before.before)) (q (up-After-key_at-v _ _ _ _ _ _ c.before.before.before)) j (in_first (up-After-key_at-v _ _ _ _ _ _ c.before.before.before)) (in_second (up-After-key_at-v _ _ _ _ _ _ c.before.before.before)) e)
 
 pub returns : goal.returns
 returns c =

@@ -19,12 +19,12 @@ use Rattle.reading.proofs.Step.{Stepped, step}
 use Rattle.reading.proofs.Ways.{round, read_at, start_low}
 use Rattle.reading.proofs.settle.Goals as goal
 use Rattle.reading.proofs.settle.Goals.{After-pushed-s, At-loop-s, Else-s-ring, Start}
-use Rattle.reading.proofs.settle.Lts.View.{up-After-shared_slice_known-2-1, up-Else-s-ring}
+use Rattle.reading.proofs.settle.Lts.View.{up-After-shared_slice_known-2-1, up-After-struct_known-in-loop-s-1, up-At-loop-s, up-Else-s-ring}
 
 -- at the loop's test: the ring, its direction and the two starts
 module _ (l : At-loop-s) where
   abbrev st : Start
-  st = l.before.before.before
+  st = l.before.before.before.before
 
   abbrev xs : List Float
   xs = st.args.ring.now
@@ -60,7 +60,7 @@ module _ (l : At-loop-s) where
 -- ---- a turn
 module _ (e : Else-s-ring) where
   abbrev l : At-loop-s
-  l = (up-After-shared_slice_known-2-1 _ _ _ _ _ _ e.before.before.before.before.before.before)
+  l = up-At-loop-s _ _ _ _ _ _ (up-After-shared_slice_known-2-1 _ _ _ _ _ _ e.before.before.before.before.before.before)
 
   first_low : (s l).first < length (r l)
   first_low = omega (arith, half l, e.loop-s-test.true, l.loop-s.invariant.order)
@@ -80,7 +80,7 @@ module _ (e : Else-s-ring) where
 -- what the turn comes to
 module _ (c : After-pushed-s) where
   abbrev e : Else-s-ring
-  e = up-Else-s-ring _ _ _ _ _ _ c.before.before.before.before.before.before.before
+  e = up-Else-s-ring _ _ _ _ _ _ (up-After-struct_known-in-loop-s-1 _ _ _ _ _ _ c.before.before.before.before.before.before.before)
 
   abbrev g : ℕ → ℕ
   g = along (r (l e)) (b (l e))
@@ -124,7 +124,7 @@ loop-s-init c =
     open_start (along (ring_of a.ring.now) a.back) (length (ring_of a.ring.now))
 
 pub returns-then-s-ring : goal.returns-then-s-ring
-returns-then-s-ring c = same_end c.before.before.before.before.before c.if-s-ring.true
+returns-then-s-ring c = same_end (up-At-loop-s _ _ _ _ _ _ c.before.before.before.before.before) c.if-s-ring.true
 
 pub key_at-u-requires : goal.key_at-u-requires
 key_at-u-requires c = record { lent = (st (l (up-Else-s-ring _ _ _ _ _ _ c.before.before))).requires.lent; c_in_bounds = ((omega (arith, c.number.ensures.1, vertices_of (l (up-Else-s-ring _ _ _ _ _ _ c.before.before)))), short (up-Else-s-ring _ _ _ _ _ _ c.before.before)) }
@@ -145,12 +145,12 @@ loop-s-preserved c = (stepped c).still
 
 pub overflow_add-result : goal.overflow_add-result
 overflow_add-result c =
-    let h = half c.before.before.before.before in
-    let m = (st c.before.before.before.before).requires.lent.0.most in
-    let i = start_low (r c.before.before.before.before) (some c.before.before.before.before) (s c.before.before.before.before).first ((s c.before.before.before.before).first + length (r c.before.before.before.before)) (b c.before.before.before.before) (past_end c.before.before.before.before c.loop-s-test.false) in
-    sum_fits (s c.before.before.before.before).first (length (xs c.before.before.before.before) / 2) (omega arith) (omega arith)
+    let h = half (up-At-loop-s _ _ _ _ _ _ c.before.before.before.before) in
+    let m = (st (up-At-loop-s _ _ _ _ _ _ c.before.before.before.before)).requires.lent.0.most in
+    let i = start_low (r (up-At-loop-s _ _ _ _ _ _ c.before.before.before.before)) (some (up-At-loop-s _ _ _ _ _ _ c.before.before.before.before)) (s (up-At-loop-s _ _ _ _ _ _ c.before.before.before.before)).first ((s (up-At-loop-s _ _ _ _ _ _ c.before.before.before.before)).first + length (r (up-At-loop-s _ _ _ _ _ _ c.before.before.before.before))) (b (up-At-loop-s _ _ _ _ _ _ c.before.before.before.before)) (past_end (up-At-loop-s _ _ _ _ _ _ c.before.before.before.before) c.loop-s-test.false) in
+    sum_fits (s (up-At-loop-s _ _ _ _ _ _ c.before.before.before.before)).first (length (xs (up-At-loop-s _ _ _ _ _ _ c.before.before.before.before)) / 2) (omega arith) (omega arith)
 
 pub returns : goal.returns
 returns c =
-    subst (λ (n : ℕ). Settled (along (r c.before.before.before.before) (b c.before.before.before.before)) (length (r c.before.before.before.before)) (s c.before.before.before.before).first ((s c.before.before.before.before).first + n)) (sym (half c.before.before.before.before))
-    (past_end c.before.before.before.before c.loop-s-test.false)
+    subst (λ (n : ℕ). Settled (along (r (up-At-loop-s _ _ _ _ _ _ c.before.before.before.before)) (b (up-At-loop-s _ _ _ _ _ _ c.before.before.before.before))) (length (r (up-At-loop-s _ _ _ _ _ _ c.before.before.before.before))) (s (up-At-loop-s _ _ _ _ _ _ c.before.before.before.before)).first ((s (up-At-loop-s _ _ _ _ _ _ c.before.before.before.before)).first + n)) (sym (half (up-At-loop-s _ _ _ _ _ _ c.before.before.before.before)))
+    (past_end (up-At-loop-s _ _ _ _ _ _ c.before.before.before.before) c.loop-s-test.false)

@@ -1,7 +1,8 @@
 -- `reason_check::way_left` meets its contract. The invariant: the corners from i on decide. Assumes nothing.
+use mathlib.Core.Bool.{not}
 use Prim.Native.Nat.{◌-◌, ◌/◌}
 use native.Mathlib.Omega.{arith}
-use mathlib.Core.Path.{sym}
+use mathlib.Core.Path.{ap, sym}
 use lib.ListN.{length}
 use borrow.Author.Tests.{not-true, not-false}
 use Rattle.shifted.specs.Shifted.{spot_at}
@@ -24,7 +25,7 @@ pub returns-then-not-left_on : goal.returns-then-not-left_on
 returns-then-not-left_on c =
     sym
     (start_off _ _ _ _ _ c.loop-i.invariant c.loop-i-test.true c.spot_at.ensures c.left_on.ensures
-    (not-true _ c.if-not-left_on.true))
+    (not-true _ (ap not c.if-not-left_on.true)))
 
 pub spot_at-requires-in-loop-i : goal.spot_at-requires-in-loop-i
 spot_at-requires-in-loop-i c =
@@ -43,12 +44,12 @@ pub returns-then-not-left_on-2 : goal.returns-then-not-left_on-2
 returns-then-not-left_on-2 c =
     sym
     (end_off _ _ _ _ _ c.loop-i.invariant c.loop-i-test.true c.spot_at.ensures c.left_on.ensures
-    c.spot_at-in-loop-i.ensures c.left_on-in-loop-i.ensures (not-false _ c.if-not-left_on.false) (not-true _ c.if-not-left_on-2.true))
+    c.spot_at-in-loop-i.ensures c.left_on-in-loop-i.ensures (not-false _ (ap not c.if-not-left_on.false)) (not-true _ (ap not c.if-not-left_on-2.true)))
 
 pub loop-i-preserved : goal.loop-i-preserved
 loop-i-preserved c =
     turn _ _ _ _ _ c.loop-i.invariant c.loop-i-test.true c.spot_at.ensures c.left_on.ensures
-    c.spot_at-in-loop-i.ensures c.left_on-in-loop-i.ensures (not-false _ c.if-not-left_on.false) (not-false _ c.if-not-left_on-2.false)
+    c.spot_at-in-loop-i.ensures c.left_on-in-loop-i.ensures (not-false _ (ap not c.if-not-left_on.false)) (not-false _ (ap not c.if-not-left_on-2.false))
 
 pub returns : goal.returns
 returns c = sym (done _ _ _ _ _ c.loop-i.invariant c.loop-i-test.false)

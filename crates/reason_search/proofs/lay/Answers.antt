@@ -1,9 +1,10 @@
 -- `reason_search::lay` meets its contract. The invariant: the lines of the first j edges stand, the line before is held, and the
 -- edges from j on decide. Assumes nothing.
+use mathlib.Core.Bool.{not}
 use Prim.Native.Nat.{◌-◌}
 use native.Mathlib.Omega.{arith}
 use borrow.Author.Tests.{not-true, not-false}
-use mathlib.Core.Path.{◌≡◌, refl, ◌∙◌}
+use mathlib.Core.Path.{ap, ◌≡◌, refl, ◌∙◌}
 use lib.ListN.{length}
 use Rattle.reason_check.proofs.Small.{small_at}
 use Rattle.reason_check.proofs.Corners.{first_end, second_end}
@@ -28,7 +29,7 @@ take-k-requires c =
 
 pub shape_of-flags-then-not-k : goal.shape_of-flags-then-not-k
 shape_of-flags-then-not-k c =
-    c.take-k.auto.1.1.1.0 ∙ c.loop-j.invariant.2
+    c.take-k.auto.flags ∙ c.loop-j.invariant.2
 
 pub returns-then-not-k : goal.returns-then-not-k
 returns-then-not-k c =
@@ -36,7 +37,7 @@ returns-then-not-k c =
     let e = stop st _ _ _ c.loop-j.invariant.0 c.loop-j-test.true
     (first_end st _ c.loop-j-test.true c.spot_at-s.ensures)
     (second_end st _ c.next.ensures.0 c.spot_at-t.ensures)
-    c.take-k.ensures.line_value c.take-k.ensures.parted_value (not-true _ c.if-not-k.true) in
+    c.take-k.ensures.line_value c.take-k.ensures.parted_value (not-true _ (ap not c.if-not-k.true)) in
     (e, room_is _ _ _ _ c.loop-j.invariant.0 e)
 
 pub put-requires : goal.put-requires
@@ -56,9 +57,9 @@ loop-j-preserved c =
           c.take-k.ensures.line_value c.take-k.ensures.parted_value c.requires.0
           (small_at st c.requires.0.ring_small _ c.loop-j-test.true c.spot_at-s.ensures)
           (small_at st c.requires.0.ring_small _ c.next.ensures.1 c.spot_at-t.ensures)
-          (not-false _ c.if-not-k.false) c.put.ensures,
+          (not-false _ (ap not c.if-not-k.false)) c.put.ensures,
       c.take-k.ensures.ready,
-      c.take-k.auto.1.1.1.0 ∙ c.loop-j.invariant.2,
+      c.take-k.auto.flags ∙ c.loop-j.invariant.2,
     )
 
 pub shape_of-flags : goal.shape_of-flags

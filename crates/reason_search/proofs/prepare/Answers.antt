@@ -18,9 +18,9 @@ note-requires c =
 
 pub bounds-flags-1536-2 : goal.bounds-flags-1536-2
 bounds-flags-1536-2 c =
-    omega (arith, c.note.auto.1.1.0, c.requires.room)
+    omega (arith, c.note.auto.flags, c.requires.room)
 
 pub returns : goal.returns
 returns c =
     let p = c.requires in
-    now_noted c.note.new.flags p c.note.auto.1.1.0 c.note.ensures
+    now_noted c.note.new.flags p c.note.auto.flags c.note.ensures

@@ -19,5 +19,5 @@ returns-in-2 c = rw c.in-2.is c.line_of-in-2.ensures
 
 pub returns-in_default : goal.returns-in_default
 returns-in_default c =
-    let r = c.in_default.rest in
+    let r = c.in_default.in_default-own.rest in
     c.line_of-in_default.ensures ∙ side_last _ _ _ (omega (arith, r.0.0.1, r.0.1, r.1))

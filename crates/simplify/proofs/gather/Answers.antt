@@ -5,6 +5,7 @@ use lib.ListN.{length, length-set}
 use Rattle.simplify.proofs.Survive.{Gathering, start, room_left, put, skip, done}
 use Rattle.simplify.proofs.gather.Goals as goal
 use Rattle.simplify.proofs.gather.Goals.{Then-stays}
+use Rattle.simplify.proofs.gather.Lts.View.{up-Then-stays}
 
 -- there is room for a point that stays
 free : (c : Then-stays) → c.loop-i.k + 2 ≤ length c.loop-i.room
@@ -15,22 +16,22 @@ pub loop-i-init : goal.loop-i-init
 loop-i-init c = start _ _ _
 
 pub offset_bounds-room-k : goal.offset_bounds-room-k
-offset_bounds-room-k c = omega (arith, free c.before)
+offset_bounds-room-k c = omega (arith, free (up-Then-stays _ _ _ _ _ c.before.before))
 
 pub bounds-room-k : goal.bounds-room-k
-bounds-room-k c = omega (arith, free c.before)
+bounds-room-k c = omega (arith, free (up-Then-stays _ _ _ _ _ c.before.before))
 
 pub overflow_add-room-then-stays : goal.overflow_add-room-then-stays
-overflow_add-room-then-stays c = omega (arith, free c.before.before)
+overflow_add-room-then-stays c = omega (arith, free (up-Then-stays _ _ _ _ _ c.before.before.before))
 
 pub offset_bounds-room-k-then-stays : goal.offset_bounds-room-k-then-stays
-offset_bounds-room-k-then-stays c = omega (arith, free c.before.before)
+offset_bounds-room-k-then-stays c = omega (arith, free (up-Then-stays _ _ _ _ _ c.before.before.before))
 
 pub bounds-room-k-then-stays : goal.bounds-room-k-then-stays
-bounds-room-k-then-stays c = simp length-set (omega (arith, free c.before.before))
+bounds-room-k-then-stays c = simp length-set (omega (arith, free (up-Then-stays _ _ _ _ _ c.before.before.before)))
 
 pub overflow_add-k : goal.overflow_add-k
-overflow_add-k c = omega (arith, free c.before.before)
+overflow_add-k c = omega (arith, free (up-Then-stays _ _ _ _ _ c.before.before.before))
 
 pub loop-i-preserved-then-stays : goal.loop-i-preserved-then-stays
 loop-i-preserved-then-stays c =

@@ -5,6 +5,7 @@ use Rattle.contacts.proofs.Following.{FoundAt, next_at, next_none}
 use Rattle.vectors.proofs.Steps.{first_step, second_step, no_step, second_below}
 use Rattle.vectors.proofs.next_vector.Goals as goal
 use Rattle.vectors.proofs.next_vector.Goals.{In-At}
+use Rattle.vectors.proofs.next_vector.Lts.View.{up-In-At}
 
 -- the contact found
 at : (c : In-At) → FoundAt c.args.stationary.now c.args.orbiting.now c.args.tol c.args.place.contact c.in-At.k
@@ -39,7 +40,7 @@ returns-in-Nothing c =
 
 pub returns-in-At : goal.returns-in-At
 returns-in-At c =
-    first_step _ _ _ _ c.requires.ready c.if-place-eq0.true (at c.before) c.vector_of.ensures
+    first_step _ _ _ _ c.requires.ready c.if-place-eq0.true (at (up-In-At _ _ _ _ c.before.before)) c.vector_of.ensures
 
 pub returns-else-place-eq0 : goal.returns-else-place-eq0
 returns-else-place-eq0 c =

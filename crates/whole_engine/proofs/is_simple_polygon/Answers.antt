@@ -6,7 +6,7 @@ use Rattle.whole_engine.proofs.Lifting.{small_front, simple_front}
 use Rattle.whole_engine.proofs.is_simple_polygon.Goals as goal
 
 pub slice_bounds-is_simple-end : goal.slice_bounds-is_simple-end
-slice_bounds-is_simple-end c = sym (length-take-le _ _ (omega (arith, c.lift.auto.1.0)))
+slice_bounds-is_simple-end c = sym (length-take-le _ _ (omega (arith, c.lift.auto.room)))
 
 pub is_simple-requires : goal.is_simple-requires
 is_simple-requires c =

@@ -8,7 +8,7 @@ use Rattle.whole_engine.proofs.Lifting.{length_front, small_front, area_front}
 use Rattle.whole_engine.proofs.signed_area2.Goals as goal
 
 pub slice_bounds-area2-end : goal.slice_bounds-area2-end
-slice_bounds-area2-end c = sym (length-take-le _ _ (omega (arith, c.lift.auto.1.0)))
+slice_bounds-area2-end c = sym (length-take-le _ _ (omega (arith, c.lift.auto.room)))
 
 pub area2-requires : goal.area2-requires
 area2-requires c =

@@ -1,5 +1,6 @@
 -- `whole_moves::are_moved_within` meets its contract. The invariant: what is left of the list, moved by d first, decides.
 -- Assumes nothing.
+use mathlib.Core.Bool.{not}
 use Prim.Native.Nat.{◌+◌, ◌-◌}
 use mathlib.Core.Path.{◌≡◌, sym, ap, ◌∙◌}
 use native.Mathlib.Omega.{arith}
@@ -34,11 +35,11 @@ pub returns-then-not-is_moved_within : goal.returns-then-not-is_moved_within
 returns-then-not-is_moved_within c =
     let more = c.loop-i-test.true in
     rw (← to_z-of_z w32 _ c.ranges.dx, ← to_z-of_z w32 _ c.ranges.dy)
-    (sym (rest_off _ _ _ more (is c.before) c.loop-i.invariant (not-true _ c.if-not-is_moved_within.true)))
+    (sym (rest_off _ _ _ more (is c.before) c.loop-i.invariant (not-true _ (ap not c.if-not-is_moved_within.true))))
 
 pub loop-i-preserved : goal.loop-i-preserved
 loop-i-preserved c =
-    rest_turn _ _ _ c.loop-i-test.true (is c.before) c.loop-i.invariant (not-false _ c.if-not-is_moved_within.false)
+    rest_turn _ _ _ c.loop-i-test.true (is c.before) c.loop-i.invariant (not-false _ (ap not c.if-not-is_moved_within.false))
 
 pub returns : goal.returns
 returns c =

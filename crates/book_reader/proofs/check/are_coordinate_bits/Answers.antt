@@ -1,7 +1,7 @@
 -- `book_reader::check::are_coordinate_bits` meets its contract: a NaN's pattern is none, and of the others the number decides, and how it is kept. Assumes nothing.
 use Prim.Native.Nat.{ℕ}
 use mathlib.Core.Path.{◌≡◌, sym, ap, ◌∙◌}
-use mathlib.Core.Bool.{true}
+use mathlib.Core.Bool.{not, true}
 use lib.Dec.{eqb}
 use lib.Ieee.{binary64, of_bits}
 use borrow.Author.Tests.{not-true, not-false}
@@ -12,7 +12,7 @@ use Rattle.book_reader.proofs.check.are_coordinate_bits.Goals as goal
 use Rattle.book_reader.proofs.check.are_coordinate_bits.Goals.{Else-not-is_coordinate}
 
 held : (c : Else-not-is_coordinate) → coordinate (of_bits binary64 c.args.b) ≡ true
-held c = sym c.is_coordinate.ensures ∙ not-false c.is_coordinate.result c.if-not-is_coordinate.false
+held c = sym c.is_coordinate.ensures ∙ not-false c.is_coordinate.result (ap not c.if-not-is_coordinate.false)
 
 pub returns-then-b-gt9218868437227405312 : goal.returns-then-b-gt9218868437227405312
 returns-then-b-gt9218868437227405312 c = too_high c.args.b c.if-b-gt9218868437227405312.true
@@ -22,7 +22,7 @@ float_from_bits-x c = not_high c.args.b c.if-b-gt9218868437227405312.false
 
 pub returns-then-not-is_coordinate : goal.returns-then-not-is_coordinate
 returns-then-not-is_coordinate c =
-    no_coordinate c.args.b (sym c.is_coordinate.ensures ∙ not-true c.is_coordinate.result c.if-not-is_coordinate.true)
+    no_coordinate c.args.b (sym c.is_coordinate.ensures ∙ not-true c.is_coordinate.result (ap not c.if-not-is_coordinate.true))
 
 pub kept_bits-requires : goal.kept_bits-requires
 kept_bits-requires c = coordinate_number (of_bits binary64 c.args.b) (held c)

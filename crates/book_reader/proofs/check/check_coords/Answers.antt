@@ -1,4 +1,5 @@
 -- `book_reader::check::check_coords` meets its contract. The loop's invariant: the check of the coordinates left, from j on, decides. Assumes nothing.
+use mathlib.Core.Bool.{not}
 use Prim.Native.Nat.{ℕ, ◌+◌, ◌*◌, ◌-◌, ◌≤◌}
 use mathlib.Core.Path.{◌≡◌, sym, ap, ◌∙◌}
 use native.Mathlib.Omega.{arith}
@@ -10,6 +11,7 @@ use Rattle.book_layout.specs.Faults.{fault_at, coords_check}
 use Rattle.book_reader.proofs.Coords.{coords_start, coord_good, coord_bad, coords_end}
 use Rattle.book_reader.proofs.check.check_coords.Goals as goal
 use Rattle.book_reader.proofs.check.check_coords.Goals.{After-are_coordinate_bits}
+use Rattle.book_reader.proofs.check.check_coords.Lts.View.{up-After-are_coordinate_bits}
 
 -- where the coordinate lies, and what was asked of it
 place : (j : ℕ) → coordinate_bytes * j ≡ 0 + coordinate_bytes * j
@@ -29,12 +31,12 @@ returns-then-not-are_coordinate_bits c =
     let a = c.args in
     c.fault.ensures
     ∙ ap fault_at (place c.loop-j.j)
-    ∙ sym (c.loop-j.invariant.1 ∙ coord_bad a.f.now 0 a.m c.loop-j.j c.loop-j-test.true (sym (asked c.before.before) ∙ not-true c.are_coordinate_bits.result c.if-not-are_coordinate_bits.true))
+    ∙ sym (c.loop-j.invariant.1 ∙ coord_bad a.f.now 0 a.m c.loop-j.j c.loop-j-test.true (sym (asked (up-After-are_coordinate_bits _ _ _ _ _ c.before.before.before)) ∙ not-true c.are_coordinate_bits.result (ap not c.if-not-are_coordinate_bits.true)))
 
 pub loop-j-preserved : goal.loop-j-preserved
 loop-j-preserved c =
     let a = c.args in
-    ((omega arith), c.loop-j.invariant.1 ∙ coord_good a.f.now 0 a.m c.loop-j.j c.loop-j-test.true (sym (asked c.before) ∙ not-false c.are_coordinate_bits.result c.if-not-are_coordinate_bits.false))
+    ((omega arith), c.loop-j.invariant.1 ∙ coord_good a.f.now 0 a.m c.loop-j.j c.loop-j-test.true (sym (asked (up-After-are_coordinate_bits _ _ _ _ _ c.before.before)) ∙ not-false c.are_coordinate_bits.result (ap not c.if-not-are_coordinate_bits.false)))
 
 pub returns : goal.returns
 returns c =

@@ -2,7 +2,7 @@
 -- have the bytes before the next one. Assumes nothing.
 use Prim.Native.Nat.{ℕ, ◌+◌, ◌*◌, ◌-◌, ◌≤◌, ◌<◌}
 use mathlib.Core.Path.{◌≡◌, sym, ap, ◌∙◌}
-use mathlib.Core.Bool.{true}
+use mathlib.Core.Bool.{not, true}
 use mathlib.Core.List.{List}
 use native.Mathlib.Omega.{arith}
 use borrow.Author.Tests.{not-true, not-false}
@@ -17,11 +17,12 @@ use Rattle.refusals.proofs.Counts.{is_within}
 use Rattle.book_reader.proofs.Entries.{offset_bad, count_bad, entry_good, total_left, entries_start, entries_end, fields_start, total_end, list_wrong, list_long, list_fine}
 use Rattle.book_reader.proofs.check.check_entries.Goals as goal
 use Rattle.book_reader.proofs.check.check_entries.Goals.{After-is_right, After-is_right-in-loop-i, After-loop-i, At-loop-i, Else-not-is_right, Else-not-is_right-2}
+use Rattle.book_reader.proofs.check.check_entries.Lts.View.{up-After-is_right, up-After-is_right-in-loop-i, up-After-loop-i, up-After-number4-offset, up-After-shared_slice_known-1, up-At-loop-i, up-Else-not-is_right}
 
 -- the entry of this turn: what was asked of its offset, and of its vertices
 module _ (c : After-is_right) where
   abbrev l : At-loop-i
-  l = c.before.before.before
+  l = up-At-loop-i _ _ _ _ _ (up-After-shared_slice_known-1 _ _ _ _ _ c.before.before.before.before.before)
 
   abbrev f : List ℕ
   f = l.args.f.now
@@ -45,16 +46,16 @@ module _ (c : After-is_right) where
   offset_asked = c.is_right.ensures ∙ ap (λ (o : ℕ). eqb o before) c.number4-offset.ensures.0
 
 vertices_asked : (c : After-is_right-in-loop-i)
-    → c.is_right-in-loop-i.result ≡ within vertices_least vertices_most (number_of (take field_bytes (drop (from c.before.before.before + entry_bytes * i c.before.before.before + field_bytes) (f c.before.before.before))))
+    → c.is_right-in-loop-i.result ≡ within vertices_least vertices_most (number_of (take field_bytes (drop (from (up-After-is_right _ _ _ _ _ c.before.before.before.before) + entry_bytes * i (up-After-is_right _ _ _ _ _ c.before.before.before.before) + field_bytes) (f (up-After-is_right _ _ _ _ _ c.before.before.before.before)))))
 vertices_asked c = c.is_right-in-loop-i.ensures ∙ ap (within vertices_least vertices_most) c.number4-n.ensures.0
 
-offset_right : (c : Else-not-is_right) → eqb (number_of (take field_bytes (drop (from c.before + entry_bytes * i c.before) (f c.before)))) (before c.before) ≡ true
-offset_right c = sym (offset_asked c.before) ∙ not-false c.is_right.result c.if-not-is_right.false
+offset_right : (c : Else-not-is_right) → eqb (number_of (take field_bytes (drop (from (up-After-is_right _ _ _ _ _ c.before.before) + entry_bytes * i (up-After-is_right _ _ _ _ _ c.before.before)) (f (up-After-is_right _ _ _ _ _ c.before.before))))) (before (up-After-is_right _ _ _ _ _ c.before.before)) ≡ true
+offset_right c = sym (offset_asked (up-After-is_right _ _ _ _ _ c.before.before)) ∙ not-false c.is_right.result (ap not c.if-not-is_right.false)
 
 -- the vertices are right
 module _ (c : Else-not-is_right-2) where
   abbrev a : After-is_right
-  a = c.before.before.before.before
+  a = up-After-is_right _ _ _ _ _ (up-After-number4-offset _ _ _ _ _ c.before.before.before.before.before.before)
 
   abbrev n : ℕ
   n = number_of (take field_bytes (drop (from a + entry_bytes * i a + field_bytes) (f a)))
@@ -63,7 +64,7 @@ module _ (c : Else-not-is_right-2) where
   is_n = c.number4-n.ensures.0
 
   right : within vertices_least vertices_most n ≡ true
-  right = sym (vertices_asked c.before) ∙ not-false c.is_right-in-loop-i.result c.if-not-is_right-2.false
+  right = sym (vertices_asked (up-After-is_right-in-loop-i _ _ _ _ _ c.before.before)) ∙ not-false c.is_right-in-loop-i.result (ap not c.if-not-is_right-2.false)
 
   small : n ≤ vertices_most
   small = (is_within vertices_least vertices_most n right).1
@@ -89,14 +90,14 @@ loop-i-init c =
 pub returns-then-not-is_right : goal.returns-then-not-is_right
 returns-then-not-is_right c =
     c.fault.ensures
-    ∙ list_wrong (f c.before.before) (from c.before.before) (k c.before.before) (from c.before.before + entry_bytes * i c.before.before)
-    ((l c.before.before).loop-i.invariant.2 ∙ offset_bad (f c.before.before) (from c.before.before) (k c.before.before) (i c.before.before) (before c.before.before) (turn c.before.before) (sym (offset_asked c.before.before) ∙ not-true c.is_right.result c.if-not-is_right.true))
+    ∙ list_wrong (f (up-After-is_right _ _ _ _ _ c.before.before.before)) (from (up-After-is_right _ _ _ _ _ c.before.before.before)) (k (up-After-is_right _ _ _ _ _ c.before.before.before)) (from (up-After-is_right _ _ _ _ _ c.before.before.before) + entry_bytes * i (up-After-is_right _ _ _ _ _ c.before.before.before))
+    ((l (up-After-is_right _ _ _ _ _ c.before.before.before)).loop-i.invariant.2 ∙ offset_bad (f (up-After-is_right _ _ _ _ _ c.before.before.before)) (from (up-After-is_right _ _ _ _ _ c.before.before.before)) (k (up-After-is_right _ _ _ _ _ c.before.before.before)) (i (up-After-is_right _ _ _ _ _ c.before.before.before)) (before (up-After-is_right _ _ _ _ _ c.before.before.before)) (turn (up-After-is_right _ _ _ _ _ c.before.before.before)) (sym (offset_asked (up-After-is_right _ _ _ _ _ c.before.before.before)) ∙ not-true c.is_right.result (ap not c.if-not-is_right.true)))
 
 pub returns-then-not-is_right-2 : goal.returns-then-not-is_right-2
 returns-then-not-is_right-2 c =
     c.fault-then-not-is_right-2.ensures
-    ∙ list_wrong (f c.before.before.before.before.before) (from c.before.before.before.before.before) (k c.before.before.before.before.before) (from c.before.before.before.before.before + entry_bytes * i c.before.before.before.before.before + field_bytes)
-    ((l c.before.before.before.before.before).loop-i.invariant.2 ∙ count_bad (f c.before.before.before.before.before) (from c.before.before.before.before.before) (k c.before.before.before.before.before) (i c.before.before.before.before.before) (before c.before.before.before.before.before) (turn c.before.before.before.before.before) (offset_right c.before.before.before.before) (sym (vertices_asked c.before.before) ∙ not-true c.is_right-in-loop-i.result c.if-not-is_right-2.true))
+    ∙ list_wrong (f (up-After-is_right _ _ _ _ _ c.before.before.before.before.before.before)) (from (up-After-is_right _ _ _ _ _ c.before.before.before.before.before.before)) (k (up-After-is_right _ _ _ _ _ c.before.before.before.before.before.before)) (from (up-After-is_right _ _ _ _ _ c.before.before.before.before.before.before) + entry_bytes * i (up-After-is_right _ _ _ _ _ c.before.before.before.before.before.before) + field_bytes)
+    ((l (up-After-is_right _ _ _ _ _ c.before.before.before.before.before.before)).loop-i.invariant.2 ∙ count_bad (f (up-After-is_right _ _ _ _ _ c.before.before.before.before.before.before)) (from (up-After-is_right _ _ _ _ _ c.before.before.before.before.before.before)) (k (up-After-is_right _ _ _ _ _ c.before.before.before.before.before.before)) (i (up-After-is_right _ _ _ _ _ c.before.before.before.before.before.before)) (before (up-After-is_right _ _ _ _ _ c.before.before.before.before.before.before)) (turn (up-After-is_right _ _ _ _ _ c.before.before.before.before.before.before)) (offset_right (up-Else-not-is_right _ _ _ _ _ c.before.before.before.before.before)) (sym (vertices_asked (up-After-is_right-in-loop-i _ _ _ _ _ c.before.before.before)) ∙ not-true c.is_right-in-loop-i.result (ap not c.if-not-is_right-2.true)))
 
 pub overflow_mul-before : goal.overflow_mul-before
 overflow_mul-before c = omega (arith, is_n c, small c)
@@ -108,19 +109,19 @@ pub loop-i-preserved : goal.loop-i-preserved
 loop-i-preserved c =
     (
       (omega arith),
-      (omega (arith, is_n c, small c, (l c.before.before.before.before).loop-i.invariant.1)),
-      (l c.before.before.before.before).loop-i.invariant.2
-          ∙ entry_good (f c.before.before.before.before) (from c.before.before.before.before) (k c.before.before.before.before) (i c.before.before.before.before) (before c.before.before.before.before) (turn c.before.before.before.before) (offset_right c.before.before.before) (right c)
-          ∙ ap (λ (j : ℕ). entries_check (k c.before.before.before.before - (i c.before.before.before.before + 1)) (from c.before.before.before.before + entry_bytes * (i c.before.before.before.before + 1)) (before c.before.before.before.before + vertex_bytes * j) (drop (from c.before.before.before.before + entry_bytes * (i c.before.before.before.before + 1)) (f c.before.before.before.before))) (sym (is_n c)),
-      (omega (arith, is_n c, (l c.before.before.before.before).loop-i.invariant.3, total_left (f c.before.before.before.before) (from c.before.before.before.before) (k c.before.before.before.before) (i c.before.before.before.before) (before c.before.before.before.before) (turn c.before.before.before.before))),
+      (omega (arith, is_n c, small c, (l (up-After-is_right _ _ _ _ _ c.before.before.before.before.before)).loop-i.invariant.1)),
+      (l (up-After-is_right _ _ _ _ _ c.before.before.before.before.before)).loop-i.invariant.2
+          ∙ entry_good (f (up-After-is_right _ _ _ _ _ c.before.before.before.before.before)) (from (up-After-is_right _ _ _ _ _ c.before.before.before.before.before)) (k (up-After-is_right _ _ _ _ _ c.before.before.before.before.before)) (i (up-After-is_right _ _ _ _ _ c.before.before.before.before.before)) (before (up-After-is_right _ _ _ _ _ c.before.before.before.before.before)) (turn (up-After-is_right _ _ _ _ _ c.before.before.before.before.before)) (offset_right (up-Else-not-is_right _ _ _ _ _ c.before.before.before.before)) (right c)
+          ∙ ap (λ (j : ℕ). entries_check (k (up-After-is_right _ _ _ _ _ c.before.before.before.before.before) - (i (up-After-is_right _ _ _ _ _ c.before.before.before.before.before) + 1)) (from (up-After-is_right _ _ _ _ _ c.before.before.before.before.before) + entry_bytes * (i (up-After-is_right _ _ _ _ _ c.before.before.before.before.before) + 1)) (before (up-After-is_right _ _ _ _ _ c.before.before.before.before.before) + vertex_bytes * j) (drop (from (up-After-is_right _ _ _ _ _ c.before.before.before.before.before) + entry_bytes * (i (up-After-is_right _ _ _ _ _ c.before.before.before.before.before) + 1)) (f (up-After-is_right _ _ _ _ _ c.before.before.before.before.before)))) (sym (is_n c)),
+      (omega (arith, is_n c, (l (up-After-is_right _ _ _ _ _ c.before.before.before.before.before)).loop-i.invariant.3, total_left (f (up-After-is_right _ _ _ _ _ c.before.before.before.before.before)) (from (up-After-is_right _ _ _ _ _ c.before.before.before.before.before)) (k (up-After-is_right _ _ _ _ _ c.before.before.before.before.before)) (i (up-After-is_right _ _ _ _ _ c.before.before.before.before.before)) (before (up-After-is_right _ _ _ _ _ c.before.before.before.before.before)) (turn (up-After-is_right _ _ _ _ _ c.before.before.before.before.before)))),
     )
 
 pub returns-then-before-from : goal.returns-then-before-from
 returns-then-before-from c =
     let s = c.args in
-    c.fault-then-before-from.ensures ∙ list_long s.f.now s.from s.k (passed c.before.before) (λ w. c.if-before-from.true (omega (arith, w, summed c.before.before)))
+    c.fault-then-before-from.ensures ∙ list_long s.f.now s.from s.k (passed (up-After-loop-i _ _ _ _ _ c.before.before.before)) (λ w. c.if-before-from.true (omega (arith, w, summed (up-After-loop-i _ _ _ _ _ c.before.before.before))))
 
 pub returns : goal.returns
 returns c =
     let s = c.args in
-    c.none.ensures ∙ list_fine s.f.now s.from s.k (passed c.before.before) (omega (arith, c.if-before-from.false, summed c.before.before))
+    c.none.ensures ∙ list_fine s.f.now s.from s.k (passed (up-After-loop-i _ _ _ _ _ c.before.before.before)) (omega (arith, c.if-before-from.false, summed (up-After-loop-i _ _ _ _ _ c.before.before.before)))

@@ -1,5 +1,6 @@
 -- `book_reader::check::check_rings` meets its contract. The loop's invariant: the check of the rings left, from i on, decides; their entries and their
 -- coordinates pass, and they end where the entries begin. Assumes nothing.
+use mathlib.Core.Bool.{not}
 use Prim.Native.Nat.{ℕ, ◌+◌, ◌*◌, ◌-◌, ◌/◌, ◌≤◌, ◌<◌}
 use mathlib.Core.Path.{◌≡◌, sym, ap, ◌∙◌}
 use mathlib.Core.List.{List}
@@ -16,11 +17,12 @@ use Rattle.book_reader.proofs.Entries.{entry_held, total_left, entries_start, fi
 use Rattle.book_reader.proofs.Rings.{coords_next, least_good, least_bad, least_end}
 use Rattle.book_reader.proofs.check.check_rings.Goals as goal
 use Rattle.book_reader.proofs.check.check_rings.Goals.{After-is_least_at, After-number4-n, At-loop-i}
+use Rattle.book_reader.proofs.check.check_rings.Lts.View.{up-After-is_least_at, up-After-number4-n, up-After-shared_slice_known-1, up-At-loop-i}
 
 -- the ring of this turn
 module _ (c : After-number4-n) where
   abbrev l : At-loop-i
-  l = c.before.before
+  l = up-At-loop-i _ _ _ _ _ _ (up-After-shared_slice_known-1 _ _ _ _ _ _ c.before.before.before.before)
 
   abbrev f : List ℕ
   f = l.args.f.now
@@ -59,9 +61,9 @@ module _ (c : After-number4-n) where
   coords = coords_next f from k i at turn l.loop-i.invariant.4
 
 -- what was asked of it
-asked : (c : After-is_least_at) → c.is_least_at.result ≡ is_least (vertices (coords_in (2 * n c.before) (drop (at c.before) (f c.before))))
+asked : (c : After-is_least_at) → c.is_least_at.result ≡ is_least (vertices (coords_in (2 * n (up-After-number4-n _ _ _ _ _ _ c.before.before)) (drop (at (up-After-number4-n _ _ _ _ _ _ c.before.before)) (f (up-After-number4-n _ _ _ _ _ _ c.before.before)))))
 asked c =
-    c.is_least_at.ensures ∙ ap (λ (j : ℕ). is_least (vertices (coords_in (2 * j) (drop (at c.before) (f c.before))))) (is_n c.before)
+    c.is_least_at.ensures ∙ ap (λ (j : ℕ). is_least (vertices (coords_in (2 * j) (drop (at (up-After-number4-n _ _ _ _ _ _ c.before.before)) (f (up-After-number4-n _ _ _ _ _ _ c.before.before)))))) (is_n (up-After-number4-n _ _ _ _ _ _ c.before.before))
 
 pub loop-i-init : goal.loop-i-init
 loop-i-init c =
@@ -81,29 +83,29 @@ loop-i-init c =
 
 pub is_least_at-requires : goal.is_least_at-requires
 is_least_at-requires c =
-    let s = (l c).before.before in record { n_in_bounds = ((omega (arith, is_n c, left c)), (omega (arith, is_n c, (entry c).0)), (omega (arith, is_n c, (entry c).1)), s.pre.0.2); coords_check = ap (λ (j : ℕ). passed (coords_check (2 * j) (at c) (drop (at c) (f c)))) (is_n c) ∙ (coords c).0 }
+    let s = (l c).before.before.before in record { n_in_bounds = ((omega (arith, is_n c, left c)), (omega (arith, is_n c, (entry c).0)), (omega (arith, is_n c, (entry c).1)), s.pre.0.2); coords_check = ap (λ (j : ℕ). passed (coords_check (2 * j) (at c) (drop (at c) (f c)))) (is_n c) ∙ (coords c).0 }
 
 pub returns-then-not-is_least_at : goal.returns-then-not-is_least_at
 returns-then-not-is_least_at c =
     c.fault.ensures
-    ∙ sym ((l c.before.before.before).loop-i.invariant.1 ∙ least_bad (f c.before.before.before) (from c.before.before.before) (k c.before.before.before) (i c.before.before.before) (at c.before.before.before) (turn c.before.before.before) (sym (asked c.before.before) ∙ not-true c.is_least_at.result c.if-not-is_least_at.true))
+    ∙ sym ((l (up-After-number4-n _ _ _ _ _ _ c.before.before.before.before)).loop-i.invariant.1 ∙ least_bad (f (up-After-number4-n _ _ _ _ _ _ c.before.before.before.before)) (from (up-After-number4-n _ _ _ _ _ _ c.before.before.before.before)) (k (up-After-number4-n _ _ _ _ _ _ c.before.before.before.before)) (i (up-After-number4-n _ _ _ _ _ _ c.before.before.before.before)) (at (up-After-number4-n _ _ _ _ _ _ c.before.before.before.before)) (turn (up-After-number4-n _ _ _ _ _ _ c.before.before.before.before)) (sym (asked (up-After-is_least_at _ _ _ _ _ _ c.before.before.before)) ∙ not-true c.is_least_at.result (ap not c.if-not-is_least_at.true)))
 
 pub overflow_mul-at : goal.overflow_mul-at
-overflow_mul-at c = omega (arith, is_n c.before.before, (entry c.before.before).1)
+overflow_mul-at c = omega (arith, is_n (up-After-number4-n _ _ _ _ _ _ c.before.before.before), (entry (up-After-number4-n _ _ _ _ _ _ c.before.before.before)).1)
 
 pub overflow_add-at : goal.overflow_add-at
-overflow_add-at c = omega (arith, is_n c.before.before, left c.before.before)
+overflow_add-at c = omega (arith, is_n (up-After-number4-n _ _ _ _ _ _ c.before.before.before), left (up-After-number4-n _ _ _ _ _ _ c.before.before.before))
 
 pub loop-i-preserved : goal.loop-i-preserved
 loop-i-preserved c =
     (
       (omega arith),
-      (l c.before.before).loop-i.invariant.1
-          ∙ least_good (f c.before.before) (from c.before.before) (k c.before.before) (i c.before.before) (at c.before.before) (turn c.before.before) (sym (asked c.before) ∙ not-false c.is_least_at.result c.if-not-is_least_at.false)
-          ∙ ap (λ (j : ℕ). least_check (rest c.before.before) (at c.before.before + vertex_bytes * j) (drop (at c.before.before + vertex_bytes * j) (f c.before.before))) (sym (is_n c.before.before)),
-      (omega (arith, is_n c.before.before, left c.before.before)),
-      ap (λ (j : ℕ). passed (entries_check (k c.before.before - (i c.before.before + 1)) (from c.before.before + entry_bytes * (i c.before.before + 1)) (at c.before.before + vertex_bytes * j) (drop (from c.before.before + entry_bytes * (i c.before.before + 1)) (f c.before.before)))) (is_n c.before.before) ∙ (entry c.before.before).2,
-      ap (λ (j : ℕ). passed (coords_check (2 * total (rest c.before.before)) (at c.before.before + vertex_bytes * j) (drop (at c.before.before + vertex_bytes * j) (f c.before.before)))) (is_n c.before.before) ∙ (coords c.before.before).1,
+      (l (up-After-number4-n _ _ _ _ _ _ c.before.before.before)).loop-i.invariant.1
+          ∙ least_good (f (up-After-number4-n _ _ _ _ _ _ c.before.before.before)) (from (up-After-number4-n _ _ _ _ _ _ c.before.before.before)) (k (up-After-number4-n _ _ _ _ _ _ c.before.before.before)) (i (up-After-number4-n _ _ _ _ _ _ c.before.before.before)) (at (up-After-number4-n _ _ _ _ _ _ c.before.before.before)) (turn (up-After-number4-n _ _ _ _ _ _ c.before.before.before)) (sym (asked (up-After-is_least_at _ _ _ _ _ _ c.before.before)) ∙ not-false c.is_least_at.result (ap not c.if-not-is_least_at.false))
+          ∙ ap (λ (j : ℕ). least_check (rest (up-After-number4-n _ _ _ _ _ _ c.before.before.before)) (at (up-After-number4-n _ _ _ _ _ _ c.before.before.before) + vertex_bytes * j) (drop (at (up-After-number4-n _ _ _ _ _ _ c.before.before.before) + vertex_bytes * j) (f (up-After-number4-n _ _ _ _ _ _ c.before.before.before)))) (sym (is_n (up-After-number4-n _ _ _ _ _ _ c.before.before.before))),
+      (omega (arith, is_n (up-After-number4-n _ _ _ _ _ _ c.before.before.before), left (up-After-number4-n _ _ _ _ _ _ c.before.before.before))),
+      ap (λ (j : ℕ). passed (entries_check (k (up-After-number4-n _ _ _ _ _ _ c.before.before.before) - (i (up-After-number4-n _ _ _ _ _ _ c.before.before.before) + 1)) (from (up-After-number4-n _ _ _ _ _ _ c.before.before.before) + entry_bytes * (i (up-After-number4-n _ _ _ _ _ _ c.before.before.before) + 1)) (at (up-After-number4-n _ _ _ _ _ _ c.before.before.before) + vertex_bytes * j) (drop (from (up-After-number4-n _ _ _ _ _ _ c.before.before.before) + entry_bytes * (i (up-After-number4-n _ _ _ _ _ _ c.before.before.before) + 1)) (f (up-After-number4-n _ _ _ _ _ _ c.before.before.before))))) (is_n (up-After-number4-n _ _ _ _ _ _ c.before.before.before)) ∙ (entry (up-After-number4-n _ _ _ _ _ _ c.before.before.before)).2,
+      ap (λ (j : ℕ). passed (coords_check (2 * total (rest (up-After-number4-n _ _ _ _ _ _ c.before.before.before))) (at (up-After-number4-n _ _ _ _ _ _ c.before.before.before) + vertex_bytes * j) (drop (at (up-After-number4-n _ _ _ _ _ _ c.before.before.before) + vertex_bytes * j) (f (up-After-number4-n _ _ _ _ _ _ c.before.before.before))))) (is_n (up-After-number4-n _ _ _ _ _ _ c.before.before.before)) ∙ (coords (up-After-number4-n _ _ _ _ _ _ c.before.before.before)).1,
     )
 
 pub returns : goal.returns

@@ -11,11 +11,12 @@ use Rattle.book_layout.specs.Layout.{coords_in}
 use Rattle.book_reader.proofs.Rings.{loaded_length, loaded_lent, loaded_ring}
 use Rattle.book_reader.proofs.check.is_least_at.Goals as goal
 use Rattle.book_reader.proofs.check.is_least_at.Goals.{After-load, Start}
+use Rattle.book_reader.proofs.check.is_least_at.Lts.View.{up-After-load}
 
 -- the three laws of what `load` left
 module _ (c : After-load) where
   abbrev s : Start
-  s = c.before.before.before
+  s = c.before.before.before.before
 
   abbrev r : List Float
   r = c.load.new.room
@@ -30,10 +31,10 @@ module _ (c : After-load) where
   ring = loaded_ring s.args.f.now (λ i. omega (arith, c.type_inv.f.given i)) s.args.at s.args.n s.requires.n_in_bounds.0 s.requires.n_in_bounds.2 s.requires.coords_check (replicate 512 (of_bits binary64 0)) r refl c.load.ensures
 
 pub slice_bounds-is_least-end : goal.slice_bounds-is_least-end
-slice_bounds-is_least-end c = sym (long c.before.before)
+slice_bounds-is_least-end c = sym (long (up-After-load _ _ _ _ c.before.before.before))
 
 pub is_least-requires : goal.is_least-requires
-is_least-requires c = record { lent = lent c.before.before; ring_nonzero = (omega (arith, long c.before.before, (s c.before.before).requires.n_in_bounds.1)) }
+is_least-requires c = record { lent = lent (up-After-load _ _ _ _ c.before.before.before); ring_nonzero = (omega (arith, long (up-After-load _ _ _ _ c.before.before.before), (s (up-After-load _ _ _ _ c.before.before.before)).requires.n_in_bounds.1)) }
 
 pub returns : goal.returns
-returns c = c.is_least.ensures ∙ ap is_least (ring c.before.before.before)
+returns c = c.is_least.ensures ∙ ap is_least (ring (up-After-load _ _ _ _ c.before.before.before.before))

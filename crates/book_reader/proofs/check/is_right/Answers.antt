@@ -20,4 +20,4 @@ returns-else-value-lt1 c = let a = c.args in most_rings a.code a.value a.told c.
 pub returns-in_default : goal.returns-in_default
 returns-in_default c =
     let a = c.args in
-    no_field a.code a.value a.told c.in_default.rest.0.0.1 c.in_default.rest.0.1 c.in_default.rest.1
+    no_field a.code a.value a.told c.in_default.in_default-own.rest.0.0.1 c.in_default.in_default-own.rest.0.1 c.in_default.in_default-own.rest.1

@@ -16,6 +16,7 @@ use Rattle.book_layout.proofs.Exact.{Checked, checked}
 use Rattle.book_layout.proofs.Lent.{length_numbers, length_counts, length_parts}
 use Rattle.book_reader.proofs.load.load_book.Goals as goal
 use Rattle.book_reader.proofs.load.load_book.Goals.{After-ring_count-k, After-slice_known-3-1, Start}
+use Rattle.book_reader.proofs.load.load_book.Lts.View.{up-After-ring_count-k, up-After-slice_known-3-1}
 
 -- the file
 all : (c : After-slice_known-3-1) → Checked c.args.f.now
@@ -23,7 +24,7 @@ all c = checked c.args.f.now c.requires.book_check
 
 module _ (c : After-ring_count-k) where
   abbrev s : Start
-  s = c.before.before.before.before.before.before
+  s = c.before.before.before.before.before.before.before
 
   abbrev f : List ℕ
   f = s.args.f.now
@@ -34,7 +35,7 @@ module _ (c : After-ring_count-k) where
   -- the entries are in the file
   entries_there : (c.entry_offset-from.result + entry_bytes * c.ring_count-k.result + tail_bytes ≡ length f) × (c.ring_count-k.result ≤ rings_most)
   entries_there =
-      let a = all c.before.before in
+      let a = all (up-After-slice_known-3-1 _ _ _ _ c.before.before.before) in
       ((omega (arith, c.entry_offset-from.ensures.0, c.ring_count-k.ensures.0, a.offset)), (omega (arith, c.ring_count-k.ensures.0, a.count)))
 
   -- a room for a field of each
@@ -49,28 +50,28 @@ pub entry_offset-from-requires : goal.entry_offset-from-requires
 entry_offset-from-requires c = omega (arith, (all c).long)
 
 pub ring_count-k-requires : goal.ring_count-k-requires
-ring_count-k-requires c = omega (arith, (all c.before).long)
+ring_count-k-requires c = omega (arith, (all (up-After-slice_known-3-1 _ _ _ _ c.before.before)).long)
 
 pub load-requires : goal.load-requires
 load-requires c =
-    let a = all c.before.before.before in record { m_in_bounds = ((omega (arith, is_m c.before, a.offset)), (omega (arith, is_m c.before, length_numbers (f c.before), (s c.before).requires.f_in_bounds.0)), a.long.1); coords_check = ap (λ (m : ℕ). passed (coords_check m 0 (f c.before))) (is_m c.before) ∙ a.coords }
+    let a = all (up-After-slice_known-3-1 _ _ _ _ c.before.before.before.before) in record { m_in_bounds = ((omega (arith, is_m (up-After-ring_count-k _ _ _ _ c.before.before), a.offset)), (omega (arith, is_m (up-After-ring_count-k _ _ _ _ c.before.before), length_numbers (f (up-After-ring_count-k _ _ _ _ c.before.before)), (s (up-After-ring_count-k _ _ _ _ c.before.before)).requires.f_in_bounds.0)), a.long.1); coords_check = ap (λ (m : ℕ). passed (coords_check m 0 (f (up-After-ring_count-k _ _ _ _ c.before.before)))) (is_m (up-After-ring_count-k _ _ _ _ c.before.before)) ∙ a.coords }
 
 pub load_fields-requires : goal.load_fields-requires
-load_fields-requires c = record { tail_bytes_value = ((entries_there c.before.before.before.before.before).0, (entries_there c.before.before.before.before.before).1, fits c.before.before.before.before.before _ (s c.before.before.before.before.before).requires.f_in_bounds.1); field_bytes_bound = (omega arith) }
+load_fields-requires c = record { tail_bytes_value = ((entries_there (up-After-ring_count-k _ _ _ _ c.before.before.before.before.before.before)).0, (entries_there (up-After-ring_count-k _ _ _ _ c.before.before.before.before.before.before)).1, fits (up-After-ring_count-k _ _ _ _ c.before.before.before.before.before.before) _ (s (up-After-ring_count-k _ _ _ _ c.before.before.before.before.before.before)).requires.f_in_bounds.1); field_bytes_bound = (omega arith) }
 
 pub load_fields-requires-2 : goal.load_fields-requires-2
-load_fields-requires-2 c = record { tail_bytes_value = ((entries_there c.before.before.before.before.before.before.before.before.before).0, (entries_there c.before.before.before.before.before.before.before.before.before).1, fits c.before.before.before.before.before.before.before.before.before _ (s c.before.before.before.before.before.before.before.before.before).requires.f_in_bounds.2); field_bytes_bound = (omega arith) }
+load_fields-requires-2 c = record { tail_bytes_value = ((entries_there (up-After-ring_count-k _ _ _ _ c.before.before.before.before.before.before.before.before.before.before)).0, (entries_there (up-After-ring_count-k _ _ _ _ c.before.before.before.before.before.before.before.before.before.before)).1, fits (up-After-ring_count-k _ _ _ _ c.before.before.before.before.before.before.before.before.before.before) _ (s (up-After-ring_count-k _ _ _ _ c.before.before.before.before.before.before.before.before.before.before)).requires.f_in_bounds.2); field_bytes_bound = (omega arith) }
 
 pub returns : goal.returns
 unfolding coords_of counts_of parts_of
 returns c =
-    let a = (s c.before.before.before.before.before.before.before.before.before.before.before.before).args in (
-      c.ring_count-k.ensures.0 ∙ sym (length_counts (f c.before.before.before.before.before.before.before.before.before.before.before.before)),
+    let a = (s (up-After-ring_count-k _ _ _ _ c.before.before.before.before.before.before.before.before.before.before.before.before.before)).args in (
+      c.ring_count-k.ensures.0 ∙ sym (length_counts (f (up-After-ring_count-k _ _ _ _ c.before.before.before.before.before.before.before.before.before.before.before.before.before))),
       c.load.ensures
-          ∙ ap (λ (m : ℕ). sets a.room.now 0 (map (of_bits binary64) (coords_in m (f c.before.before.before.before.before.before.before.before.before.before.before.before)))) (is_m c.before.before.before.before.before.before.before.before.before.before.before.before)
-          ∙ laid_is (numbers_of (f c.before.before.before.before.before.before.before.before.before.before.before.before)) a.room.now (s c.before.before.before.before.before.before.before.before.before.before.before.before).requires.f_in_bounds.0,
-      c.load_fields.ensures ∙ loaded c.before.before.before.before.before.before.before.before.before.before.before.before field_bytes a.counts.now ∙ laid_is (counts_of (f c.before.before.before.before.before.before.before.before.before.before.before.before)) a.counts.now (s c.before.before.before.before.before.before.before.before.before.before.before.before).requires.f_in_bounds.1,
+          ∙ ap (λ (m : ℕ). sets a.room.now 0 (map (of_bits binary64) (coords_in m (f (up-After-ring_count-k _ _ _ _ c.before.before.before.before.before.before.before.before.before.before.before.before.before))))) (is_m (up-After-ring_count-k _ _ _ _ c.before.before.before.before.before.before.before.before.before.before.before.before.before))
+          ∙ laid_is (numbers_of (f (up-After-ring_count-k _ _ _ _ c.before.before.before.before.before.before.before.before.before.before.before.before.before))) a.room.now (s (up-After-ring_count-k _ _ _ _ c.before.before.before.before.before.before.before.before.before.before.before.before.before)).requires.f_in_bounds.0,
+      c.load_fields.ensures ∙ loaded (up-After-ring_count-k _ _ _ _ c.before.before.before.before.before.before.before.before.before.before.before.before.before) field_bytes a.counts.now ∙ laid_is (counts_of (f (up-After-ring_count-k _ _ _ _ c.before.before.before.before.before.before.before.before.before.before.before.before.before))) a.counts.now (s (up-After-ring_count-k _ _ _ _ c.before.before.before.before.before.before.before.before.before.before.before.before.before)).requires.f_in_bounds.1,
       c.load_fields-2.ensures
-          ∙ loaded c.before.before.before.before.before.before.before.before.before.before.before.before (2 * field_bytes) a.parts.now
-          ∙ laid_is (parts_of (f c.before.before.before.before.before.before.before.before.before.before.before.before)) a.parts.now (omega (arith, length_parts (f c.before.before.before.before.before.before.before.before.before.before.before.before), length_counts (f c.before.before.before.before.before.before.before.before.before.before.before.before), (s c.before.before.before.before.before.before.before.before.before.before.before.before).requires.f_in_bounds.2)),
+          ∙ loaded (up-After-ring_count-k _ _ _ _ c.before.before.before.before.before.before.before.before.before.before.before.before.before) (2 * field_bytes) a.parts.now
+          ∙ laid_is (parts_of (f (up-After-ring_count-k _ _ _ _ c.before.before.before.before.before.before.before.before.before.before.before.before.before))) a.parts.now (omega (arith, length_parts (f (up-After-ring_count-k _ _ _ _ c.before.before.before.before.before.before.before.before.before.before.before.before.before)), length_counts (f (up-After-ring_count-k _ _ _ _ c.before.before.before.before.before.before.before.before.before.before.before.before.before)), (s (up-After-ring_count-k _ _ _ _ c.before.before.before.before.before.before.before.before.before.before.before.before.before)).requires.f_in_bounds.2)),
     )

@@ -14,11 +14,12 @@ use Rattle.book_writer.proofs.Storing.{stored}
 use Rattle.book_writer.proofs.Stored.{four_runs}
 use Rattle.book_writer.proofs.store.put_book.Goals as goal
 use Rattle.book_writer.proofs.store.put_book.Goals.{After-put, After-put_entries, After-put_rings, After-sum_of-from, Start}
+use Rattle.book_writer.proofs.store.put_book.Lts.View.{up-After-put, up-After-put_entries, up-After-put_rings, up-After-sum_of-from}
 
 -- what is lent, the sum, and that it is small
 module _ (c : After-sum_of-from) where
   abbrev s : Start
-  s = c.before.before.before.before.before
+  s = c.before.before.before.before.before.before
 
   abbrev xs : List Float
   xs = s.args.xs.now
@@ -39,24 +40,24 @@ module _ (c : After-sum_of-from) where
   small = (total_bounds ns s.requires.held.sized).1
 
 -- the room after each run
-first_run : (c : After-put_rings) → c.put_rings.new.room ≡ sets (room c.before.before) 0 (stored (ns c.before.before) (xs c.before.before))
+first_run : (c : After-put_rings) → c.put_rings.new.room ≡ sets (room (up-After-sum_of-from _ _ _ _ c.before.before.before)) 0 (stored (ns (up-After-sum_of-from _ _ _ _ c.before.before.before)) (xs (up-After-sum_of-from _ _ _ _ c.before.before.before)))
 first_run c = c.put_rings.ensures
 
-first_length : (c : After-put_rings) → length c.put_rings.new.room ≡ length (room c.before.before)
-first_length c = ap length (first_run c) ∙ length-sets (room c.before.before) 0 (stored (ns c.before.before) (xs c.before.before))
+first_length : (c : After-put_rings) → length c.put_rings.new.room ≡ length (room (up-After-sum_of-from _ _ _ _ c.before.before.before))
+first_length c = ap length (first_run c) ∙ length-sets (room (up-After-sum_of-from _ _ _ _ c.before.before.before)) 0 (stored (ns (up-After-sum_of-from _ _ _ _ c.before.before.before)) (xs (up-After-sum_of-from _ _ _ _ c.before.before.before)))
 
-second_run : (c : After-put_entries) → c.put_entries.new.room ≡ sets c.put_rings.new.room (vertex_bytes * total (ns c.before.before.before.before.before.before)) (entries 0 (ns c.before.before.before.before.before.before) (ps c.before.before.before.before.before.before))
+second_run : (c : After-put_entries) → c.put_entries.new.room ≡ sets c.put_rings.new.room (vertex_bytes * total (ns (up-After-sum_of-from _ _ _ _ c.before.before.before.before.before.before.before))) (entries 0 (ns (up-After-sum_of-from _ _ _ _ c.before.before.before.before.before.before.before)) (ps (up-After-sum_of-from _ _ _ _ c.before.before.before.before.before.before.before)))
 second_run c =
-    c.put_entries.ensures ∙ ap (λ (j : ℕ). sets c.put_rings.new.room (vertex_bytes * j) (entries 0 (ns c.before.before.before.before.before.before) (ps c.before.before.before.before.before.before))) (sum c.before.before.before.before.before.before)
+    c.put_entries.ensures ∙ ap (λ (j : ℕ). sets c.put_rings.new.room (vertex_bytes * j) (entries 0 (ns (up-After-sum_of-from _ _ _ _ c.before.before.before.before.before.before.before)) (ps (up-After-sum_of-from _ _ _ _ c.before.before.before.before.before.before.before)))) (sum (up-After-sum_of-from _ _ _ _ c.before.before.before.before.before.before.before))
 
-second_length : (c : After-put_entries) → length c.put_entries.new.room ≡ length (room c.before.before.before.before.before.before)
+second_length : (c : After-put_entries) → length c.put_entries.new.room ≡ length (room (up-After-sum_of-from _ _ _ _ c.before.before.before.before.before.before.before))
 second_length c =
-    ap length (second_run c) ∙ length-sets c.put_rings.new.room (vertex_bytes * total (ns c.before.before.before.before.before.before)) (entries 0 (ns c.before.before.before.before.before.before) (ps c.before.before.before.before.before.before)) ∙ first_length c.before.before.before.before
+    ap length (second_run c) ∙ length-sets c.put_rings.new.room (vertex_bytes * total (ns (up-After-sum_of-from _ _ _ _ c.before.before.before.before.before.before.before))) (entries 0 (ns (up-After-sum_of-from _ _ _ _ c.before.before.before.before.before.before.before)) (ps (up-After-sum_of-from _ _ _ _ c.before.before.before.before.before.before.before))) ∙ first_length (up-After-put_rings _ _ _ _ c.before.before.before.before.before)
 
-third_run : (c : After-put) → c.put.new.room ≡ sets c.put_entries.new.room (vertex_bytes * total (ns c.before.before.before.before.before.before.before.before.before.before) + entry_bytes * length (ns c.before.before.before.before.before.before.before.before.before.before)) (bytes_of field_bytes (length (ns c.before.before.before.before.before.before.before.before.before.before)))
+third_run : (c : After-put) → c.put.new.room ≡ sets c.put_entries.new.room (vertex_bytes * total (ns (up-After-sum_of-from _ _ _ _ c.before.before.before.before.before.before.before.before.before.before.before)) + entry_bytes * length (ns (up-After-sum_of-from _ _ _ _ c.before.before.before.before.before.before.before.before.before.before.before))) (bytes_of field_bytes (length (ns (up-After-sum_of-from _ _ _ _ c.before.before.before.before.before.before.before.before.before.before.before))))
 third_run c =
-    let n = length (ns c.before.before.before.before.before.before.before.before.before.before) in
-    c.put.ensures ∙ ap (λ (j : ℕ). sets c.put_entries.new.room (vertex_bytes * j + entry_bytes * n) (bytes_of field_bytes n)) (sum c.before.before.before.before.before.before.before.before.before.before)
+    let n = length (ns (up-After-sum_of-from _ _ _ _ c.before.before.before.before.before.before.before.before.before.before.before)) in
+    c.put.ensures ∙ ap (λ (j : ℕ). sets c.put_entries.new.room (vertex_bytes * j + entry_bytes * n) (bytes_of field_bytes n)) (sum (up-After-sum_of-from _ _ _ _ c.before.before.before.before.before.before.before.before.before.before.before))
 
 pub sum_of-from-requires : goal.sum_of-from-requires
 sum_of-from-requires c = c.requires.held.few
@@ -73,29 +74,29 @@ put_rings-requires c =
     record { counts_value = (h.sized, h.whole, h.bounded); xs_in_bounds = (omega (arith, h.whole)) }
 
 pub put_entries-requires : goal.put_entries-requires
-put_entries-requires c = record { counts_len_bound = ((s c.before.before.before.before.before).requires.held.few, (omega (arith, first_length c.before.before.before, sum c.before.before.before.before.before, (s c.before.before.before.before.before).requires.counts_in_bounds))); counts_bound = ((omega (arith, small c.before.before.before.before.before, (s c.before.before.before.before.before).requires.held.few)), (s c.before.before.before.before.before).requires.held.many) }
+put_entries-requires c = record { counts_len_bound = ((s (up-After-sum_of-from _ _ _ _ c.before.before.before.before.before.before)).requires.held.few, (omega (arith, first_length (up-After-put_rings _ _ _ _ c.before.before.before.before), sum (up-After-sum_of-from _ _ _ _ c.before.before.before.before.before.before), (s (up-After-sum_of-from _ _ _ _ c.before.before.before.before.before.before)).requires.counts_in_bounds))); counts_bound = ((omega (arith, small (up-After-sum_of-from _ _ _ _ c.before.before.before.before.before.before), (s (up-After-sum_of-from _ _ _ _ c.before.before.before.before.before.before)).requires.held.few)), (s (up-After-sum_of-from _ _ _ _ c.before.before.before.before.before.before)).requires.held.many) }
 
 pub put-requires : goal.put-requires
 put-requires c =
-    omega (arith, second_length c.before.before.before, sum c.before.before.before.before.before.before.before.before.before, (s c.before.before.before.before.before.before.before.before.before).requires.counts_in_bounds)
+    omega (arith, second_length (up-After-put_entries _ _ _ _ c.before.before.before.before), sum (up-After-sum_of-from _ _ _ _ c.before.before.before.before.before.before.before.before.before.before), (s (up-After-sum_of-from _ _ _ _ c.before.before.before.before.before.before.before.before.before.before)).requires.counts_in_bounds)
 
 pub overflow_add-tail-2 : goal.overflow_add-tail-2
 overflow_add-tail-2 c =
-    omega (arith, sum c.before.before.before.before.before.before.before.before.before.before.before.before.before, small c.before.before.before.before.before.before.before.before.before.before.before.before.before, (s c.before.before.before.before.before.before.before.before.before.before.before.before.before).requires.held.few)
+    omega (arith, sum (up-After-sum_of-from _ _ _ _ c.before.before.before.before.before.before.before.before.before.before.before.before.before.before), small (up-After-sum_of-from _ _ _ _ c.before.before.before.before.before.before.before.before.before.before.before.before.before.before), (s (up-After-sum_of-from _ _ _ _ c.before.before.before.before.before.before.before.before.before.before.before.before.before.before)).requires.held.few)
 
 pub put-requires-2 : goal.put-requires-2
 put-requires-2 c =
-    let n = length (ns c.before.before.before.before.before.before.before.before.before.before.before.before.before) in
-    omega (arith, ap length (third_run c.before.before.before) ∙ length-sets c.put_entries.new.room (vertex_bytes * total (ns c.before.before.before.before.before.before.before.before.before.before.before.before.before) + entry_bytes * n) (bytes_of field_bytes n) ∙ second_length c.before.before.before.before.before.before.before, sum c.before.before.before.before.before.before.before.before.before.before.before.before.before, (s c.before.before.before.before.before.before.before.before.before.before.before.before.before).requires.counts_in_bounds)
+    let n = length (ns (up-After-sum_of-from _ _ _ _ c.before.before.before.before.before.before.before.before.before.before.before.before.before.before)) in
+    omega (arith, ap length (third_run (up-After-put _ _ _ _ c.before.before.before.before)) ∙ length-sets c.put_entries.new.room (vertex_bytes * total (ns (up-After-sum_of-from _ _ _ _ c.before.before.before.before.before.before.before.before.before.before.before.before.before.before)) + entry_bytes * n) (bytes_of field_bytes n) ∙ second_length (up-After-put_entries _ _ _ _ c.before.before.before.before.before.before.before.before), sum (up-After-sum_of-from _ _ _ _ c.before.before.before.before.before.before.before.before.before.before.before.before.before.before), (s (up-After-sum_of-from _ _ _ _ c.before.before.before.before.before.before.before.before.before.before.before.before.before.before)).requires.counts_in_bounds)
 
 pub overflow_add-result : goal.overflow_add-result
 overflow_add-result c =
-    omega (arith, sum c.before.before.before.before.before.before.before.before.before.before.before.before.before.before.before.before, small c.before.before.before.before.before.before.before.before.before.before.before.before.before.before.before.before, (s c.before.before.before.before.before.before.before.before.before.before.before.before.before.before.before.before).requires.held.few)
+    omega (arith, sum (up-After-sum_of-from _ _ _ _ c.before.before.before.before.before.before.before.before.before.before.before.before.before.before.before.before.before), small (up-After-sum_of-from _ _ _ _ c.before.before.before.before.before.before.before.before.before.before.before.before.before.before.before.before.before), (s (up-After-sum_of-from _ _ _ _ c.before.before.before.before.before.before.before.before.before.before.before.before.before.before.before.before.before)).requires.held.few)
 
 pub returns : goal.returns
 returns c =
-    let f = vertex_bytes * total (ns c.before.before.before.before.before.before.before.before.before.before.before.before.before.before.before.before) in
-    let n = length (ns c.before.before.before.before.before.before.before.before.before.before.before.before.before.before.before.before) in record { value = (omega (arith, sum c.before.before.before.before.before.before.before.before.before.before.before.before.before.before.before.before)); room_after = c.put-2.ensures
-          ∙ ap (λ (j : ℕ). sets c.put.new.room (vertex_bytes * j + entry_bytes * n + field_bytes) (bytes_of field_bytes (vertex_bytes * j))) (sum c.before.before.before.before.before.before.before.before.before.before.before.before.before.before.before.before)
-          ∙ ap (λ (r : List ℕ). sets r (f + entry_bytes * n + field_bytes) (bytes_of field_bytes f)) (third_run c.before.before.before.before.before.before ∙ ap (λ (r : List ℕ). sets r (f + entry_bytes * n) (bytes_of field_bytes n)) (second_run c.before.before.before.before.before.before.before.before.before.before ∙ ap (λ (r : List ℕ). sets r f (entries 0 (ns c.before.before.before.before.before.before.before.before.before.before.before.before.before.before.before.before) (ps c.before.before.before.before.before.before.before.before.before.before.before.before.before.before.before.before))) (first_run c.before.before.before.before.before.before.before.before.before.before.before.before.before.before)))
-          ∙ four_runs (xs c.before.before.before.before.before.before.before.before.before.before.before.before.before.before.before.before) (ns c.before.before.before.before.before.before.before.before.before.before.before.before.before.before.before.before) (ps c.before.before.before.before.before.before.before.before.before.before.before.before.before.before.before.before) (room c.before.before.before.before.before.before.before.before.before.before.before.before.before.before.before.before) (s c.before.before.before.before.before.before.before.before.before.before.before.before.before.before.before.before).requires.held.sized (s c.before.before.before.before.before.before.before.before.before.before.before.before.before.before.before.before).requires.held.whole (s c.before.before.before.before.before.before.before.before.before.before.before.before.before.before.before.before).requires.held.many (s c.before.before.before.before.before.before.before.before.before.before.before.before.before.before.before.before).requires.counts_in_bounds }
+    let f = vertex_bytes * total (ns (up-After-sum_of-from _ _ _ _ c.before.before.before.before.before.before.before.before.before.before.before.before.before.before.before.before.before)) in
+    let n = length (ns (up-After-sum_of-from _ _ _ _ c.before.before.before.before.before.before.before.before.before.before.before.before.before.before.before.before.before)) in record { value = (omega (arith, sum (up-After-sum_of-from _ _ _ _ c.before.before.before.before.before.before.before.before.before.before.before.before.before.before.before.before.before))); room_after = c.put-2.ensures
+          ∙ ap (λ (j : ℕ). sets c.put.new.room (vertex_bytes * j + entry_bytes * n + field_bytes) (bytes_of field_bytes (vertex_bytes * j))) (sum (up-After-sum_of-from _ _ _ _ c.before.before.before.before.before.before.before.before.before.before.before.before.before.before.before.before.before))
+          ∙ ap (λ (r : List ℕ). sets r (f + entry_bytes * n + field_bytes) (bytes_of field_bytes f)) (third_run (up-After-put _ _ _ _ c.before.before.before.before.before.before.before) ∙ ap (λ (r : List ℕ). sets r (f + entry_bytes * n) (bytes_of field_bytes n)) (second_run (up-After-put_entries _ _ _ _ c.before.before.before.before.before.before.before.before.before.before.before) ∙ ap (λ (r : List ℕ). sets r f (entries 0 (ns (up-After-sum_of-from _ _ _ _ c.before.before.before.before.before.before.before.before.before.before.before.before.before.before.before.before.before)) (ps (up-After-sum_of-from _ _ _ _ c.before.before.before.before.before.before.before.before.before.before.before.before.before.before.before.before.before)))) (first_run (up-After-put_rings _ _ _ _ c.before.before.before.before.before.before.before.before.before.before.before.before.before.before.before))))
+          ∙ four_runs (xs (up-After-sum_of-from _ _ _ _ c.before.before.before.before.before.before.before.before.before.before.before.before.before.before.before.before.before)) (ns (up-After-sum_of-from _ _ _ _ c.before.before.before.before.before.before.before.before.before.before.before.before.before.before.before.before.before)) (ps (up-After-sum_of-from _ _ _ _ c.before.before.before.before.before.before.before.before.before.before.before.before.before.before.before.before.before)) (room (up-After-sum_of-from _ _ _ _ c.before.before.before.before.before.before.before.before.before.before.before.before.before.before.before.before.before)) (s (up-After-sum_of-from _ _ _ _ c.before.before.before.before.before.before.before.before.before.before.before.before.before.before.before.before.before)).requires.held.sized (s (up-After-sum_of-from _ _ _ _ c.before.before.before.before.before.before.before.before.before.before.before.before.before.before.before.before.before)).requires.held.whole (s (up-After-sum_of-from _ _ _ _ c.before.before.before.before.before.before.before.before.before.before.before.before.before.before.before.before.before)).requires.held.many (s (up-After-sum_of-from _ _ _ _ c.before.before.before.before.before.before.before.before.before.before.before.before.before.before.before.before.before)).requires.counts_in_bounds }

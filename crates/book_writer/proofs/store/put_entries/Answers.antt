@@ -13,6 +13,7 @@ use Rattle.refusals.proofs.Counts.{total_on}
 use Rattle.book_writer.proofs.Storing.{entries_start, entries_on, entries_end}
 use Rattle.book_writer.proofs.store.put_entries.Goals as goal
 use Rattle.book_writer.proofs.store.put_entries.Goals.{In-loop-i}
+use Rattle.book_writer.proofs.store.put_entries.Lts.View.{up-In-loop-i}
 
 -- the count of this turn is a part of the total
 share : (c : In-loop-i)
@@ -32,10 +33,10 @@ pub overflow_cast-parts : goal.overflow_cast-parts
 overflow_cast-parts c = omega (arith, c.shared_slice_known-in-loop-i-2-1.given c.loop-i.i)
 
 pub overflow_mul-before : goal.overflow_mul-before
-overflow_mul-before c = omega (arith, share c.before.before.before.before.before.before.before.before.before.before.before.before.before.before)
+overflow_mul-before c = omega (arith, share (up-In-loop-i _ _ _ _ _ _ c.before.before.before.before.before.before.before.before.before.before.before.before.before.before.before))
 
 pub overflow_add-before : goal.overflow_add-before
-overflow_add-before c = omega (arith, share c.before.before.before.before.before.before.before.before.before.before.before.before.before.before)
+overflow_add-before c = omega (arith, share (up-In-loop-i _ _ _ _ _ _ c.before.before.before.before.before.before.before.before.before.before.before.before.before.before.before))
 
 pub loop-i-preserved : goal.loop-i-preserved
 loop-i-preserved c =
@@ -59,7 +60,7 @@ loop-i-preserved c =
           ∙ length-sets r1 (a + field_bytes) (bytes_of field_bytes n)
           ∙ length-sets room a (bytes_of field_bytes b)
           ∙ c.loop-i.invariant.1,
-      (omega (arith, share c.before.before.before.before.before.before.before.before.before.before.before.before.before.before)),
+      (omega (arith, share (up-In-loop-i _ _ _ _ _ _ c.before.before.before.before.before.before.before.before.before.before.before.before.before.before.before))),
       c.loop-i.invariant.3
           ∙ entries_on room ns ps c.args.from b i c.requires.counts_bound.1 c.loop-i-test.true
           ∙ ap (λ (r : List ℕ). sets r (c.args.from + entry_bytes * (i + 1)) (entries (b + vertex_bytes * n) (drop (i + 1) ns) (drop (i + 1) ps))) (sym g),

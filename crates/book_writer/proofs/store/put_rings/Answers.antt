@@ -17,11 +17,12 @@ use Rattle.book_writer.proofs.Storing.{stored, rings_on, rings_end}
 use Rattle.book_writer.proofs.Part.{part_is, part_length, part_lent}
 use Rattle.book_writer.proofs.store.put_rings.Goals as goal
 use Rattle.book_writer.proofs.store.put_rings.Goals.{At-loop-i, In-loop-i}
+use Rattle.book_writer.proofs.store.put_rings.Lts.View.{up-After-slice_known-1, up-At-loop-i, up-In-loop-i}
 
 -- the ring of this turn
 module _ (c : In-loop-i) where
   abbrev l : At-loop-i
-  l = c.before
+  l = up-At-loop-i _ _ _ _ _ _ (up-After-slice_known-1 _ _ _ _ _ _ c.before.before.before)
 
   abbrev xs : List Float
   xs = l.args.xs.now
@@ -50,51 +51,51 @@ pub overflow_cast-n : goal.overflow_cast-n
 overflow_cast-n c = omega (arith, c.shared_slice_known-in-loop-i-1.given c.loop-i.i)
 
 pub overflow_mul-end : goal.overflow_mul-end
-overflow_mul-end c = omega (arith, inside c.before)
+overflow_mul-end c = omega (arith, inside (up-In-loop-i _ _ _ _ _ _ c.before.before))
 
 pub overflow_add-end : goal.overflow_add-end
-overflow_add-end c = omega (arith, inside c.before)
+overflow_add-end c = omega (arith, inside (up-In-loop-i _ _ _ _ _ _ c.before.before))
 
 pub offset_bounds-xs-at : goal.offset_bounds-xs-at
-offset_bounds-xs-at c = omega (arith, inside c.before)
+offset_bounds-xs-at c = omega (arith, inside (up-In-loop-i _ _ _ _ _ _ c.before.before))
 
 pub slice_bounds-put_least-count : goal.slice_bounds-put_least-count
-slice_bounds-put_least-count c = omega (arith, inside c.before)
+slice_bounds-put_least-count c = omega (arith, inside (up-In-loop-i _ _ _ _ _ _ c.before.before))
 
 pub slice_bounds-put_least-start : goal.slice_bounds-put_least-start
-slice_bounds-put_least-start c = omega (arith, inside c.before)
+slice_bounds-put_least-start c = omega (arith, inside (up-In-loop-i _ _ _ _ _ _ c.before.before))
 
 pub slice_bounds-put_least-end : goal.slice_bounds-put_least-end
-slice_bounds-put_least-end c = omega (arith, inside c.before)
+slice_bounds-put_least-end c = omega (arith, inside (up-In-loop-i _ _ _ _ _ _ c.before.before))
 
 pub overflow_mul-at : goal.overflow_mul-at
-overflow_mul-at c = omega (arith, inside c.before.before.before)
+overflow_mul-at c = omega (arith, inside (up-In-loop-i _ _ _ _ _ _ c.before.before.before.before))
 
 pub put_least-requires : goal.put_least-requires
 put_least-requires c =
-    let s = (l c.before.before.before).before.before.before.before in
+    let s = (l (up-In-loop-i _ _ _ _ _ _ c.before.before.before.before)).before.before.before.before.before in
     let t = s.pre.0.2 in
-    let z = part_length (xs c.before.before.before) (l c.before.before.before).loop-i.at (n c.before.before.before) t (inside c.before.before.before).1 in (
-      part_lent (xs c.before.before.before) (l c.before.before.before).loop-i.at (n c.before.before.before) t (inside c.before.before.before).1 (inside c.before.before.before).0,
-      ((omega (arith, (sized c.before.before.before).0)), (omega (arith, (inside c.before.before.before).1, s.pre.1, (l c.before.before.before).loop-i.invariant.1))),
+    let z = part_length (xs (up-In-loop-i _ _ _ _ _ _ c.before.before.before.before)) (l (up-In-loop-i _ _ _ _ _ _ c.before.before.before.before)).loop-i.at (n (up-In-loop-i _ _ _ _ _ _ c.before.before.before.before)) t (inside (up-In-loop-i _ _ _ _ _ _ c.before.before.before.before)).1 in (
+      part_lent (xs (up-In-loop-i _ _ _ _ _ _ c.before.before.before.before)) (l (up-In-loop-i _ _ _ _ _ _ c.before.before.before.before)).loop-i.at (n (up-In-loop-i _ _ _ _ _ _ c.before.before.before.before)) t (inside (up-In-loop-i _ _ _ _ _ _ c.before.before.before.before)).1 (inside (up-In-loop-i _ _ _ _ _ _ c.before.before.before.before)).0,
+      ((omega (arith, (sized (up-In-loop-i _ _ _ _ _ _ c.before.before.before.before)).0)), (omega (arith, (inside (up-In-loop-i _ _ _ _ _ _ c.before.before.before.before)).1, s.pre.1, (l (up-In-loop-i _ _ _ _ _ _ c.before.before.before.before)).loop-i.invariant.1))),
     )
 
 pub loop-i-preserved : goal.loop-i-preserved
 loop-i-preserved c =
-    let at = (l c.before.before.before.before.before.before).loop-i.at in
-    let i = (l c.before.before.before.before.before.before).loop-i.i in
-    let room = (l c.before.before.before.before.before.before).loop-i.room in
-    let u = coord_bytes (flat (least_reading (ring_of (take (2 * n c.before.before.before.before.before.before) (drop at (xs c.before.before.before.before.before.before)))))) in
+    let at = (l (up-In-loop-i _ _ _ _ _ _ c.before.before.before.before.before.before.before)).loop-i.at in
+    let i = (l (up-In-loop-i _ _ _ _ _ _ c.before.before.before.before.before.before.before)).loop-i.i in
+    let room = (l (up-In-loop-i _ _ _ _ _ _ c.before.before.before.before.before.before.before)).loop-i.room in
+    let u = coord_bytes (flat (least_reading (ring_of (take (2 * n (up-In-loop-i _ _ _ _ _ _ c.before.before.before.before.before.before.before)) (drop at (xs (up-In-loop-i _ _ _ _ _ _ c.before.before.before.before.before.before.before))))))) in
     let e : c.put_least.new.room ≡ sets room (coordinate_bytes * at) u =
     c.put_least.ensures
-    ∙ ap (λ (p : List Float). sets room (coordinate_bytes * at) (coord_bytes (flat (least_reading (ring_of p))))) (part_is (xs c.before.before.before.before.before.before) at (n c.before.before.before.before.before.before) (l c.before.before.before.before.before.before).requires.counts_value.2 (inside c.before.before.before.before.before.before).1) in (
+    ∙ ap (λ (p : List Float). sets room (coordinate_bytes * at) (coord_bytes (flat (least_reading (ring_of p))))) (part_is (xs (up-In-loop-i _ _ _ _ _ _ c.before.before.before.before.before.before.before)) at (n (up-In-loop-i _ _ _ _ _ _ c.before.before.before.before.before.before.before)) (l (up-In-loop-i _ _ _ _ _ _ c.before.before.before.before.before.before.before)).requires.counts_value.2 (inside (up-In-loop-i _ _ _ _ _ _ c.before.before.before.before.before.before.before)).1) in (
       (omega arith),
-      ap length e ∙ length-sets room (coordinate_bytes * at) u ∙ (l c.before.before.before.before.before.before).loop-i.invariant.1,
-      left c.before.before.before.before.before.before,
-      (sized c.before.before.before.before.before.before).2,
-      (l c.before.before.before.before.before.before).loop-i.invariant.4
-          ∙ rings_on room (ns c.before.before.before.before.before.before) (xs c.before.before.before.before.before.before) at i c.loop-i-test.true (omega (arith, (sized c.before.before.before.before.before.before).0)) (inside c.before.before.before.before.before.before).1
-          ∙ ap (λ (r : List ℕ). sets r (coordinate_bytes * (at + 2 * n c.before.before.before.before.before.before)) (stored (drop (i + 1) (ns c.before.before.before.before.before.before)) (drop (at + 2 * n c.before.before.before.before.before.before) (xs c.before.before.before.before.before.before)))) (sym e),
+      ap length e ∙ length-sets room (coordinate_bytes * at) u ∙ (l (up-In-loop-i _ _ _ _ _ _ c.before.before.before.before.before.before.before)).loop-i.invariant.1,
+      left (up-In-loop-i _ _ _ _ _ _ c.before.before.before.before.before.before.before),
+      (sized (up-In-loop-i _ _ _ _ _ _ c.before.before.before.before.before.before.before)).2,
+      (l (up-In-loop-i _ _ _ _ _ _ c.before.before.before.before.before.before.before)).loop-i.invariant.4
+          ∙ rings_on room (ns (up-In-loop-i _ _ _ _ _ _ c.before.before.before.before.before.before.before)) (xs (up-In-loop-i _ _ _ _ _ _ c.before.before.before.before.before.before.before)) at i c.loop-i-test.true (omega (arith, (sized (up-In-loop-i _ _ _ _ _ _ c.before.before.before.before.before.before.before)).0)) (inside (up-In-loop-i _ _ _ _ _ _ c.before.before.before.before.before.before.before)).1
+          ∙ ap (λ (r : List ℕ). sets r (coordinate_bytes * (at + 2 * n (up-In-loop-i _ _ _ _ _ _ c.before.before.before.before.before.before.before))) (stored (drop (i + 1) (ns (up-In-loop-i _ _ _ _ _ _ c.before.before.before.before.before.before.before))) (drop (at + 2 * n (up-In-loop-i _ _ _ _ _ _ c.before.before.before.before.before.before.before)) (xs (up-In-loop-i _ _ _ _ _ _ c.before.before.before.before.before.before.before))))) (sym e),
     )
 
 pub returns : goal.returns

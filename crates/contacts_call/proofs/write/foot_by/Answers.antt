@@ -11,4 +11,4 @@ returns-in-1 c = c.foot_of.ensures ∙ sym (of_1 _ _ _ _ c.in-1.is)
 
 pub returns-in_default : goal.returns-in_default
 unfolding foot_by
-returns-in_default c = c.foot_of-in_default.ensures ∙ sym (but_1 _ _ _ c.in_default.rest.1)
+returns-in_default c = c.foot_of-in_default.ensures ∙ sym (but_1 _ _ _ c.in_default.in_default-own.rest.1)

@@ -15,5 +15,5 @@ returns-in-1 c = sym (of_1 _ _ _ _ c.in-1.is)
 pub returns-in_default : goal.returns-in_default
 unfolding point_by
 returns-in_default c =
-    let m = c.in_default.rest in
+    let m = c.in_default.in_default-own.rest in
     sym (of_2 _ _ _ _ m.0.1 m.1)

@@ -8,6 +8,7 @@ use Rattle.contacts.proofs.Following.{FoundAt, next_at, next_none}
 use Rattle.contacts_call.proofs.Writing.{Writing, start, which_fits, points_fit, turn, done}
 use Rattle.contacts_call.proofs.write.write_contacts.Goals as goal
 use Rattle.contacts_call.proofs.write.write_contacts.Goals.{In-At}
+use Rattle.contacts_call.proofs.write.write_contacts.Lts.View.{up-In-At}
 
 -- the contact found
 at : (c : In-At) → FoundAt c.args.stationary.now c.args.orbiting.now c.args.tol c.loop-j.k c.in-At.j
@@ -42,38 +43,38 @@ pair_at-pair-requires c = record { sides = c.requires.sides; k_bound = omega (ar
 
 pub contact_foot-foot-requires : goal.contact_foot-foot-requires
 contact_foot-foot-requires c =
-    rw c.pair_at-pair.ensures (within _ _ c.requires.sides _ (at c.before).below)
+    rw c.pair_at-pair.ensures (within _ _ c.requires.sides _ (at (up-In-At _ _ _ _ _ _ c.before.before)).below)
 
 pub overflow_mul-n : goal.overflow_mul-n
-overflow_mul-n c = omega (arith, bounds c.before.before.before)
+overflow_mul-n c = omega (arith, bounds (up-In-At _ _ _ _ _ _ c.before.before.before.before))
 
 pub put_pair-requires : goal.put_pair-requires
 put_pair-requires c =
     let p = c.requires in
-    which_fits _ _ _ _ _ p.1.0 p.1.1 c.loop-j.invariant (at c.before.before.before)
+    which_fits _ _ _ _ _ p.1.0 p.1.1 c.loop-j.invariant (at (up-In-At _ _ _ _ _ _ c.before.before.before.before))
 
 pub overflow_mul-n-in-At : goal.overflow_mul-n-in-At
-overflow_mul-n-in-At c = omega (arith, bounds c.before.before.before.before.before.before.before)
+overflow_mul-n-in-At c = omega (arith, bounds (up-In-At _ _ _ _ _ _ c.before.before.before.before.before.before.before.before))
 
 pub contact_point-requires : goal.contact_point-requires
 contact_point-requires c =
-    rw c.pair_at-pair.ensures (within _ _ c.requires.sides _ (at c.before.before.before.before.before.before.before).below)
+    rw c.pair_at-pair.ensures (within _ _ c.requires.sides _ (at (up-In-At _ _ _ _ _ _ c.before.before.before.before.before.before.before.before)).below)
 
 pub put_point-requires : goal.put_point-requires
 put_point-requires c =
     let p = c.requires in
-    points_fit _ _ _ _ _ p.1.0 p.1.1 c.loop-j.invariant (at c.before.before.before.before.before.before.before.before)
+    points_fit _ _ _ _ _ p.1.0 p.1.1 c.loop-j.invariant (at (up-In-At _ _ _ _ _ _ c.before.before.before.before.before.before.before.before.before))
 
 pub overflow_add-n : goal.overflow_add-n
-overflow_add-n c = omega (arith, bounds c.before.before.before.before.before.before.before.before.before.before.before)
+overflow_add-n c = omega (arith, bounds (up-In-At _ _ _ _ _ _ c.before.before.before.before.before.before.before.before.before.before.before.before))
 
 pub overflow_add-k : goal.overflow_add-k
-overflow_add-k c = omega (arith, bounds c.before.before.before.before.before.before.before.before.before.before.before)
+overflow_add-k c = omega (arith, bounds (up-In-At _ _ _ _ _ _ c.before.before.before.before.before.before.before.before.before.before.before.before))
 
 pub loop-j-smaller : goal.loop-j-smaller
-loop-j-smaller c = omega (arith, (at c.before.before.before.before.before.before.before.before.before.before.before).least, (at c.before.before.before.before.before.before.before.before.before.before.before).below)
+loop-j-smaller c = omega (arith, (at (up-In-At _ _ _ _ _ _ c.before.before.before.before.before.before.before.before.before.before.before.before)).least, (at (up-In-At _ _ _ _ _ _ c.before.before.before.before.before.before.before.before.before.before.before.before)).below)
 
 pub loop-j-preserved : goal.loop-j-preserved
 loop-j-preserved c =
     let p = c.requires in
-    turn _ _ _ _ _ p.1.0 p.1.1 c.loop-j.invariant (at c.before.before.before.before.before.before.before.before.before.before.before) c.pair_at-pair.ensures c.contact_foot-foot.ensures c.contact_point.ensures c.put_pair.ensures c.put_point.ensures
+    turn _ _ _ _ _ p.1.0 p.1.1 c.loop-j.invariant (at (up-In-At _ _ _ _ _ _ c.before.before.before.before.before.before.before.before.before.before.before.before)) c.pair_at-pair.ensures c.contact_foot-foot.ensures c.contact_point.ensures c.put_pair.ensures c.put_point.ensures

@@ -35,6 +35,6 @@ pub returns-in_default : goal.returns-in_default
 unfolding quarter_ok
 returns-in_default c =
     let m = c.args.m in
-    let r = c.in_default.rest in
+    let r = c.in_default.in_default-own.rest in
     rw
     (ne_eqb m 1 r.0.0.0.0.0.0.1, ne_eqb m 2 r.0.0.0.0.0.1, ne_eqb m 4 r.0.0.0.0.1, ne_eqb m 8 r.0.0.0.1, ne_eqb m 16 r.0.0.1, ne_eqb m 32 r.0.1, ne_eqb m 64 r.1)

@@ -7,7 +7,7 @@ use Rattle.handed.proofs.whole.hand_integer.Goals as goal
 
 pub returns-in-Is : goal.returns-in-Is
 unfolding refusal_in told
-returns-in-Is c = rw c.in-Is.is (c.none.ensures, to_z-of_z w64 _ (record { sfits = c.known_told-1.given.0.1 }))
+returns-in-Is c = rw c.in-Is.is (c.none.ensures, to_z-of_z w64 _ (record { sfits = c.in-Is.known_told-1-own.given.0.1 }))
 
 pub returns-in-Refused : goal.returns-in-Refused
 unfolding refusal_in told

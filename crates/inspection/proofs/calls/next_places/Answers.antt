@@ -6,6 +6,7 @@ use Rattle.inspection.specs.Calls.{next_refusal}
 use Rattle.inspection.proofs.Screened.{screened, passing, shift_is}
 use Rattle.inspection.proofs.calls.next_places.Goals as goal
 use Rattle.inspection.proofs.calls.next_places.Goals.{After-first-no}
+use Rattle.inspection.proofs.calls.next_places.Lts.View.{up-After-first-no}
 
 -- what the tests found is what the definition says
 refusal : (c : After-first-no) → c.first-no.result ≡ next_refusal c.args.n c.args.k c.args.start (length c.args.room.now)
@@ -15,12 +16,12 @@ refusal c =
 pub lay-following-requires : goal.lay-following-requires
 lay-following-requires c =
     let m = c.per_shift-m.ensures in
-    let p = passing _ _ _ _ (refusal c.before.before.before) c.passed.ensures c.if-passed.true in
+    let p = passing _ _ _ _ (refusal (up-After-first-no _ _ _ c.before.before.before)) c.passed.ensures c.if-passed.true in
     record { start_lt_n = p.0; m_in_bounds = rw m p.1 }
 
 pub returns-then-passed : goal.returns-then-passed
 returns-then-passed c =
-    let n = refusal c.before.before.before.before.before.before in
+    let n = refusal (up-After-first-no _ _ _ c.before.before.before.before.before.before.before) in
     let p = c.passed.ensures in
     let m = c.per_shift-m.ensures in
     let w = rw m at c.lay-following.ensures in
@@ -28,6 +29,6 @@ returns-then-passed c =
 
 pub returns-else-passed : goal.returns-else-passed
 returns-else-passed c =
-    let n = refusal c.before.before in
+    let n = refusal (up-After-first-no _ _ _ c.before.before.before) in
     let p = c.passed.ensures in
     record { result_value = stops _ n p _ c.if-passed.false; room_after = kept _ n p _ _ c.if-passed.false }

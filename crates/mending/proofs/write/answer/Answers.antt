@@ -7,6 +7,7 @@ use Rattle.mending.specs.Calls.{fitting}
 use Rattle.mending.proofs.Screened.{Fits, fit_is, screened, sizes}
 use Rattle.mending.proofs.write.answer.Goals as goal
 use Rattle.mending.proofs.write.answer.Goals.{After-mending-no, Then-passed}
+use Rattle.mending.proofs.write.answer.Lts.View.{up-After-mending-no, up-Then-passed}
 
 -- what the tests found, and that all is well where they pass
 refusal : (c : After-mending-no)
@@ -17,24 +18,24 @@ refusal c = screened _ c.count_staying-staying.ensures.0 _ _ _ c.mending-no.ensu
 fine : (c : Then-passed)
     → (let a = c.args in
     Fits (length (staying a.ring.now)) (length (going a.ring.now)) (length a.room.now) (length a.dropped.now) (length a.points.now))
-fine c = fit_is _ _ _ _ _ (refusal c.before.before) c.passed.ensures c.if-passed.true
+fine c = fit_is _ _ _ _ _ (refusal (up-After-mending-no _ _ _ _ c.before.before.before)) c.passed.ensures c.if-passed.true
 
 pub write_mended-requires : goal.write_mended-requires
 write_mended-requires c =
-    let f = fine c.before.before.before in
+    let f = fine (up-Then-passed _ _ _ _ c.before.before.before.before) in
     (c.trail-end.ensures, (f.ring, (f.whys, f.spots)))
 
 pub returns-then-passed : goal.returns-then-passed
 returns-then-passed c =
     let w = c.write_mended.ensures in
-    let e = refusal c.before.before.before.before.before.before.before.before.before.before.before.before in
+    let e = refusal (up-After-mending-no _ _ _ _ c.before.before.before.before.before.before.before.before.before.before.before.before.before) in
     let h = c.passed.ensures in
     let y = c.if-passed.true in
     (goes _ e h _ y (sizes _ c.count_staying-staying.ensures.0), wrote _ e h _ _ y w.0, wrote _ e h _ _ y w.1.0, wrote _ e h _ _ y w.1.1)
 
 pub returns : goal.returns
 returns c =
-    let e = refusal c.before.before in
+    let e = refusal (up-After-mending-no _ _ _ _ c.before.before.before) in
     let h = c.passed.ensures in
     let n = c.if-passed.false in
     (stops _ e h _ n, kept _ e h _ _ n, kept _ e h _ _ n, kept _ e h _ _ n)

@@ -9,6 +9,7 @@ use Rattle.mending.proofs.Fates.{is_going, is_staying}
 use Rattle.mending.proofs.Writing.{Writing, start, ring_fits, whys_fit, spots_fit, stay, go, done}
 use Rattle.mending.proofs.write.write_mended.Goals as goal
 use Rattle.mending.proofs.write.write_mended.Goals.{In-Goes, In-Stays}
+use Rattle.mending.proofs.write.write_mended.Lts.View.{up-In-Goes, up-In-Stays}
 
 -- vertex i stays
 stayed : (c : In-Stays)
@@ -30,27 +31,27 @@ fate_at-requires c = record { i_bound = c.loop-i-test.true; by_index = c.require
 pub put-requires : goal.put-requires
 put-requires c =
     let p = c.requires.1 in
-    ring_fits _ _ _ _ p.0 p.1.0 p.1.1 c.loop-i-test.true c.loop-i.invariant (stayed c.before.before)
+    ring_fits _ _ _ _ p.0 p.1.0 p.1.1 c.loop-i-test.true c.loop-i.invariant (stayed (up-In-Stays _ _ _ _ _ _ c.before.before.before))
 
 pub loop-i-preserved-in-Stays : goal.loop-i-preserved-in-Stays
 loop-i-preserved-in-Stays c =
     let p = c.requires.1 in
-    stay _ _ _ _ p.0 p.1.0 p.1.1 c.loop-i-test.true c.loop-i.invariant (stayed c.before.before.before.before.before) c.point_at.ensures c.put.ensures
+    stay _ _ _ _ p.0 p.1.0 p.1.1 c.loop-i-test.true c.loop-i.invariant (stayed (up-In-Stays _ _ _ _ _ _ c.before.before.before.before.before.before)) c.point_at.ensures c.put.ensures
 
 pub put_why-requires : goal.put_why-requires
 put_why-requires c =
     let p = c.requires.1 in
-    whys_fit _ _ _ _ p.0 p.1.0 p.1.1 c.loop-i-test.true c.loop-i.invariant (went c.before).0
+    whys_fit _ _ _ _ p.0 p.1.0 p.1.1 c.loop-i-test.true c.loop-i.invariant (went (up-In-Goes _ _ _ _ _ _ c.before.before)).0
 
 pub put-requires-in-Goes : goal.put-requires-in-Goes
 put-requires-in-Goes c =
     let p = c.requires.1 in
-    spots_fit _ _ _ _ p.0 p.1.0 p.1.1 c.loop-i-test.true c.loop-i.invariant (went c.before.before.before.before.before.before).0
+    spots_fit _ _ _ _ p.0 p.1.0 p.1.1 c.loop-i-test.true c.loop-i.invariant (went (up-In-Goes _ _ _ _ _ _ c.before.before.before.before.before.before.before)).0
 
 pub loop-i-preserved : goal.loop-i-preserved
 loop-i-preserved c =
     let p = c.requires.1 in
-    let w = went c.before.before.before.before.before.before.before.before.before in
+    let w = went (up-In-Goes _ _ _ _ _ _ c.before.before.before.before.before.before.before.before.before.before) in
     go _ _ _ _ p.0 p.1.0 p.1.1 c.loop-i-test.true c.loop-i.invariant w.0 w.1 c.point_at-in-Goes.ensures c.put_why.ensures c.put-in-Goes.ensures
 
 pub shape_of-room : goal.shape_of-room

@@ -10,7 +10,7 @@ trace-end-requires c =
 pub finish-requires : goal.finish-requires
 finish-requires c =
     let r = lent_ready _ _ _ _ _ c.tracing-no.ensures c.passed.ensures c.if-passed.true in
-    record { stored_in_bounds = stored_fit _ _ _ c.args.work.now r.0.room c.trace-end.ensures.value c.trace-end.ensures.work_after; work_in_bounds = omega (arith, r.1, c.trace-end.auto.1.1.1.0) }
+    record { stored_in_bounds = stored_fit _ _ _ c.args.work.now r.0.room c.trace-end.ensures.value c.trace-end.ensures.work_after; work_in_bounds = omega (arith, r.1, c.trace-end.auto.work) }
 
 pub returns-then-passed : goal.returns-then-passed
 returns-then-passed c =

@@ -18,15 +18,15 @@ pub fill-requires-2 : goal.fill-requires-2
 fill-requires-2 c = omega (arith, c.requires.orb_most)
 
 pub slice_bounds-run-end : goal.slice_bounds-run-end
-slice_bounds-run-end c = omega (arith, c.fill.auto.1.0)
+slice_bounds-run-end c = omega (arith, c.fill.auto.room)
 
 pub slice_bounds-run-end-2 : goal.slice_bounds-run-end-2
-slice_bounds-run-end-2 c = omega (arith, c.fill-2.auto.1.0)
+slice_bounds-run-end-2 c = omega (arith, c.fill-2.auto.room)
 
 pub run-requires : goal.run-requires
 run-requires c =
     let r = c.requires in
-    (r.orb_even, ((r.orb_most, omega (arith, r.orb_most)), (sides r, ((c.fill.ensures, c.fill-2.ensures), (omega (arith, r.room, c.put.auto.0), r.limit)))))
+    (r.orb_even, ((r.orb_most, omega (arith, r.orb_most)), (sides r, ((c.fill.ensures, c.fill-2.ensures), (omega (arith, r.room, c.put.auto.room), r.limit)))))
 
 pub returns : goal.returns
 returns c =

@@ -7,10 +7,10 @@ use Rattle.nfp_sliding.specs.Path.{traced_of}
 use Rattle.nfp_sliding.proofs.trace.trace.Goals as goal
 
 pub slice_bounds-follow-end : goal.slice_bounds-follow-end
-slice_bounds-follow-end c = sym (length-take-le _ _ (omega (arith, c.ensure_ccw.auto.1.0)))
+slice_bounds-follow-end c = sym (length-take-le _ _ (omega (arith, c.ensure_ccw.auto.room)))
 
 pub slice_bounds-follow-end-2 : goal.slice_bounds-follow-end-2
-slice_bounds-follow-end-2 c = sym (length-take-le _ _ (omega (arith, c.ensure_ccw-2.auto.1.0)))
+slice_bounds-follow-end-2 c = sym (length-take-le _ _ (omega (arith, c.ensure_ccw-2.auto.room)))
 
 pub follow-requires : goal.follow-requires
 follow-requires c =

@@ -20,11 +20,11 @@ one_pass-requires c =
     (p.0, ((p.1.0.0, omega (arith, p.1.0.1, c.loop-passes.invariant.4)), (p.1.1.0, (p.1.1.1.0, c.loop-passes.invariant.2))))
 
 pub shape_of-room-in-Halt : goal.shape_of-room-in-Halt
-shape_of-room-in-Halt c = omega (arith, c.one_pass.auto.1.1.1.1.1.1.1.1.0)
+shape_of-room-in-Halt c = omega (arith, c.one_pass.auto.room)
 
 pub shape_of-moved-in-Halt : goal.shape_of-moved-in-Halt
 shape_of-moved-in-Halt c =
-    omega (arith, c.loop-passes.invariant.4, c.one_pass.auto.1.1.1.1.1.1.1.1.1.0)
+    omega (arith, c.loop-passes.invariant.4, c.one_pass.auto.moved)
 
 pub returns-in-Halt : goal.returns-in-Halt
 returns-in-Halt c =
@@ -35,11 +35,11 @@ returns-in-Halt c =
     (sym (ap (λ (d : Done). d.end) h), sym (ap (λ (d : Done). d.room) h))
 
 pub shape_of-room-in-Full : goal.shape_of-room-in-Full
-shape_of-room-in-Full c = omega (arith, c.one_pass.auto.1.1.1.1.1.1.1.1.0)
+shape_of-room-in-Full c = omega (arith, c.one_pass.auto.room)
 
 pub shape_of-moved-in-Full : goal.shape_of-moved-in-Full
 shape_of-moved-in-Full c =
-    omega (arith, c.loop-passes.invariant.4, c.one_pass.auto.1.1.1.1.1.1.1.1.1.0)
+    omega (arith, c.loop-passes.invariant.4, c.one_pass.auto.moved)
 
 pub returns-in-Full : goal.returns-in-Full
 returns-in-Full c =
@@ -50,11 +50,11 @@ returns-in-Full c =
     (sym (ap (λ (d : Done). d.end) h), sym (ap (λ (d : Done). d.room) h))
 
 pub shape_of-room-then-is_still : goal.shape_of-room-then-is_still
-shape_of-room-then-is_still c = omega (arith, c.one_pass.auto.1.1.1.1.1.1.1.1.0)
+shape_of-room-then-is_still c = omega (arith, c.one_pass.auto.room)
 
 pub shape_of-moved-then-is_still : goal.shape_of-moved-then-is_still
 shape_of-moved-then-is_still c =
-    omega (arith, c.loop-passes.invariant.4, c.one_pass.auto.1.1.1.1.1.1.1.1.1.0)
+    omega (arith, c.loop-passes.invariant.4, c.one_pass.auto.moved)
 
 pub returns-then-is_still : goal.returns-then-is_still
 returns-then-is_still c =

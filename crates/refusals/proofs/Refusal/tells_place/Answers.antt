@@ -27,5 +27,5 @@ pub returns-in_default : goal.returns-in_default
 unfolding tells_place
 returns-in_default c =
     let n = c.args.self.number in
-    let r = c.in_default.rest in
+    let r = c.in_default.in_default-own.rest in
     rw (ne_eqb n 1 r.0.0.0.0.1, ne_eqb n 7 r.0.0.0.1, ne_eqb n 8 r.0.0.1, ne_eqb n 9 r.0.1, ne_eqb n 10 r.1)

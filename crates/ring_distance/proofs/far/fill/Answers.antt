@@ -6,5 +6,5 @@ use Rattle.ring_distance.proofs.far.fill.Goals as goal
 pub returns : goal.returns
 returns c =
     let r = c.requires in
-    let k = c.fill_chains.auto.1.0 in
-    whole_tabled _ _ _ r.1 (omega (arith, k, r.2)) c.put_bounds.auto.0 c.fill_chains.ensures c.bounds_of.ensures c.put_bounds.ensures
+    let k = c.fill_chains.auto.table in
+    whole_tabled _ _ _ r.1 (omega (arith, k, r.2)) c.put_bounds.auto.table c.fill_chains.ensures c.bounds_of.ensures c.put_bounds.ensures

@@ -17,7 +17,7 @@ loop-e-preserved c =
     let whole = l.2 c.loop-e-test.true in
     let end = c.chain_end-to.ensures in (
       end.1,
-      omega (arith, c.put_bounds.auto.0),
+      omega (arith, c.put_bounds.auto.table),
       λ h. omega (arith, end.3 h, whole),
       one_tabled _ _ _ _ _ l.3 whole (omega arith) (omega (arith, end.2, whole)) c.bounds_of.ensures c.put_bounds.ensures,
     )

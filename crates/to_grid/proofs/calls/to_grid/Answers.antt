@@ -6,6 +6,7 @@ use Rattle.to_grid.specs.Calls.{to_grid_refusal}
 use Rattle.to_grid.proofs.Screened.{screened, passing}
 use Rattle.to_grid.proofs.calls.to_grid.Goals as goal
 use Rattle.to_grid.proofs.calls.to_grid.Goals.{After-first-no}
+use Rattle.to_grid.proofs.calls.to_grid.Lts.View.{up-After-first-no}
 
 -- what the tests found is what the definition says
 refusal : (c : After-first-no)
@@ -16,16 +17,16 @@ refusal c = screened _ _ _ c.lent.ensures c.fit.ensures c.first-no.ensures
 
 pub lay-requires : goal.lay-requires
 lay-requires c =
-    passing _ _ _ (refusal c.before.before.before) c.passed.ensures c.if-passed.true
+    passing _ _ _ (refusal (up-After-first-no _ _ _ c.before.before.before.before)) c.passed.ensures c.if-passed.true
 
 pub returns-then-passed : goal.returns-then-passed
 returns-then-passed c =
-    let n = refusal c.before.before.before.before.before in
+    let n = refusal (up-After-first-no _ _ _ c.before.before.before.before.before.before) in
     let p = c.passed.ensures in
     record { result_value = goes _ n p _ c.if-passed.true refl; room_after = wrote _ n p _ _ c.if-passed.true c.lay.ensures }
 
 pub returns-else-passed : goal.returns-else-passed
 returns-else-passed c =
-    let n = refusal c.before.before in
+    let n = refusal (up-After-first-no _ _ _ c.before.before.before) in
     let p = c.passed.ensures in
     record { result_value = stops _ n p _ c.if-passed.false; room_after = kept _ n p _ _ c.if-passed.false }

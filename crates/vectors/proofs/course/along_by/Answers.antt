@@ -9,4 +9,4 @@ returns-in-1 c = rw (eq-eqb _ _ c.in-1.is) c.direction.ensures
 
 pub returns-in_default : goal.returns-in_default
 unfolding along_by
-returns-in_default c = rw (ne_eqb _ _ c.in_default.rest.1) c.direction-in_default.ensures
+returns-in_default c = rw (ne_eqb _ _ c.in_default.in_default-own.rest.1) c.direction-in_default.ensures

@@ -13,7 +13,7 @@ pub over_vertex-requires : goal.over_vertex-requires
 over_vertex-requires c = orbiting_edge _ _ c.requires c.in-1.is
 
 pub over_both-requires : goal.over_both-requires
-over_both-requires c = stationary_edge _ _ c.requires c.in_default.rest.1
+over_both-requires c = stationary_edge _ _ c.requires c.in_default.in_default-own.rest.1
 
 pub returns-in-0 : goal.returns-in-0
 unfolding vector_by
@@ -26,5 +26,5 @@ returns-in-1 c = c.over_vertex.ensures ∙ sym (of_1 _ _ _ _ c.in-1.is)
 pub returns-in_default : goal.returns-in_default
 unfolding vector_by
 returns-in_default c =
-    let m = c.in_default.rest in
+    let m = c.in_default.in_default-own.rest in
     c.over_both.ensures ∙ sym (of_2 _ _ _ _ m.0.1 m.1)

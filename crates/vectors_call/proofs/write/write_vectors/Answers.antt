@@ -10,6 +10,7 @@ use Rattle.vectors.proofs.Steps.{nearer}
 use Rattle.vectors_call.proofs.Passing.{Writing, start, vectors_fit, sources_fit, turn, done, small}
 use Rattle.vectors_call.proofs.write.write_vectors.Goals as goal
 use Rattle.vectors_call.proofs.write.write_vectors.Goals.{In-Vector}
+use Rattle.vectors_call.proofs.write.write_vectors.Lts.View.{up-In-Vector}
 
 -- the vector found
 behind : (c : In-Vector) → Behind c.args.stationary.now c.args.orbiting.now c.args.tol (kept_vectors (keeps c.args.from c.args.visited.now c.args.tol)) c.loop-vector.at (sourced c.in-Vector.vector c.in-Vector.source) c.in-Vector.rest
@@ -40,7 +41,7 @@ overflow_mul-n c =
 pub put_vector-requires : goal.put_vector-requires
 put_vector-requires c =
     let p = c.requires in
-    vectors_fit _ _ _ _ _ _ p.1.0 p.1.1 c.loop-vector.invariant (behind c.before)
+    vectors_fit _ _ _ _ _ _ p.1.0 p.1.1 c.loop-vector.invariant (behind (up-In-Vector _ _ _ _ _ _ c.before.before))
 
 pub offset_bounds-sources-n : goal.offset_bounds-sources-n
 offset_bounds-sources-n c =
@@ -50,7 +51,7 @@ offset_bounds-sources-n c =
 pub bounds-sources-n : goal.bounds-sources-n
 bounds-sources-n c =
     let p = c.requires in
-    sources_fit _ _ _ _ _ _ p.1.0 p.1.1 c.loop-vector.invariant (behind c.before.before.before.before)
+    sources_fit _ _ _ _ _ _ p.1.0 p.1.1 c.loop-vector.invariant (behind (up-In-Vector _ _ _ _ _ _ c.before.before.before.before.before))
 
 pub overflow_add-n : goal.overflow_add-n
 overflow_add-n c =
@@ -58,9 +59,9 @@ overflow_add-n c =
     omega (arith, small _ _ _ _ p.0 c.loop-vector.invariant.passing)
 
 pub loop-vector-smaller : goal.loop-vector-smaller
-loop-vector-smaller c = nearer _ _ (behind c.before.before.before.before)
+loop-vector-smaller c = nearer _ _ (behind (up-In-Vector _ _ _ _ _ _ c.before.before.before.before.before))
 
 pub loop-vector-preserved : goal.loop-vector-preserved
 loop-vector-preserved c =
     let p = c.requires in
-    turn _ _ _ _ _ _ p.1.0 p.1.1 c.loop-vector.invariant (behind c.before.before.before.before) c.put_vector.ensures
+    turn _ _ _ _ _ _ p.1.0 p.1.1 c.loop-vector.invariant (behind (up-In-Vector _ _ _ _ _ _ c.before.before.before.before.before)) c.put_vector.ensures

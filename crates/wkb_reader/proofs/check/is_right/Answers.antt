@@ -20,5 +20,5 @@ returns-else-value-lt-POINTS_LEAST c = let a = c.args in most_points a.field a.v
 pub returns-in_default : goal.returns-in_default
 returns-in_default c =
     let a = c.args in
-    let r = c.in_default.rest in
+    let r = c.in_default.in_default-own.rest in
     no_field a.field a.value r.0.0.0.1 r.0.0.1 r.0.1 r.1

@@ -1,4 +1,5 @@
 -- `wkb_reader::check::numbers` meets its contract. The loop's invariant: the check of the coordinates left, from j on, decides. Assumes nothing.
+use mathlib.Core.Bool.{not}
 use Prim.Native.Nat.{◌-◌, ◌≤◌}
 use mathlib.Core.Path.{◌≡◌, sym, ap, ◌∙◌}
 use native.Mathlib.Omega.{arith}
@@ -8,6 +9,7 @@ use Rattle.wkb_layout.specs.Faults.{number_in}
 use Rattle.wkb_reader.proofs.Numbers.{number_at, check_from, check_start, number_good, number_bad, check_end}
 use Rattle.wkb_reader.proofs.check.numbers.Goals as goal
 use Rattle.wkb_reader.proofs.check.numbers.Goals.{After-is_coordinate}
+use Rattle.wkb_reader.proofs.check.numbers.Lts.View.{up-After-is_coordinate}
 
 -- what was asked of coordinate j
 asked : (c : After-is_coordinate)
@@ -21,12 +23,12 @@ pub returns-then-not-is_coordinate : goal.returns-then-not-is_coordinate
 returns-then-not-is_coordinate c =
     let a = c.args in
     c.new.ensures
-    ∙ sym (c.loop-j.invariant.1 ∙ number_bad a.f.now a.m c.loop-j.j c.loop-j-test.true (sym (asked c.before.before) ∙ not-true c.is_coordinate.result c.if-not-is_coordinate.true))
+    ∙ sym (c.loop-j.invariant.1 ∙ number_bad a.f.now a.m c.loop-j.j c.loop-j-test.true (sym (asked (up-After-is_coordinate _ _ _ _ _ c.before.before.before)) ∙ not-true c.is_coordinate.result (ap not c.if-not-is_coordinate.true)))
 
 pub loop-j-preserved : goal.loop-j-preserved
 loop-j-preserved c =
     let a = c.args in
-    (omega arith, c.loop-j.invariant.1 ∙ number_good a.f.now a.m c.loop-j.j c.loop-j-test.true (sym (asked c.before) ∙ not-false c.is_coordinate.result c.if-not-is_coordinate.false))
+    (omega arith, c.loop-j.invariant.1 ∙ number_good a.f.now a.m c.loop-j.j c.loop-j-test.true (sym (asked (up-After-is_coordinate _ _ _ _ _ c.before.before)) ∙ not-false c.is_coordinate.result (ap not c.if-not-is_coordinate.false)))
 
 pub returns : goal.returns
 returns c =

@@ -15,6 +15,7 @@ use Rattle.wkb_reader.proofs.Checked.{Headed, passing}
 use Rattle.wkb_reader.proofs.Numbers.{numbers_from, load_start, load_on, load_end}
 use Rattle.wkb_reader.proofs.load.load.Goals as goal
 use Rattle.wkb_reader.proofs.load.load.Goals.{After-slice_known-1}
+use Rattle.wkb_reader.proofs.load.load.Lts.View.{up-After-slice_known-1}
 
 -- the file passes
 held : (c : After-slice_known-1) → Headed c.args.f.now
@@ -24,24 +25,24 @@ pub points-requires : goal.points-requires
 points-requires c = omega (arith, (held c).whole)
 
 pub overflow_sub-n : goal.overflow_sub-n
-overflow_sub-n c = omega (arith, c.points.ensures.0, (held c.before).least)
+overflow_sub-n c = omega (arith, c.points.ensures.0, (held (up-After-slice_known-1 _ _ _ _ _ _ c.before.before)).least)
 
 pub loop-j-init : goal.loop-j-init
 loop-j-init c =
     ((omega arith), refl, ap (sets c.args.room.now 0) (load_start c.args.f.now (2 * (c.points.result - 1))))
 
 pub overflow_mul-n : goal.overflow_mul-n
-overflow_mul-n c = omega (arith, c.points.ensures.0, (held c.before.before).most)
+overflow_mul-n c = omega (arith, c.points.ensures.0, (held (up-After-slice_known-1 _ _ _ _ _ _ c.before.before.before)).most)
 
 pub overflow_mul-j : goal.overflow_mul-j
-overflow_mul-j c = omega (arith, c.points.ensures.0, (held c.before.before.before).most)
+overflow_mul-j c = omega (arith, c.points.ensures.0, (held (up-After-slice_known-1 _ _ _ _ _ _ c.before.before.before.before)).most)
 
 pub overflow_add-j : goal.overflow_add-j
-overflow_add-j c = omega (arith, c.points.ensures.0, (held c.before.before.before).most)
+overflow_add-j c = omega (arith, c.points.ensures.0, (held (up-After-slice_known-1 _ _ _ _ _ _ c.before.before.before.before)).most)
 
 pub number-requires : goal.number-requires
 number-requires c =
-    let h = held c.before.before.before in
+    let h = held (up-After-slice_known-1 _ _ _ _ _ _ c.before.before.before.before) in
     let e = c.points.ensures.0 in
     ((omega (arith, h.whole)), (omega (arith, e, h.whole)))
 
@@ -49,7 +50,7 @@ pub bounds-room-j : goal.bounds-room-j
 bounds-room-j c = omega (arith, c.points.ensures.0)
 
 pub overflow_add-j-in-loop-j : goal.overflow_add-j-in-loop-j
-overflow_add-j-in-loop-j c = omega (arith, c.points.ensures.0, (held c.before.before.before.before).most)
+overflow_add-j-in-loop-j c = omega (arith, c.points.ensures.0, (held (up-After-slice_known-1 _ _ _ _ _ _ c.before.before.before.before.before)).most)
 
 pub loop-j-preserved : goal.loop-j-preserved
 loop-j-preserved c =
