@@ -5,6 +5,7 @@ use crate::grid::Grid;
 use crate::jobs::Job;
 use crate::nearest::close;
 use crate::shelf::file_of;
+use crate::text::is_shown;
 use crate::{Fault, Result};
 use byrlygent::nfp_sliding::SlidingNfpConfig;
 use byrlygent::Point;
@@ -18,10 +19,6 @@ pub struct Asked {
 
 /// Options that had another name before.
 const RENAMED: [(&str, &str); 1] = [("unit", "grid")];
-
-/// Options that there were before, of jobs that have this one, and why there are none now.
-const GONE: [(&str, &str, &str); 1] =
-    [("moved", "grid", "how far corners move to the grid is counted in the depth that is told")];
 
 /// Whether a name is that of standard input, of which a ring may be asked for.
 fn is_input(name: &str) -> bool {
@@ -73,12 +70,10 @@ fn known(job: &Job, name: &str) -> Result<(&'static str, bool)> {
 fn like(job: &Job, word: &str) -> String {
     let known = [job.valued, job.flags, &["help"]].concat();
     let now = RENAMED.iter().find(|(old, now)| *old == word && known.contains(now));
-    let gone = GONE.iter().find(|(old, with, _)| *old == word && known.contains(with));
-    match (now, gone, close(word, &known)) {
-        (Some((_, now)), ..) => format!(": it is called --{now} now"),
-        (None, Some((.., why)), _) => format!(": {why}"),
-        (None, None, Some(like)) => format!(": --{like} is one"),
-        (None, None, None) => String::new(),
+    match (now, close(word, &known)) {
+        (Some((_, now)), _) => format!(": it is called --{now} now"),
+        (None, Some(like)) => format!(": --{like} is one"),
+        (None, None) => String::new(),
     }
 }
 
@@ -202,10 +197,10 @@ impl Asked {
         self.value(name).map_or(Ok((0.0, 0.0)), |value| self.pair(name, value))
     }
 
-    /// The numbers of a point as they are written, those of the origin where it is not given.
-    pub fn written(&self, name: &str) -> [String; 2] {
-        let (x, y) = self.value(name).and_then(|value| value.split_once(',')).unwrap_or(("0", "0"));
-        [x, y].map(|word| word.trim().to_string())
+    /// Whether the numbers of an option, if it is given, were read without rounding.
+    pub fn is_shown(&self, name: &str) -> bool {
+        let number = |word: &str| word.trim().parse().is_ok_and(|read| is_shown(word.trim(), read));
+        self.value(name).is_none_or(|value| value.split(',').all(number))
     }
 
     /// Two numbers with a comma between.

@@ -1,7 +1,6 @@
 //! Drawings: files read by what is in them, and written as their name asks for.
 
-use crate::decimal::Decimal;
-use crate::text::{self, Mark, Outlines, Wrong};
+use crate::text::{self, Outlines, Wrong};
 use crate::{foreign, plain, wkt, Result};
 use byrlygent::outline_book::{read_book, write_book};
 use byrlygent::wkb::{read_wkb, write_wkb};
@@ -75,50 +74,29 @@ pub struct Ring {
     pub part: Option<u32>,
     /// Whether the file had its first corner once more at the end.
     pub opened: bool,
-    /// The numbers of its corners as they are written, in a text; of a binary file, and of what
-    /// is computed, the numbers are the floats.
-    pub written: Option<Vec<[String; 2]>>,
+    /// What its numbers are.
+    pub numbers: Numbers,
 }
 
-impl Ring {
-    /// The ring of these floats.
-    pub fn floats(points: Vec<Point>) -> Self {
-        Self { points, part: None, opened: false, written: None }
-    }
-
-    /// The ring of these points of a text, the last of them left off where it is opened.
-    fn marked(mut marks: Vec<Mark>, opened: bool) -> Self {
-        if opened {
-            marks.pop();
-        }
-        let points = marks.iter().map(|mark| mark.at).collect();
-        let written = Some(marks.into_iter().map(|mark| mark.written).collect());
-        Self { points, part: None, opened, written }
-    }
-
-    /// How far a number is off its float at most: 0 where each is its float exactly.
-    pub fn off(&self) -> f64 {
-        let off =
-            |(&(x, y), words): (&Point, &[String; 2])| off(&words[0], x).max(off(&words[1], y));
-        let written = self.written.iter().flatten();
-        self.points.iter().zip(written).map(off).fold(0.0, f64::max)
-    }
-
-    /// The numbers of a corner: as they are written, or the shortest that are read as its floats.
-    pub fn numbers(&self, at: usize) -> String {
-        match &self.written {
-            Some(written) => written[at].join(" "),
-            None => [self.points[at].0, self.points[at].1].map(plain::number).join(" "),
-        }
-    }
+/// What the numbers of a drawing are, of which floats are kept.
+#[derive(Debug, Clone, Copy, PartialEq, Eq)]
+pub enum Numbers {
+    /// The decimals that the floats are shown as: those of a text.
+    Decimals,
+    /// The floats themselves: those of a binary file, and what is computed.
+    Floats,
+    /// Decimals of which one was rounded as it was read.
+    Rounded,
 }
 
-/// How far a number that is written so is off the float that is the nearest to it: less than the
-/// next float is.
-fn off(word: &str, float: f64) -> f64 {
-    match Decimal::of(word).is_some_and(|decimal| decimal.is(float)) {
-        true => 0.0,
-        false => float.abs().next_up() - float.abs(),
+impl Numbers {
+    /// Those of a text, of which none or some were rounded as they were read.
+    pub fn of_text(shown: bool) -> Self {
+        if shown {
+            Self::Decimals
+        } else {
+            Self::Rounded
+        }
     }
 }
 
@@ -152,20 +130,23 @@ pub fn rings(bytes: &[u8]) -> Found<(Kind, Vec<Ring>)> {
         Held::Rings(kind, rings) => (kind, rings),
         Held::Points(kind, all) => {
             let ring = if kind == Kind::Text { text_ring } else { closed_ring };
-            (kind, all.into_iter().map(ring).collect::<Found<_>>()?)
+            let numbers = Numbers::of_text(all.shown);
+            let ring = |points| Ok(Ring { numbers, ..ring(points)? });
+            (kind, all.points.into_iter().map(ring).collect::<Found<_>>()?)
         }
     })
 }
 
 /// The same with the repeated points that the file has; of a text the closing one too.
 pub fn rings_as_drawn(bytes: &[u8]) -> Found<(Kind, Vec<Ring>)> {
-    let as_drawn = |marks: Vec<Mark>| {
-        bounded(&marks)?;
-        Ok(Ring::marked(marks, false))
+    let as_drawn = |points: Vec<(usize, Point)>| {
+        bounded(&points)?;
+        let points = points.into_iter().map(|(_, point)| point).collect();
+        Ok(Ring { points, part: None, opened: false, numbers: Numbers::Floats })
     };
     match held(bytes)? {
         Held::Points(Kind::Text, all) => {
-            Ok((Kind::Text, all.into_iter().map(as_drawn).collect::<Found<_>>()?))
+            Ok((Kind::Text, all.points.into_iter().map(as_drawn).collect::<Found<_>>()?))
         }
         _ => rings(bytes),
     }
@@ -182,12 +163,13 @@ pub fn kind_of(bytes: &[u8]) -> Option<Kind> {
 pub fn path(bytes: &[u8]) -> Found<Ring> {
     let mut path = match held(bytes)? {
         Held::Points(Kind::Text, all) => {
-            let marks = all.concat();
-            let far = |mark: &&Mark| !mark.at.0.is_finite() || !mark.at.1.is_finite();
-            if let Some(Mark { line, .. }) = marks.iter().find(far) {
+            let points = || all.points.iter().flatten();
+            let far = points().find(|(_, (x, y))| !x.is_finite() || !y.is_finite());
+            if let Some((line, _)) = far {
                 return Err(format!("line {line}: the position is not finite"));
             }
-            Ring::marked(marks, false)
+            let points = points().map(|(_, point)| *point).collect();
+            Ring { points, part: None, opened: false, numbers: Numbers::of_text(all.shown) }
         }
         _ => match &rings(bytes)?.1[..] {
             [ring] => ring.clone(),
@@ -196,7 +178,6 @@ pub fn path(bytes: &[u8]) -> Found<Ring> {
     };
     if path.points.len() > 3 && path.points.first() == path.points.last() {
         path.points.pop();
-        path.written.as_mut().map(Vec::pop);
         path.opened = true;
     }
     match PATH.contains(&path.points.len()) {
@@ -224,7 +205,7 @@ fn held(bytes: &[u8]) -> Found<Held> {
     };
     let wkb = match read_wkb(bytes) {
         Ok(points) => {
-            let ring = Ring { opened: true, ..Ring::floats(points) };
+            let ring = Ring { points, part: None, opened: true, numbers: Numbers::Floats };
             return Ok(Held::Rings(Kind::Wkb, vec![ring]));
         }
         Err(refusal) => refusal,
@@ -240,7 +221,7 @@ fn held(bytes: &[u8]) -> Found<Held> {
 
 /// A ring of a book.
 fn of_book((part, points): (u32, Vec<Point>)) -> Ring {
-    Ring { part: Some(part), ..Ring::floats(points) }
+    Ring { points, part: Some(part), opened: false, numbers: Numbers::Floats }
 }
 
 /// The bytes as text, if they are: no sign in it but blanks and ends of lines is one that
@@ -268,7 +249,7 @@ fn of_text(text: &str) -> Found<Held> {
         return Ok(Held::Points(Kind::Wkt, wkt::outlines(text).map_err(at)?));
     }
     let outlines = text::outlines(text).map_err(at)?;
-    match outlines.is_empty() {
+    match outlines.points.is_empty() {
         true => Err("has no point: look where it came from".into()),
         false => Ok(Held::Points(Kind::Text, outlines)),
     }
@@ -336,31 +317,33 @@ fn like_wkb(bytes: &[u8]) -> bool {
 }
 
 /// The ring of a text: opened, if its last point repeats the first.
-fn text_ring(marks: Vec<Mark>) -> Found<Ring> {
-    bounded(&marks)?;
-    let line = marks.first().map_or(1, |mark| mark.line);
+fn text_ring(mut points: Vec<(usize, Point)>) -> Found<Ring> {
+    bounded(&points)?;
+    let line = points.first().map_or(1, |(line, _)| *line);
     // As `open_ring` does it, which takes no ring that has 257 points before it is opened.
-    let ends = [marks.first(), marks.last()].map(|end| end.map(|mark| mark.at));
-    let opened = marks.len() > 3 && ends[0] == ends[1];
-    let ring = Ring::marked(marks, opened);
-    match CORNERS.contains(&ring.points.len()) {
-        true => Ok(ring),
-        false => Err(format!(
+    let ends = [points.first(), points.last()].map(|end| end.map(|(_, point)| *point));
+    let opened = points.len() > 3 && ends[0] == ends[1];
+    if opened {
+        points.pop();
+    }
+    if !CORNERS.contains(&points.len()) {
+        return Err(format!(
             "line {line}: the outline that begins there has {}, and may have 3 to 256: an empty \
              line ends an outline",
-            plain::corners(ring.points.len())
-        )),
+            plain::corners(points.len())
+        ));
     }
+    let points = points.into_iter().map(|(_, point)| point).collect();
+    Ok(Ring { points, part: None, opened, numbers: Numbers::Floats })
 }
 
 /// The ring of a well-known text, which must be closed.
-fn closed_ring(marks: Vec<Mark>) -> Found<Ring> {
-    bounded(&marks)?;
-    let has = marks.len();
-    let ends = marks.first().zip(marks.last());
-    if let Some((first, last)) = ends.filter(|(first, last)| first.at != last.at) {
-        let line = last.line;
-        let [first, last] = [first.at, last.at].map(plain::point);
+fn closed_ring(mut points: Vec<(usize, Point)>) -> Found<Ring> {
+    bounded(&points)?;
+    let has = points.len();
+    let ends = points.first().zip(points.last()).map(|(first, last)| (first.1, *last));
+    if let Some((first, (line, last))) = ends.filter(|(first, (_, last))| first != last) {
+        let [first, last] = [first, last].map(plain::point);
         return Err(format!(
             "line {line}: the ring is not closed, its last point is {last}: write its first, \
              {first}, once more at the end"
@@ -369,16 +352,17 @@ fn closed_ring(marks: Vec<Mark>) -> Found<Ring> {
     if !(4..=257).contains(&has) {
         return Err(format!("its ring has {has} points, and may have 4 to 257, the last counted"));
     }
-    Ok(Ring::marked(marks, true))
+    points.pop();
+    let points = points.into_iter().map(|(_, point)| point).collect();
+    Ok(Ring { points, part: None, opened: true, numbers: Numbers::Floats })
 }
 
 /// That all coordinates are in bounds.
-fn bounded(marks: &[Mark]) -> Found<()> {
-    let near = |x: f64| x.abs() <= LARGEST;
-    let far = |mark: &&Mark| !near(mark.at.0) || !near(mark.at.1);
-    match marks.iter().find(far) {
+fn bounded(points: &[(usize, Point)]) -> Found<()> {
+    let far = |(_, (x, y)): &&(usize, Point)| !(x.abs() <= LARGEST && y.abs() <= LARGEST);
+    match points.iter().find(far) {
         None => Ok(()),
-        Some(Mark { line, .. }) => Err(format!(
+        Some((line, _)) => Err(format!(
             "line {line}: a coordinate is not from -1000000 to 1000000: move or scale it"
         )),
     }

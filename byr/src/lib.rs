@@ -11,10 +11,7 @@
 #![forbid(unsafe_code)]
 
 mod answers;
-mod aside;
 mod asked;
-mod decimal;
-mod depth;
 pub mod drawing;
 mod fault;
 mod files;

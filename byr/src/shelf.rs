@@ -35,15 +35,6 @@ pub fn file_of(name: &str) -> &str {
     asked(name).map_or(name, |(file, _)| file)
 }
 
-/// What a carrier that is read from a file of this name is called.
-pub fn called_so(name: &str) -> &str {
-    if file_of(name) == "-" {
-        "the carrier"
-    } else {
-        name
-    }
-}
-
 impl Shelf {
     /// The bytes of a file, or of standard input for `-`.
     fn bytes(&mut self, file: &str) -> Result<&[u8]> {

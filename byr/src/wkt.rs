@@ -1,7 +1,7 @@
 //! Well-known text: a polygon of one ring, `POLYGON ((0 0, 4 0, 0 3, 0 0))`.
 
 use crate::plain;
-use crate::text::{number, shortened, Mark, Outlines, Wrong};
+use crate::text::{is_shown, number, shortened, Outlines, Wrong};
 use byrlygent::Point;
 
 /// What is left of a text, with its lines counted.
@@ -66,8 +66,8 @@ impl<'a> Rest<'a> {
         }
     }
 
-    /// The number here, and how it is written.
-    fn number(&mut self) -> Result<(f64, &'a str), Wrong> {
+    /// The number here, and whether it was read without rounding.
+    fn number(&mut self) -> Result<(f64, bool), Wrong> {
         self.blanks();
         let end = self.text.find(|c: char| c.is_whitespace() || "(),#".contains(c));
         if end == Some(0) || self.text.is_empty() {
@@ -76,7 +76,7 @@ impl<'a> Rest<'a> {
         let line = self.line;
         let word = self.skip(end.unwrap_or(self.text.len()));
         let read = number(word).map_err(|words| (line, words))?;
-        Ok((read, word))
+        Ok((read, is_shown(word, read)))
     }
 }
 
@@ -84,11 +84,11 @@ impl<'a> Rest<'a> {
 pub fn outlines(text: &str) -> Result<Outlines, Wrong> {
     let mut rest = Rest { text, line: 1 };
     opening(&mut rest)?;
-    let mut points = Vec::new();
+    let (mut points, mut shown) = (Vec::new(), true);
     loop {
-        let ((x, x_word), (y, y_word)) = (rest.number()?, rest.number()?);
-        let written = [x_word, y_word].map(String::from);
-        points.push(Mark { line: rest.line, at: (x, y), written });
+        let ((x, x_shown), (y, y_shown)) = (rest.number()?, rest.number()?);
+        points.push((rest.line, (x, y)));
+        shown &= x_shown && y_shown;
         if rest.sign(')') {
             break;
         }
@@ -102,7 +102,7 @@ pub fn outlines(text: &str) -> Result<Outlines, Wrong> {
     rest.expect(')')?;
     rest.blanks();
     match rest.text.is_empty() {
-        true => Ok(vec![points]),
+        true => Ok(Outlines { points: vec![points], shown }),
         false => rest.wrong("more stands behind the polygon: put each into a file of its own"),
     }
 }

@@ -2,9 +2,9 @@
 
 pub mod check;
 pub mod legs;
+pub mod moved;
 pub mod one_move;
 pub mod outline;
-pub mod recheck;
 pub mod same;
 pub mod shift;
 pub mod slide;

@@ -204,7 +204,8 @@ fn every_record_tells_its_first_wrong_list() {
             let (call, told) = (record.call, record.told);
             match record.asked() {
                 Some(asked) => assert_eq!(told, asked, "{name} {call}"),
-                None => assert!(matches!(told, (0 | 2..=6 | 11 | 14, 0)), "{name} {call} {told:?}"),
+                None if name == "drawn" && told == (14, 0) => {}
+                None => assert!(matches!(told, (0 | 2..=6 | 11, 0)), "{name} {call} {told:?}"),
             }
         }
     }

@@ -85,7 +85,7 @@ impl fmt::Display for Refusal {
             Self::Setting => f.write_str(
                 "a setting is out of bounds: the tolerance must be above 0 and at most 1, the \
                  smallest move finite and not negative, the pass limit at most 10000, the units \
-                 of a grid 1 to 1000000, how a drawing is put aside 0 to 20",
+                 of a grid 1 to 1000000",
             ),
             Self::ShortPath { passes, stop } => write!(
                 f,
@@ -114,8 +114,8 @@ impl fmt::Display for Refusal {
                  to 64, and the start must be below the path's number",
             ),
             Self::Grid => f.write_str(
-                "a coordinate, a position or a moved corner is off the grid: times the units it is \
-                 above 1000000 in size; take fewer units, or bring the drawing nearer to (0, 0)",
+                "a coordinate is off the grid: times the units it is above 1000000 in size; take \
+                 fewer units, or bring the drawing nearer to (0, 0)",
             ),
         }
     }

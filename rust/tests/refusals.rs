@@ -34,7 +34,7 @@ fn each_refusal_says_what_to_mend() {
     };
     told(Refusal::Number, &["out of bounds", "finite", "-1000000 to 1000000", "above 0"]);
     let settings =
-        ["above 0 and at most 1", "not negative", "at most 10000", "grid 1 to", "aside 0 to 20"];
+        ["above 0 and at most 1", "not negative", "at most 10000", "units of a grid 1 to"];
     told(Refusal::Setting, &settings);
     let reasons = [
         (StopReason::NoContact, "lost contact"),
@@ -50,7 +50,7 @@ fn each_refusal_says_what_to_mend() {
     told(Refusal::Wkb { place: 1, fault: Fault::Type(6) }, &["byte 1", "type is 6"]);
     told(Refusal::Remaining, &["fewer than three", "a point or a line"]);
     told(Refusal::Inspection, &["1 to 10001 places", "1 to 64", "start must be below"]);
-    told(Refusal::Grid, &["moved corner", "above 1000000", "fewer units", "nearer to (0, 0)"]);
+    told(Refusal::Grid, &["above 1000000", "fewer units", "nearer to (0, 0)"]);
 }
 
 #[test]

@@ -1,14 +1,16 @@
 //! A path that another program traced: its first fault by the rule, and what is so of its legs.
 
 use super::legs::Legs;
+use crate::drawing::Ring;
 use crate::grid::Grid;
-use crate::walk::Walk;
 use crate::Result;
 use byrlygent::nfp_sliding::Fault as First;
 use byrlygent::Point;
 
 /// A path, and what comes of it.
 pub struct Check {
+    /// The ring that stays.
+    pub carrier: Vec<Point>,
     /// The path.
     pub path: Vec<Point>,
     /// Whether a closing repeat was left off.
@@ -22,14 +24,20 @@ pub struct Check {
 impl Check {
     /// What comes of a path whose first fault by the rule is told; a grid that is asked for must
     /// fit.
-    pub fn of(walk: Walk, fault: First, grid: Option<Grid>) -> Result<Self> {
-        let (path, opened) = (walk.path.points.clone(), walk.path.opened);
-        let legs = Legs::of(grid, walk, true);
+    pub fn of(
+        carrier: &Ring,
+        disc: &Ring,
+        path: Ring,
+        fault: First,
+        grid: Option<Grid>,
+    ) -> Result<Self> {
+        let legs = Legs::of(grid, [carrier, disc, &path], true);
         let legs = match grid {
             Some(_) => Ok(legs?),
             None => legs,
         };
-        Ok(Self { path, opened, fault, legs })
+        let carrier = carrier.points.clone();
+        Ok(Self { carrier, path: path.points, opened: path.opened, fault, legs })
     }
 
     /// Whether the rule accepts it, and it is known of the drawing that nothing lies in between.

@@ -1,16 +1,16 @@
 //! The legs of a path, each asked whether nothing lies in between.
 
+use crate::drawing::Ring;
 use crate::grid::Grid;
-use crate::walk::{Found, Verdict, Walk};
+use crate::walk::{Verdict, Walk};
 use crate::Result;
-use byrlygent::drawn::{clear_move, clear_path, Legs as Asked, Move};
+use byrlygent::whole::Ground;
+use byrlygent::Point;
 
-/// The legs of a path, up to the first that is not clear.
+/// The legs of a path, up to the first that is not clear on the grid.
 pub struct Legs {
-    /// The carrier, the disc and the path.
+    /// The carrier, the disc and the path on their grid.
     pub walk: Walk,
-    /// The grid on which they were asked about.
-    pub grid: Grid,
     /// How many legs were asked about.
     pub asked: usize,
     /// What is known of the last of them, and of all before it where it is clear.
@@ -20,37 +20,34 @@ pub struct Legs {
 impl Legs {
     /// The legs on the grid that is asked for, or the finest that fits, the one from the last
     /// point to the first too where the path is closed.
-    pub fn of(grid: Option<Grid>, walk: Walk, closed: bool) -> Result<Self> {
-        let (carrier, path) = (&walk.carrier.points, &walk.path.points);
-        let all = if closed { path.len() } else { path.len() - 1 };
-        let (grid, (asked, found)) = walk.on(grid, |disc, units| {
-            let leg =
-                |at: usize| clear_move(carrier, disc, path[at], path[(at + 1) % path.len()], units);
-            Ok(match clear_path(carrier, disc, path, closed, units)? {
-                Asked::Clear { depth, .. } => (all, Found::Clear(depth)),
-                Asked::Edge { leg, edge } => (leg + 1, Found::Edge(edge)),
-                Asked::Enclosed { leg: at } => (at + 1, found(&leg(at)?)),
-            })
-        })?;
-        let verdict = walk.verdict(grid, found)?;
-        Ok(Self { walk, grid, asked, verdict })
+    pub fn of(grid: Option<Grid>, [carrier, disc, path]: [&Ring; 3], closed: bool) -> Result<Self> {
+        let all = || places(&carrier.points, &disc.points, &path.points);
+        let grid = grid.unwrap_or_else(|| Grid::fitting(&all()));
+        let [on, moved, positions] = [carrier, disc, path].map(|ring| grid.put_ring(ring));
+        let walk = Walk::on(grid, on?, moved?, positions?)?;
+        let legs = if closed { path.points.len() } else { path.points.len() - 1 };
+        let mut found = Ground::Clear;
+        let mut asked = 0;
+        while asked < legs && found == Ground::Clear {
+            found = walk.leg(asked)?.ground();
+            asked += 1;
+        }
+        let verdict = walk.verdict(found);
+        Ok(Self { walk, asked, verdict })
     }
 
-    /// The leg that is told, by the points that it leads from and to, where one is not clear: of
-    /// a disc that is too small or flat none is.
+    /// The leg that is told, by the points that it leads from and to, where one is not clear on
+    /// the grid.
     pub fn told(&self) -> Option<(usize, usize)> {
         match self.verdict {
-            Verdict::Clear(_) | Verdict::TooSmall(..) | Verdict::Flat => None,
-            _ => Some((self.asked - 1, self.asked % self.walk.path.points.len())),
+            Verdict::Clear | Verdict::ClearOnGrid(_) => None,
+            _ => Some((self.asked - 1, self.asked % self.walk.path.spots.len())),
         }
     }
 }
 
-/// What is found of a move.
-pub fn found(of: &Move) -> Found {
-    match of {
-        Move::Clear(clear) => Found::Clear(clear.depth),
-        Move::Edge(edge) => Found::Edge(*edge),
-        Move::Enclosed(within) => Found::Enclosed(within.depth),
-    }
+/// The carrier's corners, the disc's, the path's points, and the disc's corners at each.
+fn places(carrier: &[Point], disc: &[Point], path: &[Point]) -> Vec<Point> {
+    let at = |&(x, y): &Point| disc.iter().map(move |&(dx, dy)| (dx + x, dy + y));
+    carrier.iter().chain(disc).chain(path).copied().chain(path.iter().flat_map(at)).collect()
 }

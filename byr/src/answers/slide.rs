@@ -1,9 +1,8 @@
 //! A disc slid round its carrier by the given rule, and what is so of its legs.
 
 use super::legs::Legs;
-use crate::drawing::Ring;
+use crate::drawing::{Numbers, Ring};
 use crate::grid::Grid;
-use crate::walk::Walk;
 use crate::Result;
 use byrlygent::nfp_sliding::{compute_nfp_sliding, Nfp, SlidingNfpConfig, StopReason};
 use byrlygent::Point;
@@ -32,20 +31,19 @@ pub struct Slide {
 pub const MOST_PASSES: usize = 10_000;
 
 impl Slide {
-    /// The slide of a disc round its carrier, which is called so, that was traced. A grid that is
-    /// asked for must fit; where none is, it may be that nothing is known of the legs.
+    /// The slide of a disc round its carrier that was traced. A grid that is asked for must fit;
+    /// where none is, it may be that nothing is known of the legs.
     pub fn of(
-        (called, carrier): (&str, &Ring),
+        carrier: &Ring,
         disc: &Ring,
         settings: SlidingNfpConfig,
         nfp: Nfp,
         grid: Option<Grid>,
     ) -> Result<Self> {
         let closed = nfp.stop == StopReason::Closed;
-        let path = Ring::floats(nfp.polygons[0].clone());
-        let (called, stays) = (called.to_string(), carrier.clone());
-        let walk = Walk { called, carrier: stays, disc: disc.clone(), path };
-        let legs = Legs::of(grid, walk, closed);
+        let points = nfp.polygons[0].clone();
+        let path = Ring { points, part: None, opened: false, numbers: Numbers::Floats };
+        let legs = Legs::of(grid, [carrier, disc, &path], closed);
         let legs = match grid {
             Some(_) => Ok(legs?),
             None => legs,
@@ -60,7 +58,7 @@ impl Slide {
                 .is_ok_and(|other| other.polygons == nfp.polygons)
         };
         let (carrier, disc) = (carrier.points.clone(), disc.points.clone());
-        let goes_round = closed && goes_round(&carrier, &disc, &nfp.polygons[0]);
+        let goes_round = closed && goes_round(&carrier, &disc, &path.points);
         Ok(Self { carrier, disc, settings, nfp, legs, stands, goes_round })
     }
 

@@ -3,7 +3,7 @@
 use super::Job;
 use crate::answers::outline::Outline;
 use crate::asked::Asked;
-use crate::drawing::{written, Kind, Ring};
+use crate::drawing::{written, Kind, Numbers, Ring};
 use crate::files::{self, Out};
 use crate::told::{Line, Told};
 use crate::{plain, Fault, Result};
@@ -45,7 +45,7 @@ fn called(asked: &Asked) -> Result<Told> {
     let part = part.map(u32::try_from).transpose().map_err(large)?;
     let second = plain::point(points[1]);
     let together = Outline::of(&points)?.warns();
-    let rings = [Ring { part, ..Ring::floats(points) }];
+    let rings = [Ring { points, part, opened: false, numbers: Numbers::Floats }];
     let bytes = written(kind, &rings).map_err(|words| Fault::of(out.name(), words))?;
     files::write(&out, &bytes)?;
     let (centre, radius) = (plain::point(centre), plain::number(radius));

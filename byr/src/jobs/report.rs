@@ -9,28 +9,29 @@ use crate::asked::Asked;
 use crate::drawing::{Drawing, Ring};
 use crate::files::{self, Form, Out};
 use crate::page::report::{Report, Shown};
-use crate::shelf::{called_so, Shelf};
+use crate::shelf::Shelf;
 use crate::told::{Line, Told};
+use crate::words::moved::Telling;
 use crate::Result;
 use byrlygent::Point;
 
 pub const JOB: Job = Job {
     name: "report",
     usage: "OUT.html CARRIER DISC [--same OTHER] [--by DX,DY [--at X,Y]] [--slide]\n\
-            \x20      [--per-shift K [--state FILE]] [--grid U] [--tolerance T] [--passes N]\n\
+            \x20      [--per-shift K [--state FILE]] [--grid U] [--moved] [--tolerance T] [--passes N]\n\
             \x20      [--least-move L]",
     what: "write the auditor's file",
     more: "One page that prints, with nothing loaded from outside: the outlines, whether the carrier is\n\
            the same as OTHER, and else OTHER's outline, the slide, why the move is clear or not with\n\
            every line and how to check it by hand, the inspection plan and what was given out so far,\n\
            versions and refusals. With --by the slide is left out, unless --slide or one of its\n\
-           options asks for it. The grid of U is as for slide (byr help slide). Status 1: there is a\n\
-           WARNING in it, or the move is not known to be clear.",
+           options asks for it. Each corner that moved to the grid is told, with --moved each point\n\
+           of the path too. Status 1: there is a WARNING in it, or the move is not known to be clear.",
     example: "byr report audit.html carrier.wkt disc.wkb --same thursday.txt --at 20,38 --by 10,0",
     valued: &[
         "same", "at", "by", "grid", "per-shift", "state", "tolerance", "passes", "least-move",
     ],
-    flags: &["slide"],
+    flags: &["slide", "moved"],
     call: called,
 };
 
@@ -47,7 +48,7 @@ fn called(asked: &Asked) -> Result<Told> {
     }
     let out = Out::of(out, Form::Page)?;
     let report = answered(asked, carrier, disc)?;
-    let page = report.page();
+    let page = report.page(Telling::each_corner(asked));
     files::write(&out, page.as_bytes())?;
     let mut lines = report.findings();
     lines.push(Line::plain(format!("{}: the report, {} bytes", out.name(), page.len())));
@@ -58,11 +59,10 @@ fn called(asked: &Asked) -> Result<Told> {
 fn answered(asked: &Asked, carrier: &str, disc: &str) -> Result<Report> {
     let mut shelf = Shelf::default();
     let rings = (shelf.ring(carrier)?, shelf.ring(disc)?);
-    let stays = (called_so(carrier), &rings.0);
-    let slide = asks_slide(asked).then(|| slide(asked, stays, &rings.1)).transpose()?;
+    let slide = asks_slide(asked).then(|| slide(asked, &rings.0, &rings.1)).transpose()?;
     let path = slide.as_ref().and_then(|slide| slide.as_ref().ok()).map(Slide::path);
     let plan = asked.has("per-shift").then(|| plan(asked, path)).transpose()?;
-    let one_move = || why::one_move(asked, stays, &rings.1);
+    let one_move = || why::one_move(asked, &rings.0, &rings.1);
     let one_move = asked.has("by").then(one_move).transpose()?;
     let drawn = shelf.drawing(carrier)?;
     let same = match asked.value("same") {
@@ -89,9 +89,9 @@ fn shown(drawing: Drawing) -> Result<Shown> {
 }
 
 /// The slide, or why there is none: the trace may be too short.
-fn slide(asked: &Asked, carrier: (&str, &Ring), disc: &Ring) -> Result<Result<Slide>> {
+fn slide(asked: &Asked, carrier: &Ring, disc: &Ring) -> Result<Result<Slide>> {
     let (settings, grid) = (asked.settings()?, asked.grid()?);
-    match traced(carrier.1, disc, &settings)? {
+    match traced(carrier, disc, &settings)? {
         Ok(nfp) => Ok(Ok(Slide::of(carrier, disc, settings, nfp, grid)?)),
         Err(short) => Ok(Err(short)),
     }

@@ -5,27 +5,28 @@ use crate::answers::slide::Slide;
 use crate::asked::Asked;
 use crate::drawing::Ring;
 use crate::files::{self, Form};
-use crate::shelf::{called_so, Shelf};
+use crate::shelf::Shelf;
 use crate::told::{Line, Told};
+use crate::words::moved::Telling;
 use crate::{pictures, plain, words, Fault, Result};
 use byrlygent::nfp_sliding::{compute_nfp_sliding, Nfp, SlidingNfpConfig};
 use byrlygent::Refusal;
 
 pub const JOB: Job = Job {
     name: "slide",
-    usage: "CARRIER DISC [--path OUT.txt] [--svg OUT.svg] [--grid U] [--tolerance T]\n\
-            \x20      [--passes N] [--least-move L]",
+    usage: "CARRIER DISC [--path OUT.txt] [--svg OUT.svg] [--grid U] [--moved]\n\
+            \x20      [--tolerance T] [--passes N] [--least-move L]",
     what: "slide a disc round its carrier",
-    more: "A point of the path is how far the disc, as drawn, is moved. Of each leg it is then asked\n\
-           how deep an edge of the carrier may reach at most into the disc: that is proved of the\n\
-           drawing, by lines on a grid. U is its unit, 1 or a part of it; without --grid it is the\n\
-           finest of a power of ten that all fits on. The depth is 3 units, or 5 or 7 where what\n\
-           touches is in the way on the grid; a disc that is not a hundred times as wide is too\n\
-           small for it. Status 0: it comes round, and is clear to the depth that is told, 1: not,\n\
-           or that is not known.",
+    more: "A point of the path is how far the disc, as drawn, is moved. Each leg is then asked on the\n\
+           grid of U, 1 or a part of it, whether nothing lies in between; without --grid that is the\n\
+           grid of 1 if all is whole, and else the finest of a power of ten that fits. Of the drawing\n\
+           that is proved only where nothing moved to get there. How far corners moved is told: with\n\
+           --grid of each corner of a ring of up to 64, with --moved of all corners and points, and\n\
+           else of the farthest. Status 0: it comes round, and nothing lies in between, 1: not, or\n\
+           that is not known.",
     example: "byr slide carrier.wkt disc.wkb --path path.txt --svg slide.svg",
     valued: &["path", "svg", "grid", "tolerance", "passes", "least-move"],
-    flags: &[],
+    flags: &["moved"],
     call: called,
 };
 
@@ -47,11 +48,10 @@ fn called(asked: &Asked) -> Result<Told> {
     asked.apart(&[carrier, disc], &written)?;
     let (path, svg) = (asked.out("path", Form::Path)?, asked.out("svg", Form::Picture)?);
     let mut shelf = Shelf::default();
-    let (stays, disc) = (shelf.ring(carrier)?, shelf.ring(disc)?);
+    let (carrier, disc) = (shelf.ring(carrier)?, shelf.ring(disc)?);
     let (settings, grid) = (asked.settings()?, asked.grid()?);
-    let nfp = traced(&stays, &disc, &settings)??;
-    let slide = Slide::of((called_so(carrier), &stays), &disc, settings, nfp, grid)?;
-    let mut lines = words::slide::told(&slide);
+    let slide = Slide::of(&carrier, &disc, settings, traced(&carrier, &disc, &settings)??, grid)?;
+    let mut lines = words::slide::told(&slide, Telling::asked(asked));
     let mut files = Vec::new();
     if let Some(out) = path {
         let points = plain::count(slide.path().len(), "point", "points");

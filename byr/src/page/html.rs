@@ -63,12 +63,6 @@ impl Sections {
         self.body += &format!("<pre{whole}>{}</pre>\n", words.concat());
     }
 
-    /// Rows of a table of numbers.
-    pub fn rows(&mut self, words: &[String]) {
-        let words: Vec<String> = words.iter().map(|line| escaped(line)).collect();
-        self.body += &format!("<pre{}>{}</pre>\n", whole(words.len()), words.join("\n"));
-    }
-
     /// Short lines, in columns.
     pub fn columns(&mut self, words: &[String]) {
         let words: Vec<String> = words.iter().map(|line| escaped(line)).collect();

@@ -8,7 +8,8 @@ use crate::answers::same::Sameness;
 use crate::answers::shift::Plan;
 use crate::answers::slide::Slide;
 use crate::drawing::Drawing;
-use crate::told::Line;
+use crate::told::{Line, Weight};
+use crate::words::moved::Telling;
 use crate::{help, pictures, plain, words, Result};
 use byrlygent::nfp_sliding::StopReason;
 use byrlygent::wkb::Fault as Wrong;
@@ -73,8 +74,8 @@ impl Report {
         !warns && self.one_move.as_ref().is_none_or(OneMove::is_well)
     }
 
-    /// The page.
-    pub fn page(&self) -> String {
+    /// The page; of what moved to a grid it tells so much.
+    pub fn page(&self, telling: Telling) -> String {
         let mut page_of = Sections::default();
         self.front(&mut page_of);
         page_of.heading("The outlines");
@@ -85,10 +86,10 @@ impl Report {
             sameness(&mut page_of, other, same);
         }
         if let Some(Ok(slide)) = &self.slide {
-            slid(&mut page_of, slide);
+            slid(&mut page_of, slide, telling);
         }
         if let Some(of) = &self.one_move {
-            reason(&mut page_of, of);
+            reason(&mut page_of, of, telling);
         }
         if let Some(plan) = &self.plan {
             inspection(&mut page_of, plan);
@@ -130,22 +131,27 @@ fn sameness(page: &mut Sections, other: &Shown, same: &Sameness) {
     }
 }
 
-/// Lines with their picture.
+/// Lines with their picture, and behind it how far each corner moved to the grid.
 fn pictured(page: &mut Sections, lines: &[Line], picture: &str) {
     page.lines(lines.iter().filter(|line| line.is_main()));
     page.picture(picture);
+    let details: Vec<&Line> = lines.iter().filter(|line| line.weight == Weight::Detail).collect();
+    if !details.is_empty() {
+        page.smaller_heading("How far each corner moved to the grid");
+        page.lines(details);
+    }
 }
 
 /// The slide, with its path.
-fn slid(page: &mut Sections, slide: &Slide) {
+fn slid(page: &mut Sections, slide: &Slide, telling: Telling) {
     page.heading("The slide");
     page.paragraph(
-        "What the given rule traces, and then what is so: of each leg of the path it is asked how \
-         deep an edge of the carrier may reach at most into the disc. The depth that is told is \
-         proved of the drawing, by lines on a grid that part each edge from the way. Where no line \
-         is found nothing is known.",
+        "What the given rule traces, and then what is so: each leg of the path is asked on a grid \
+         whether nothing lies in between. A leg that is clear there is clear in the drawing where \
+         nothing moved to the grid; of other drawings nothing is proved. That a leg is not clear \
+         rests on a search whose completeness is tested and not proved.",
     );
-    let lines = words::slide::told(slide);
+    let lines = words::slide::told(slide, telling);
     pictured(page, &lines, &pictures::slide::drawn(slide, &lines, false));
     page.smaller_heading("The points of the path");
     let point = |(at, p): (usize, &_)| format!("{at:>4}  {}", plain::point(*p));
@@ -154,16 +160,16 @@ fn slid(page: &mut Sections, slide: &Slide) {
 }
 
 /// Why a move is clear, or not, and how to check it by hand.
-fn reason(page: &mut Sections, of: &OneMove) {
+fn reason(page: &mut Sections, of: &OneMove, telling: Telling) {
     page.heading("Why is the move clear, or not?");
-    let lines = words::one_move::told(of, false);
+    let lines = words::one_move::told(of, telling, false);
     pictured(page, &lines, &pictures::one_move::drawn(of, &lines, false));
     if let Some(hand) = ByHand::of(of) {
         page.smaller_heading("How to check it by hand");
         hand.rules().iter().for_each(|rule| page.paragraph(rule));
         for (heading, lines) in hand.tables() {
             page.smaller_heading(&heading);
-            page.rows(&lines);
+            page.columns(&lines);
         }
     }
 }

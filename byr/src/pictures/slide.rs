@@ -13,7 +13,7 @@ const TITLE: &str = "A disc slides round its carrier";
 /// The leg that is told, by its points, and the edge.
 type Blocked = ((usize, usize), Option<usize>);
 
-/// The leg that is told, if one is.
+/// The leg that is not clear on the grid, if one is not.
 fn blocked(slide: &Slide) -> Option<Blocked> {
     let legs = slide.legs.as_ref().ok()?;
     Some((legs.told()?, legs.verdict.edge()))

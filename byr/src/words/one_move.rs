@@ -1,55 +1,52 @@
 //! What is said of one move.
 
 use super::legs::{basis, verdict};
-use super::recheck;
+use super::moved::{self, Telling};
 use crate::answers::one_move::OneMove;
+use crate::plain;
 use crate::told::Line;
 use crate::walk::Verdict;
-use crate::{aside, plain};
 use byrlygent::nfp_sliding::{CollisionEvent, ContactType, Explanation, Ground};
 use byrlygent::Point;
 
-/// The verdict, and behind it what was asked, on which grid, and what the rule says; the reason
-/// where it is asked for.
-pub fn told(of: &OneMove, lines: bool) -> Vec<Line> {
-    let mut told = vec![Line::plain(verdict(&of.walk, of.grid, of.verdict))];
-    told.extend(unlike(of).map(|unlike| Line::warning(format!("the old program says {unlike}"))));
-    let [at, by] = [of.at(), of.by].map(plain::point);
+/// The verdict, and behind it what was asked, what the rule says and what moved to the grid;
+/// the lines of the reason where they are asked for.
+pub fn told(of: &OneMove, telling: Telling, lines: bool) -> Vec<Line> {
+    let known = of.verdict();
+    let mut told = vec![Line::plain(verdict(&of.walk, known, &of.carrier))];
+    told.extend(
+        (of.is_clear_by_rule() && known.is_blocked())
+            .then(|| Line::warning("the rule says clear, and on the grid the move is not")),
+    );
+    told.extend(basis(&of.walk, known));
+    let [at, by] = [of.at, of.by].map(plain::point);
     told.push(Line::plain(format!("the disc as drawn, moved to {at}, goes on by {by}")));
-    told.push(basis(of.grid, of.verdict, of.how().map(aside::told)));
-    told.push(Line::plain(format!("the old program, by its rule: {}", rule(of))));
+    told.push(Line::plain(format!("by the rule: {}", rule(of))));
+    told.extend(moved::one_move(&of.walk, telling));
     told.extend(reason(of, lines));
     told
 }
 
-/// Where the rule says clear of a move that is not told to be clear, what is so.
-fn unlike(of: &OneMove) -> Option<&'static str> {
-    match of.verdict {
-        Verdict::NotParted(_) | Verdict::TooSmall(..) | Verdict::Flat if of.is_clear_by_rule() => {
-            Some("clear, and that is not known")
-        }
-        Verdict::Inside(_) if of.is_clear_by_rule() => Some("clear, and the disc is inside"),
-        _ => None,
-    }
-}
-
-/// The reason with all that it takes to check it, or how to ask for it.
+/// The lines of the reason, each once with the edges that it parts, or how to ask for them.
 fn reason(of: &OneMove, lines: bool) -> Vec<Line> {
-    let Some(why) = of.why() else { return Vec::new() };
-    let partings = recheck::lines(of);
+    let partings = of.partings();
+    if partings.is_empty() {
+        return Vec::new();
+    }
     let count = plain::count(partings.len(), "line", "lines");
-    let edges = plain::count(of.carrier().len(), "edge", "edges");
+    let edges = plain::count(of.carrier.len(), "edge", "edges");
     let first = Line::plain(format!("the reason has {count} for {edges}"));
     if !lines {
         return vec![first, Line::hint("(--lines prints the reason)")];
     }
     let how = Line::hint(
         "of each line, from p to q, the disc's way lies left or on it, and these edges right or on \
-         it (p.x p.y q.x q.y in units); tools/check_reason checks what is printed here",
+         it (p.x p.y q.x q.y in units)",
     );
-    let all = [recheck::asked(of, &why), partings, recheck::carrier(of, &why)];
-    let all = all.into_iter().chain([recheck::disc(of, &why)]).flatten();
-    [first, how].into_iter().chain(all.map(Line::detail)).collect()
+    [first, how]
+        .into_iter()
+        .chain(partings.iter().map(|shared| Line::detail(shared.to_string())))
+        .collect()
 }
 
 /// What the rule says.
@@ -83,10 +80,10 @@ fn pair(of: &OneMove, hit: &CollisionEvent) -> String {
     };
     match hit.contact_type {
         ContactType::VertexEdge => {
-            format!("the disc's corner {disc} meets the carrier's {}", edge(of.carrier(), carrier))
+            format!("the disc's corner {disc} meets the carrier's {}", edge(&of.carrier, carrier))
         }
         _ => {
-            let at = plain::point(of.carrier()[carrier]);
+            let at = plain::point(of.carrier[carrier]);
             format!("the disc's edge {disc} meets the carrier's corner {carrier}, {at},")
         }
     }
@@ -94,15 +91,14 @@ fn pair(of: &OneMove, hit: &CollisionEvent) -> String {
 
 /// What was found, for the front of a page.
 pub fn finding(of: &OneMove) -> Line {
-    let [at, by] = [of.at(), of.by].map(plain::point);
-    let known = verdict(&of.walk, of.grid, of.verdict);
-    let rule = match (of.is_clear_by_rule(), of.is_well()) {
-        (false, true) => "; the old program says not clear".to_string(),
-        _ => {
-            unlike(of).map(|unlike| format!("; the old program says {unlike}")).unwrap_or_default()
-        }
+    let [at, by] = [of.at, of.by].map(plain::point);
+    let known = verdict(&of.walk, of.verdict(), &of.carrier);
+    let rule = match (of.is_clear_by_rule(), of.verdict().is_clear()) {
+        (false, true) => ", and the rule says that it is not clear",
+        (true, false) if of.verdict().is_blocked() => ", and the rule says that it is clear",
+        _ => "",
     };
     // What is not known of a hull's sake warns of nothing.
-    let warns = !of.is_well() && !matches!(of.verdict, Verdict::HullNotParted(_));
+    let warns = !of.is_well() && !matches!(of.verdict(), Verdict::NotKnown(_));
     Line::weighed(warns, format!("The move by {by} from {at}: {known}{rule}."))
 }

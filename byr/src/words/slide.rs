@@ -1,26 +1,30 @@
 //! What is said of a slide.
 
 use super::legs::{basis, sentence};
+use super::moved::{self, Telling};
 use crate::answers::slide::{Slide, MOST_PASSES};
 use crate::drawing::PATH_MARK;
 use crate::plain;
 use crate::told::Line;
 use byrlygent::nfp_sliding::{SlidingNfpConfig, StopReason};
 
-/// Whether it comes round and is clear, and behind it what was traced and on which grid it was
-/// asked about.
-pub fn told(slide: &Slide) -> Vec<Line> {
+/// Whether it comes round and is clear, and behind it what was traced and what moved to the
+/// grid.
+pub fn told(slide: &Slide, telling: Telling) -> Vec<Line> {
     let mut told = verdict(slide);
+    if let Ok(legs) = &slide.legs {
+        told.extend(basis(&legs.walk, legs.verdict));
+    }
     told.extend(traced(slide));
     if let Ok(legs) = &slide.legs {
-        told.push(basis(legs.grid, legs.verdict, None));
+        told.extend(moved::path(&legs.walk, telling));
     }
     told
 }
 
 /// Whether it comes round, and what is known of its legs.
 pub fn verdict(slide: &Slide) -> Vec<Line> {
-    let known = sentence(&slide.legs);
+    let known = sentence(&slide.legs, &slide.carrier);
     if slide.goes_round {
         return vec![Line::weighed(!slide.is_well(), format!("comes round: {known}"))];
     }

@@ -47,18 +47,18 @@ const MOVES: [Law; 3] = [clear::handed_out, clear::leg_by_leg, clear::exactly];
 /// The laws of moves of drawings.
 const DRAWN: [Law; 4] = [drawn::handed_out, drawn::leg_by_leg, drawn::as_it_is, drawn::exactly];
 
-/// All lists; the shares add up to a hundred.
+/// All lists; the shares add up to a hundred, and that of moves of drawings is added to it.
 pub const LISTS: [Checked; 13] = [
     Checked { name: "scalars", share: 10, check: scalars::check, laws: &[] },
-    Checked { name: "rings", share: 12, check: rings::check, laws: &RINGS },
+    Checked { name: "rings", share: 14, check: rings::check, laws: &RINGS },
     Checked { name: "whole", share: 8, check: whole::check, laws: &[] },
     Checked { name: "clear", share: 8, check: clear::check, laws: &MOVES },
     Checked { name: "discs", share: 4, check: discs::check, laws: &[] },
     Checked { name: "grid", share: 2, check: grid::check, laws: &[] },
     Checked { name: "drawn", share: 6, check: drawn::check, laws: &DRAWN },
-    Checked { name: "sliding", share: 20, check: sliding::check, laws: &[] },
-    Checked { name: "book", share: 9, check: book::check, laws: &[mirrors::book_mirrored] },
-    Checked { name: "wkb", share: 9, check: wkb::check, laws: &[] },
+    Checked { name: "sliding", share: 22, check: sliding::check, laws: &[] },
+    Checked { name: "book", share: 10, check: book::check, laws: &[mirrors::book_mirrored] },
+    Checked { name: "wkb", share: 10, check: wkb::check, laws: &[] },
     Checked { name: "places", share: 1, check: places::check, laws: &[] },
     Checked { name: "traces", share: 6, check: traces::check, laws: &[traces::larger] },
     Checked { name: "paths", share: 5, check: paths::check, laws: &[paths::pieced] },
