@@ -39,6 +39,7 @@ places_length n p (suc m) = simp length-append (omega (arith, places_length n p 
 -- the i-th of the places is i places on
 pub place_at : (n p m i : ℕ) → i < m → get_or (places_from n p m) i 0 ≡ place_after n p i
 unfolding places_from
+place_at n p zero i h = elim h [ ]
 place_at n p (suc m) i h = go (dec_lt i m) (place_at n p m i)
   where
     go : Dec (i < m) → (i < m → get_or (places_from n p m) i 0 ≡ place_after n p i)

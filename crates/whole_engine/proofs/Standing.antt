@@ -52,15 +52,21 @@ stands a x y d h k =
     }
 
 pub same_length : (r : List Float) (zs : List ℤ) → Drawn r zs → length r ≡ length zs
+same_length (x ∷ r) [] x4 = elim x4 [ ]
+same_length [] (z ∷ zs) x'' = elim x'' [ ]
 same_length [] [] none = refl
 same_length (x ∷ r) (z ∷ zs) (more d ds) = ap suc (same_length r zs ds)
 
 pub same_numbers : (r : List Float) (zs : List ℤ) → Drawn r zs → coordinates r ≡ all_in_bounds zs
 unfolding every all_in_bounds
+same_numbers (x ∷ r) [] x4 = elim x4 [ ]
+same_numbers [] (z ∷ zs) x'' = elim x'' [ ]
 same_numbers [] [] none = refl
 same_numbers (x ∷ r) (z ∷ zs) (more d ds) = rw (same_bounds x z d, same_numbers r zs ds)
 
 drawn_at : (r : List Float) (zs : List ℤ) → Drawn r zs → (i : ℕ) → i < length zs → DrawnAt (get_or r i nan) (get_or zs i (pos 0))
+drawn_at (x ∷ r) [] x5 i h = elim x5 [ ]
+drawn_at [] (z ∷ zs) x4 i h = elim x4 [ ]
 drawn_at [] [] none i h = absurd (omega arith)
 drawn_at (x ∷ r) (z ∷ zs) (more d ds) zero h = d
 drawn_at (x ∷ r) (z ∷ zs) (more d ds) (suc i) h = drawn_at r zs ds i (omega arith)

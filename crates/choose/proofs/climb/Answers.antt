@@ -20,16 +20,14 @@ unfolding unset unscored length_of dot_of sqrt_of add mul of_bits
 loop-best-init c = at_first _ _ _ _ _ _ (rw (c.start.ensures, c.over.ensures) refl)
 
 pub next_within-requires : goal.next_within-requires
-next_within-requires c = (c.requires.sides, (c.loop-best.invariant.most, c.frames_of-frames.ensures))
+next_within-requires c = record { sides = c.requires.sides; from_bound = c.loop-best.invariant.most; framed = c.frames_of-frames.ensures }
 
 pub returns-in-Nothing : goal.returns-in-Nothing
 returns-in-Nothing c =
     top _ _ _ _ _ _ c.loop-best.invariant (next_none _ _ _ _ c.next_within.ensures c.in-Nothing.is)
 
 pub weigh_contact-best-requires : goal.weigh_contact-best-requires
-weigh_contact-best-requires c =
-    let p = c.requires in
-    (p.0, ((next_at _ _ _ c.next_within.ensures c.in-At.is).below, p.1))
+weigh_contact-best-requires c = record { sides = c.requires.sides; k_bound = (next_at _ _ _ c.next_within.ensures c.in-At.is).below; directed = c.requires.directed; orbiting_value = c.requires.orbiting_value }
 
 pub overflow_add-k : goal.overflow_add-k
 overflow_add-k c =

@@ -7,13 +7,10 @@ use Rattle.choose.proofs.weigh_contact.Goals as goal
 
 pub edges_of-e-requires : goal.edges_of-e-requires
 edges_of-e-requires c =
-    let p = c.requires in
-    rw c.pair_at-pair.ensures (within _ _ p.0 _ p.1.0)
+    rw c.pair_at-pair.ensures (within _ _ c.requires.sides _ c.requires.k_bound)
 
 pub along_at-along-requires : goal.along_at-along-requires
-along_at-along-requires c =
-    let p = c.requires in
-    at_hand _ _ _ _ _ _ p.0 p.1.0 p.1.1.0 p.1.1.1 c.pair_at-pair.ensures c.edges_of-e.ensures
+along_at-along-requires c = record { stationary_bound = (at_hand _ _ _ _ _ _ c.requires.sides c.requires.k_bound c.requires.directed c.requires.orbiting_value c.pair_at-pair.ensures c.edges_of-e.ensures).0; stationary_value = (at_hand _ _ _ _ _ _ c.requires.sides c.requires.k_bound c.requires.directed c.requires.orbiting_value c.pair_at-pair.ensures c.edges_of-e.ensures).1.0; orbiting_bound = (at_hand _ _ _ _ _ _ c.requires.sides c.requires.k_bound c.requires.directed c.requires.orbiting_value c.pair_at-pair.ensures c.edges_of-e.ensures).1.1.0; directed = (at_hand _ _ _ _ _ _ c.requires.sides c.requires.k_bound c.requires.directed c.requires.orbiting_value c.pair_at-pair.ensures c.edges_of-e.ensures).1.1.1 }
 
 pub weigh_both-requires : goal.weigh_both-requires
 weigh_both-requires c = c.along_at-along.ensures

@@ -7,12 +7,8 @@ use Rattle.clear_aside.proofs.search_aside.Goals as goal
 pub returns-in-Clear : goal.returns-in-Clear
 returns-in-Clear c =
     let g = c.args in
-    let found = c.search.ensures in
-    let told = ap ground c.in-Clear.is in (
-      first_clear _ _ _ _ _ c.requires.moved found.0 told,
-      kept_clear g.st.now g.a.now g.b.now g.from g.to _ 0
-          (first_lines _ _ _ _ _ c.requires.moved found.0 _ found.1 told),
-    )
+    let told = ap ground c.in-Clear.is in record { result_value = first_clear _ _ _ _ _ c.requires.moved c.search.ensures.result_value told; kept = kept_clear g.st.now g.a.now g.b.now g.from g.to _ 0
+          (first_lines _ _ _ _ _ c.requires.moved c.search.ensures.result_value _ c.search.ensures.lines_after told) }
 
 pub returns-in-Edge : goal.returns-in-Edge
 returns-in-Edge c = record { result_value = first_edge _ _ _ _ _ c.requires.moved c.search.ensures.result_value

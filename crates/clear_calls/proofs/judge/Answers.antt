@@ -38,12 +38,12 @@ returns-then-passed c =
     let told = sym (ap ground c.in-Clear.is) in
     let out = lowered st orb _ _ _ c.search.ensures.lines_after (told ∙ c.search.ensures.result_value) held c.lower.ensures
     ∙ as_lent (λ (x y : ℤ). laid (reason_of st orb x y) held) c.ranges.dx c.ranges.dy in
-    handed_clear _ _ (reason_of st orb c.args.dx c.args.dy) held (told ∙ found c.before.before.before.before.before.before.before.before.before.before) c.fit-no.ensures
+    handed_clear _ _ (reason_of st orb c.args.dx c.args.dy) held (told ∙ found c.before.before.before.before.before.before.before.before.before) c.fit-no.ensures
     c.passed.ensures c.if-passed.true out
 
 pub returns-else-passed : goal.returns-else-passed
 returns-else-passed c =
-    handed_short _ _ _ _ (sym (ap ground c.in-Clear.is) ∙ found c.before.before.before.before.before.before) c.fit-no.ensures
+    handed_short _ _ _ _ (sym (ap ground c.in-Clear.is) ∙ found c.before.before.before.before.before) c.fit-no.ensures
     c.passed.ensures c.if-passed.false
 
 pub returns-in-Edge : goal.returns-in-Edge

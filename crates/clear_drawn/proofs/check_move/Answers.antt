@@ -24,8 +24,7 @@ slice_bounds-check_leg-end-3 c =
 
 pub slice_bounds-check_leg-end-4 : goal.slice_bounds-check_leg-end-4
 slice_bounds-check_leg-end-4 c =
-    let p = c.requires in
-    sym (length-take-le _ _ (omega (arith, c.lift.auto.room, p.1.0.four_each, p.0.0.ring_most)))
+    sym (length-take-le _ _ (omega (arith, c.lift.auto.room, c.requires.lines_lent.0.four_each, c.requires.drawn_lent.0.ring_most)))
 
 pub check_leg-g-requires : goal.check_leg-g-requires
 check_leg-g-requires c =

@@ -25,7 +25,7 @@ on_grid-requires c =
 
 pub loop-i-preserved : goal.loop-i-preserved
 loop-i-preserved c =
-    let is = to_z-of_z w32 _ (record { sfits = c.on_grid.type-inv }) ∙ c.on_grid.ensures.is in
+    let is = to_z-of_z w32 _ (record { sfits = c.on_grid.type_inv }) ∙ c.on_grid.ensures.is in
     turn (λ x. up_of (nearest _ x)) nan c.requires.list_in_bounds c.loop-i-test.true
     (c.up.ensures ∙ ap up_of is) c.loop-i.invariant
 

@@ -26,7 +26,4 @@ returns c =
     let first = moved_front c.args.disc.now _ _ _ c.place.ensures in
     let second = moved_front c.args.disc.now _ _ _ c.place-2.ensures in
     let from = c.spot_in-from.ensures in
-    let to = c.spot_in-to.ensures in (
-      leg_is _ _ _ _ _ first second from to c.search_aside.ensures.result_value,
-      leg_kept _ _ _ _ _ first second from to _ _ c.search_aside.ensures.kept,
-    )
+    let to = c.spot_in-to.ensures in record { result_value = leg_is _ _ _ _ _ first second from to c.search_aside.ensures.result_value; leg_kept = leg_kept _ _ _ _ _ first second from to _ _ c.search_aside.ensures.kept }

@@ -33,7 +33,4 @@ returns c =
     let points = grid_front c.args.units c.args.path.now _ c.lay-2.ensures in
     let xs = c.args.stationary.now in
     let ys = c.args.orbiting.now in
-    let path = c.args.path.now in (
-      move_is xs ys path c.args.units ring disc points c.search_leg.ensures.result_value,
-      move_kept xs ys path c.args.units ring disc points _ _ c.search_leg.ensures.leg_kept,
-    )
+    let path = c.args.path.now in record { result_value = move_is xs ys path c.args.units ring disc points c.search_leg.ensures.result_value; move_kept = move_kept xs ys path c.args.units ring disc points _ _ c.search_leg.ensures.leg_kept }

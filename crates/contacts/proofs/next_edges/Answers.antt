@@ -29,19 +29,15 @@ pub nonzero_rem-j : goal.nonzero_rem-j
 nonzero_rem-j c = omega (arith, c.requires.sides.orbiting_some)
 
 pub scan_edges-k-requires : goal.scan_edges-k-requires
-scan_edges-k-requires c =
-    let p = c.requires in
-    (rows_in _ _ p.0 _ (omega (arith, c.if-from-m.true, p.1.0.0)), ((p.0.stationary_most, p.0.orbiting_most), p.1.1.1))
+scan_edges-k-requires c = record { s_bound = rows_in _ _ c.requires.sides _ (omega (arith, c.if-from-m.true, c.requires.orbiting_bound.0)); stationary_bound = (c.requires.sides.stationary_most, c.requires.sides.orbiting_most); around = c.requires.framed.1 }
 
 pub returns-then-k-m : goal.returns-then-k-m
 returns-then-k-m c =
-    let p = c.requires in
-    last_hit _ _ _ p.0 _ _ p.1.0.0 c.scan_edges-k.ensures c.if-k-m.true
+    last_hit _ _ _ c.requires.sides _ _ c.requires.orbiting_bound.0 c.scan_edges-k.ensures c.if-k-m.true
 
 pub returns-else-k-m : goal.returns-else-k-m
 returns-else-k-m c =
-    let p = c.requires in
-    last_none _ _ _ p.0 _ _ p.1.0.0 c.scan_edges-k.ensures c.if-k-m.false
+    last_none _ _ _ c.requires.sides _ _ c.requires.orbiting_bound.0 c.scan_edges-k.ensures c.if-k-m.false
 
 pub returns-else-from-m : goal.returns-else-from-m
 returns-else-from-m c = none_past _ _ _ c.requires.sides _ c.if-from-m.false

@@ -25,28 +25,24 @@ pub nonzero_rem-j : goal.nonzero_rem-j
 nonzero_rem-j c = omega (arith, c.requires.sides.orbiting_some)
 
 pub scan_vertices-k-requires : goal.scan_vertices-k-requires
-scan_vertices-k-requires c =
-    let p = c.requires in
-    (rows_in _ _ p.0 _ (omega (arith, c.if-from-m.true, p.1.0.0)), ((p.0.stationary_most, p.0.orbiting_most), p.1.1.1))
+scan_vertices-k-requires c = record { v_bound = rows_in _ _ c.requires.sides _ (omega (arith, c.if-from-m.true, c.requires.orbiting_bound.0)); points_bound = (c.requires.sides.stationary_most, c.requires.sides.orbiting_most); around = c.requires.framed.1 }
 
 pub returns-then-k-m : goal.returns-then-k-m
 returns-then-k-m c =
-    let p = c.requires in
-    later_hit _ _ _ p.0 _ _ p.1.0.0 c.scan_vertices-k.ensures c.if-k-m.true
+    later_hit _ _ _ c.requires.sides _ _ c.requires.orbiting_bound.0 c.scan_vertices-k.ensures c.if-k-m.true
 
 pub overflow_mul-m-then-from-m : goal.overflow_mul-m-then-from-m
 overflow_mul-m-then-from-m c = omega (arith, most _ _ c.requires.sides)
 
 pub next_edges-requires : goal.next_edges-requires
-next_edges-requires c = (c.requires.sides, ((omega arith, omega arith), c.requires.framed))
+next_edges-requires c = record { sides = c.requires.sides; orbiting_bound = (omega arith, omega arith); framed = c.requires.framed }
 
 pub returns-then-from-m : goal.returns-then-from-m
 returns-then-from-m c =
-    let p = c.requires in
-    c.next_edges.ensures ∙ sym (ap first_contact (later_end _ _ _ p.0 _ _ p.1.0.0 c.scan_vertices-k.ensures c.if-k-m.false))
+    c.next_edges.ensures ∙ sym (ap first_contact (later_end _ _ _ c.requires.sides _ _ c.requires.orbiting_bound.0 c.scan_vertices-k.ensures c.if-k-m.false))
 
 pub next_edges-requires-2 : goal.next_edges-requires-2
-next_edges-requires-2 c = (c.requires.sides, ((c.if-from-m.false, c.requires.orbiting_bound.1), c.requires.framed))
+next_edges-requires-2 c = record { sides = c.requires.sides; orbiting_bound = (c.if-from-m.false, c.requires.orbiting_bound.1); framed = c.requires.framed }
 
 pub returns : goal.returns
 returns c = c.next_edges-2.ensures

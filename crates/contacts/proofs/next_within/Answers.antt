@@ -16,25 +16,21 @@ pub nonzero_rem-from : goal.nonzero_rem-from
 nonzero_rem-from c = omega (arith, c.requires.sides.stationary_some)
 
 pub scan_vertices-k-requires : goal.scan_vertices-k-requires
-scan_vertices-k-requires c =
-    let p = c.requires in
-    (columns_in _ _ p.0 _ c.if-from-m.true, ((p.0.orbiting_most, p.0.stationary_most), p.1.1.0))
+scan_vertices-k-requires c = record { v_bound = columns_in _ _ c.requires.sides _ c.if-from-m.true; points_bound = (c.requires.sides.orbiting_most, c.requires.sides.stationary_most); around = c.requires.framed.0 }
 
 pub returns-then-k-m : goal.returns-then-k-m
 returns-then-k-m c =
-    let p = c.requires in
-    first_hit _ _ _ p.0 _ _ c.if-from-m.true c.scan_vertices-k.ensures c.if-k-m.true
+    first_hit _ _ _ c.requires.sides _ _ c.if-from-m.true c.scan_vertices-k.ensures c.if-k-m.true
 
 pub next_later-requires : goal.next_later-requires
-next_later-requires c = (c.requires.sides, ((omega arith, omega arith), c.requires.framed))
+next_later-requires c = record { sides = c.requires.sides; orbiting_bound = (omega arith, omega arith); framed = c.requires.framed }
 
 pub returns-then-from-m : goal.returns-then-from-m
 returns-then-from-m c =
-    let p = c.requires in
-    c.next_later.ensures ∙ sym (ap first_contact (first_end _ _ _ p.0 _ _ c.if-from-m.true c.scan_vertices-k.ensures c.if-k-m.false))
+    c.next_later.ensures ∙ sym (ap first_contact (first_end _ _ _ c.requires.sides _ _ c.if-from-m.true c.scan_vertices-k.ensures c.if-k-m.false))
 
 pub next_later-requires-2 : goal.next_later-requires-2
-next_later-requires-2 c = (c.requires.sides, ((c.if-from-m.false, c.requires.from_bound), c.requires.framed))
+next_later-requires-2 c = record { sides = c.requires.sides; orbiting_bound = (c.if-from-m.false, c.requires.from_bound); framed = c.requires.framed }
 
 pub returns : goal.returns
 returns c = c.next_later-2.ensures

@@ -23,27 +23,23 @@ is : (c : After-are_moved_within)
     ≡ is_placed (grid_of c.args.units c.args.orbiting.now) (grid_of c.args.units c.args.path.now) c.loop-i.i)
 is c =
     placed_is c.args.units c.args.orbiting.now c.args.path.now c.loop-i.i _ c.lay.ensures
-    (to_z-of_z w32 _ (record { sfits = c.on_grid-x.type-inv }) ∙ c.on_grid-x.ensures.is)
-    (to_z-of_z w32 _ (record { sfits = c.on_grid-y.type-inv }) ∙ c.on_grid-y.ensures.is)
+    (to_z-of_z w32 _ (record { sfits = c.on_grid-x.type_inv }) ∙ c.on_grid-x.ensures.is)
+    (to_z-of_z w32 _ (record { sfits = c.on_grid-y.type_inv }) ∙ c.on_grid-y.ensures.is)
     c.are_moved_within.ensures
 
 pub lay-requires : goal.lay-requires
-lay-requires c =
-    let p = c.requires in
-    record { list_value = (p.1.0, p.0.0, p.0.1); list_in_bounds = p.0.2 }
+lay-requires c = record { list_value = (c.requires.orbiting_value.0, c.requires.le_units.0, c.requires.le_units.1); list_in_bounds = c.requires.le_units.2 }
 
 pub loop-i-init : goal.loop-i-init
 loop-i-init c = (omega arith, all_left _ _)
 
 pub on_grid-x-requires : goal.on_grid-x-requires
 on_grid-x-requires c =
-    let p = c.requires in
-    (every_at (fits_grid _) _ (2 * c.loop-i.i) p.1.1 (omega arith), p.0.0, p.0.1)
+    (every_at (fits_grid _) _ (2 * c.loop-i.i) c.requires.orbiting_value.1 (omega arith), c.requires.le_units.0, c.requires.le_units.1)
 
 pub on_grid-y-requires : goal.on_grid-y-requires
 on_grid-y-requires c =
-    let p = c.requires in
-    (every_at (fits_grid _) _ (2 * c.loop-i.i + 1) p.1.1 (omega arith), p.0.0, p.0.1)
+    (every_at (fits_grid _) _ (2 * c.loop-i.i + 1) c.requires.orbiting_value.1 (omega arith), c.requires.le_units.0, c.requires.le_units.1)
 
 pub slice_bounds-are_moved_within-end : goal.slice_bounds-are_moved_within-end
 slice_bounds-are_moved_within-end c =

@@ -27,16 +27,16 @@ pub next_hit-met-requires : goal.next_hit-met-requires
 next_hit-met-requires c = record { from_bound = c.loop-v.invariant.1; ready = c.requires.ready }
 
 pub others_after-others-requires : goal.others_after-others-requires
-others_after-others-requires c = (most (up-At-loop-v _ _ _ _ _ _ c.before.before.before.before.before.before.before.before.before)).others_below
+others_after-others-requires c = (most (up-At-loop-v _ _ _ _ _ _ c.before.before.before.before.before.before.before)).others_below
 
 pub one_more-near-requires : goal.one_more-near-requires
-one_more-near-requires c = (most (up-At-loop-v _ _ _ _ _ _ c.before.before.before.before.before.before.before.before.before.before.before)).near_below
+one_more-near-requires c = (most (up-At-loop-v _ _ _ _ _ _ c.before.before.before.before.before.before.before.before.before)).near_below
 
 pub one_more-between-requires : goal.one_more-between-requires
-one_more-between-requires c = (most (up-At-loop-v _ _ _ _ _ _ c.before.before.before.before.before.before.before.before.before.before.before.before.before)).between_below
+one_more-between-requires c = (most (up-At-loop-v _ _ _ _ _ _ c.before.before.before.before.before.before.before.before.before.before.before)).between_below
 
 pub one_more-far-requires : goal.one_more-far-requires
-one_more-far-requires c = (most (up-At-loop-v _ _ _ _ _ _ c.before.before.before.before.before.before.before.before.before.before.before.before.before.before.before)).far_below
+one_more-far-requires c = (most (up-At-loop-v _ _ _ _ _ _ c.before.before.before.before.before.before.before.before.before.before.before.before.before)).far_below
 
 pub loop-v-smaller-then-is_nearer : goal.loop-v-smaller-then-is_nearer
 loop-v-smaller-then-is_nearer c =

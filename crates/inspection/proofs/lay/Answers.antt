@@ -12,4 +12,4 @@ loop-i-preserved c =
     turn _ _ _ _ c.requires.m_in_bounds c.loop-i-test.true c.loop-i.invariant c.next_place-place.ensures
 
 pub returns : goal.returns
-returns c = done _ _ _ _ c.loop-i-test.false c.loop-i.invariant
+returns c = record { value = (done _ _ _ _ c.loop-i-test.false c.loop-i.invariant).0; room_after = (done _ _ _ _ c.loop-i-test.false c.loop-i.invariant).1 }

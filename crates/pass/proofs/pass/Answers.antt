@@ -12,12 +12,10 @@ slice_bounds-pass_at-end-2 c =
 
 pub pass_at-requires : goal.pass_at-requires
 pass_at-requires c =
-    let p = c.requires in
-    let f = fronted _ _ _ p.0 c.move_ring.ensures in
-    (p.0, (p.1.0.0, (sides _ _ _ f p.1.1.0, (p.1.1.1.0, (as_many _ _ f, p.1.1.1.1)))))
+    let f = fronted _ _ _ c.requires.orbiting_len c.move_ring.ensures in
+    record { orbiting_len = c.requires.orbiting_len; orbiting_len_bound = c.requires.orbiting_len_bound.0; sides = sides _ _ _ f c.requires.sides; directed = c.requires.directed.0; moved_value = (as_many _ _ f, c.requires.directed.1) }
 
 pub returns : goal.returns
 unfolding pass_of
 returns c =
-    let p = c.requires in
-    c.pass_at.ensures ∙ (rw (fronted _ _ _ p.0 c.move_ring.ensures) refl)
+    c.pass_at.ensures ∙ (rw (fronted _ _ _ c.requires.orbiting_len c.move_ring.ensures) refl)

@@ -5,7 +5,7 @@ use Rattle.put_aside.proofs.Steps.{step_fits, stepped}
 use Rattle.put_aside.proofs.corner_by.Goals as goal
 
 pub inward-requires : goal.inward-requires
-inward-requires c = (c.requires.0.narrow, c.requires.0.x_Fits, c.requires.1.width)
+inward-requires c = (c.requires.0.narrow, c.requires.0.x_fits, c.requires.1.width)
 
 pub inward-requires-then-r-eq1 : goal.inward-requires-then-r-eq1
 inward-requires-then-r-eq1 c = (c.requires.0.narrow, c.requires.0.y_fits, c.requires.1.height)

@@ -11,12 +11,12 @@ use Rattle.reading.specs.Lent.{ring_of}
 use Rattle.reading.proofs.Places.{length_choice, left_lower, left_higher, left_equal, left_none}
 use Rattle.reading.proofs.before.Goals as goal
 use Rattle.reading.proofs.before.Goals.{After-key_at-v, At-loop-j, Start}
-use Rattle.reading.proofs.before.Lts.View.{up-After-key_at-v, up-After-shared_slice_known-2-1, up-At-loop-j}
+use Rattle.reading.proofs.before.Lts.View.{up-After-key_at-v, up-At-loop-j}
 
 -- the two readings, whose coordinates j the keys are of
 module _ (c : After-key_at-v) where
   abbrev l : At-loop-j
-  l = up-At-loop-j _ _ _ _ _ _ (up-After-shared_slice_known-2-1 _ _ _ _ _ _ c.before.before.before.before.before)
+  l = up-At-loop-j _ _ _ _ _ _ c.before.before.before.before
 
   abbrev s : Start
   s = l.before.before.before.before

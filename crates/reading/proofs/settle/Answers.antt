@@ -19,7 +19,7 @@ use Rattle.reading.proofs.Step.{Stepped, step}
 use Rattle.reading.proofs.Ways.{round, read_at, start_low}
 use Rattle.reading.proofs.settle.Goals as goal
 use Rattle.reading.proofs.settle.Goals.{After-pushed-s, At-loop-s, Else-s-ring, Start}
-use Rattle.reading.proofs.settle.Lts.View.{up-After-shared_slice_known-2-1, up-After-struct_known-in-loop-s-1, up-At-loop-s, up-Else-s-ring}
+use Rattle.reading.proofs.settle.Lts.View.{up-At-loop-s, up-Else-s-ring}
 
 -- at the loop's test: the ring, its direction and the two starts
 module _ (l : At-loop-s) where
@@ -60,7 +60,7 @@ module _ (l : At-loop-s) where
 -- ---- a turn
 module _ (e : Else-s-ring) where
   abbrev l : At-loop-s
-  l = up-At-loop-s _ _ _ _ _ _ (up-After-shared_slice_known-2-1 _ _ _ _ _ _ e.before.before.before.before.before.before)
+  l = up-At-loop-s _ _ _ _ _ _ e.before.before.before.before.before
 
   first_low : (s l).first < length (r l)
   first_low = omega (arith, half l, e.loop-s-test.true, l.loop-s.invariant.order)
@@ -80,7 +80,7 @@ module _ (e : Else-s-ring) where
 -- what the turn comes to
 module _ (c : After-pushed-s) where
   abbrev e : Else-s-ring
-  e = up-Else-s-ring _ _ _ _ _ _ (up-After-struct_known-in-loop-s-1 _ _ _ _ _ _ c.before.before.before.before.before.before.before)
+  e = up-Else-s-ring _ _ _ _ _ _ c.before.before.before.before.before.before
 
   abbrev g : ℕ → ℕ
   g = along (r (l e)) (b (l e))

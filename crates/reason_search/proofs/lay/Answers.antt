@@ -34,11 +34,15 @@ shape_of-flags-then-not-k c =
 pub returns-then-not-k : goal.returns-then-not-k
 returns-then-not-k c =
     let st = c.args.st.now in
-    let e = stop st _ _ _ c.loop-j.invariant.0 c.loop-j-test.true
+    record { value = (let e = stop st _ _ _ c.loop-j.invariant.0 c.loop-j-test.true
     (first_end st _ c.loop-j-test.true c.spot_at-s.ensures)
     (second_end st _ c.next.ensures.0 c.spot_at-t.ensures)
     c.take-k.ensures.line_value c.take-k.ensures.parted_value (not-true _ (ap not c.if-not-k.true)) in
-    (e, room_is _ _ _ _ c.loop-j.invariant.0 e)
+    (e, room_is _ _ _ _ c.loop-j.invariant.0 e)).0; lines_after = (let e = stop st _ _ _ c.loop-j.invariant.0 c.loop-j-test.true
+    (first_end st _ c.loop-j-test.true c.spot_at-s.ensures)
+    (second_end st _ c.next.ensures.0 c.spot_at-t.ensures)
+    c.take-k.ensures.line_value c.take-k.ensures.parted_value (not-true _ (ap not c.if-not-k.true)) in
+    (e, room_is _ _ _ _ c.loop-j.invariant.0 e)).1 }
 
 pub put-requires : goal.put-requires
 put-requires c =

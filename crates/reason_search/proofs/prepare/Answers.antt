@@ -23,4 +23,4 @@ bounds-flags-1536-2 c =
 pub returns : goal.returns
 returns c =
     let p = c.requires in
-    now_noted c.note.new.flags p c.note.auto.flags c.note.ensures
+    record { ready = (now_noted c.note.new.flags p c.note.auto.flags c.note.ensures).0; prepared = (now_noted c.note.new.flags p c.note.auto.flags c.note.ensures).1 }

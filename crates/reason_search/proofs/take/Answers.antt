@@ -6,10 +6,9 @@ pub returns-then-edge_right : goal.returns-then-edge_right
 returns-then-edge_right c =
     let p = c.requires in
     let r = again p.4 _ _ c.edge_right.ensures c.if-edge_right.true in
-    (r.0, (r.1, p.0))
+    record { line_value = r.0; parted_value = r.1; ready = p.0 }
 
 pub returns : goal.returns
 returns c =
     let p = c.requires in
-    let e = c.take_anew.ensures in
-    (instead p.4 _ _ c.edge_right.ensures c.if-edge_right.false e.0, e.1)
+    record { line_value = instead p.4 _ _ c.edge_right.ensures c.if-edge_right.false c.take_anew.ensures.line_value; parted_value = c.take_anew.ensures.parted_value; ready = c.take_anew.ensures.ready }

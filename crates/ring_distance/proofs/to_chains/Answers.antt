@@ -20,13 +20,7 @@ pub to_chain-least-requires : goal.to_chain-least-requires
 to_chain-least-requires c =
     let whole = c.loop-e.invariant.1 c.loop-e-test.true in
     let end = c.chain_end-to.ensures in
-    let r = c.requires in (
-      (end.0, end.1),
-      (
-        omega (arith, end.1, r.few, r.room),
-        λ e a b. r.chains _ e (record { not_before = omega (arith, a); not_after = omega (arith, b, end.2) }) (omega (arith, b, end.1)),
-      ),
-    )
+    let r = c.requires in record { from_lt_to = (end.0, end.1); c_in_bounds = omega (arith, end.1, r.few, r.room); bounds_edges = λ e a b. r.chains _ e (record { not_before = omega (arith, a); not_after = omega (arith, b, end.2) }) (omega (arith, b, end.1)) }
 
 pub loop-e-preserved : goal.loop-e-preserved
 loop-e-preserved c =

@@ -21,9 +21,7 @@ summed c = ap (λ z. z +ℤ pos 1000000) (plain c.before.before)
     ∙ sum _ (rw (plain c.before.before) at c.if-x-ltminus1000000.false) (rw (plain c.before.before) at c.if-x-gt1000000.false)
 
 back : (c : Else-x-gt1000000) → to_z w32 (of_z w32 (to_z w32 (of_z w32 c.args.x) +ℤ pos 1000000)) ≡ pos (up_of c.args.x)
-back c = to_z-of_z w32 _ (add-result c) ∙ summed c
-
-)
+back c = to_z-of_z w32 _ (subst (SFits w32) (sym (summed c)) (record { sfits = omega (arith, bound c.args.x) })) ∙ summed c
 
 pub returns-then-x-ltminus1000000 : goal.returns-then-x-ltminus1000000
 returns-then-x-ltminus1000000 c = low _ (rw (plain c.before) at c.if-x-ltminus1000000.true)
@@ -38,6 +36,7 @@ pub overflow_cast-result : goal.overflow_cast-result
 overflow_cast-result c = (
   subst (λ z. T (non_neg z)) (sym (back c)) tt,
   subst (λ z. Fits w64 (nat_abs z)) (sym (back c)) (record { fits = omega (arith, bound c.args.x) }),
+)
 
 pub returns : goal.returns
 returns c = ap nat_abs (back c)

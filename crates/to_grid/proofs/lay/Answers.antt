@@ -22,7 +22,7 @@ on_grid-requires c =
 
 pub loop-i-preserved : goal.loop-i-preserved
 loop-i-preserved c =
-    let is = to_z-of_z w32 _ (record { sfits = c.on_grid.type-inv }) ∙ c.on_grid.ensures.is in
+    let is = to_z-of_z w32 _ (record { sfits = c.on_grid.type_inv }) ∙ c.on_grid.ensures.is in
     turn (nearest _) nan c.requires.list_in_bounds c.loop-i-test.true is c.loop-i.invariant
 
 pub returns : goal.returns

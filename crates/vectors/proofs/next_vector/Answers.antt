@@ -12,27 +12,21 @@ at : (c : In-At) → FoundAt c.args.stationary.now c.args.orbiting.now c.args.to
 at c = next_at _ _ _ c.next_contact.ensures c.in-At.is
 
 pub next_contact-requires : goal.next_contact-requires
-next_contact-requires c =
-    let s = c.requires in
-    record { sides = s.0; from_bound = omega (arith, s.1.contact_most) }
+next_contact-requires c = record { sides = c.requires.sides; from_bound = omega (arith, c.requires.ready.contact_most) }
 
 pub vector_of-requires : goal.vector_of-requires
 vector_of-requires c = record { sides = c.requires.sides; k_bound = (at c).below }
 
 pub vector_of-requires-else-place-eq0 : goal.vector_of-requires-else-place-eq0
-vector_of-requires-else-place-eq0 c =
-    let s = c.requires in
-    record { sides = s.0; k_bound = second_below _ _ c.args.tol _ s.1 c.if-place-eq0.false }
+vector_of-requires-else-place-eq0 c = record { sides = c.requires.sides; k_bound = second_below _ _ c.args.tol _ c.requires.ready c.if-place-eq0.false }
 
 pub overflow_add-result : goal.overflow_add-result
 overflow_add-result c =
-    let s = c.requires in
-    omega (arith, s.1.contact_most, most _ _ s.0)
+    omega (arith, c.requires.ready.contact_most, most _ _ c.requires.sides)
 
 pub overflow_add-result-else-place-eq0 : goal.overflow_add-result-else-place-eq0
 overflow_add-result-else-place-eq0 c =
-    let s = c.requires in
-    omega (arith, s.1.contact_most, s.1.source_most, most _ _ s.0)
+    omega (arith, c.requires.ready.contact_most, c.requires.ready.source_most, most _ _ c.requires.sides)
 
 pub returns-in-Nothing : goal.returns-in-Nothing
 returns-in-Nothing c =

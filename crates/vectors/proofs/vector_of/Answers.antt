@@ -5,8 +5,7 @@ use Rattle.vectors.proofs.vector_of.Goals as goal
 
 pub edges_of-e-requires : goal.edges_of-e-requires
 edges_of-e-requires c =
-    let s = c.requires in
-    rw c.pair_at-pair.ensures (within _ _ s.0 _ s.1)
+    rw c.pair_at-pair.ensures (within _ _ c.requires.sides _ c.requires.k_bound)
 
 pub course_by-requires : goal.course_by-requires
 course_by-requires c = c.along_by.ensures

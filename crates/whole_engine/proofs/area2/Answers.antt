@@ -1,5 +1,6 @@
 -- `whole_engine::area2` meets its contract. The invariant: the two sums are those of the first i vertices. Assumes nothing.
 use native.Mathlib.Omega.{arith}
+use borrow.Author.Rules.{sfits_of}
 use mir.Syntax.{w64}
 use mir.ValLaws.{to_z-of_z}
 use Prim.Native.Nat.{◌-◌, ◌/◌}
@@ -51,4 +52,4 @@ difference-requires c =
 pub returns : goal.returns
 returns c =
     let list = c.args.list.now in
-    to_z-of_z w64 _ (sfits_of c.difference.type-inv) ∙ done (spot_at list) (length list / 2) c.loop-i-test.false c.loop-i.invariant c.difference.ensures
+    to_z-of_z w64 _ (sfits_of c.difference.type_inv) ∙ done (spot_at list) (length list / 2) c.loop-i-test.false c.loop-i.invariant c.difference.ensures

@@ -12,7 +12,7 @@ returns-then-same_side c =
     rw (c.if-shared.false, side)
 
 pub meet-requires : goal.meet-requires
-meet-requires c = c.requires
+meet-requires c = record { small = c.requires.small; d3_value = c.requires.d3_value }
 
 pub returns : goal.returns
 returns c = rw (c.if-shared.false, c.meet.ensures)

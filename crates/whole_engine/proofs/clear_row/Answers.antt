@@ -30,23 +30,23 @@ turn-d3-requires c = (small1 c, small2 c, small2 c)
 pub loop-j-init : goal.loop-j-init
 loop-j-init c =
     let at = spot_at c.args.list.now in
-    first_edge _ _ _ c.requires.0 (small2 (up-After-spot_at-a2 _ _ _ _ _ c.before.before)) (c.spot_at-a2.ensures ∙ ap at c.next.ensures.0) c.turn-d3.ensures
+    first_edge _ _ _ c.requires.0 (small2 (up-After-spot_at-a2 _ _ _ _ _ _ c.before.before)) (c.spot_at-a2.ensures ∙ ap at c.next.ensures.0) c.turn-d3.ensures
 
 pub turn-d4-requires : goal.turn-d4-requires
 turn-d4-requires c =
-    (small1 (up-After-spot_at-a2 _ _ _ _ _ c.before.before.before.before.before.before), small2 (up-After-spot_at-a2 _ _ _ _ _ c.before.before.before.before.before.before), small3 c)
+    (small1 (up-After-spot_at-a2 _ _ _ _ _ _ c.before.before.before.before.before.before), small2 (up-After-spot_at-a2 _ _ _ _ _ _ c.before.before.before.before.before.before), small3 c)
 
 pub adjacent-requires : goal.adjacent-requires
 adjacent-requires c = (c.loop-j.invariant.past, c.loop-j-test.true)
 
 pub clear_pair-requires : goal.clear_pair-requires
-clear_pair-requires c = record { small = (small1 (up-After-spot_at-a2 _ _ _ _ _ c.before.before.before.before.before.before.before.before), small2 (up-After-spot_at-a2 _ _ _ _ _ c.before.before.before.before.before.before.before.before), c.loop-j.invariant.small, small3 (up-After-spot_at-b2 _ _ _ _ _ c.before.before.before)); d3_value = (c.loop-j.invariant.side, c.turn-d4.ensures) }
+clear_pair-requires c = record { small = (small1 (up-After-spot_at-a2 _ _ _ _ _ _ c.before.before.before.before.before.before.before.before), small2 (up-After-spot_at-a2 _ _ _ _ _ _ c.before.before.before.before.before.before.before.before), c.loop-j.invariant.small, small3 (up-After-spot_at-b2 _ _ _ _ _ _ c.before.before.before)); d3_value = (c.loop-j.invariant.side, c.turn-d4.ensures) }
 
 pub loop-j-preserved : goal.loop-j-preserved
 loop-j-preserved c =
     let at = spot_at c.args.list.now in
     next_edge _ _ _ c.loop-j.invariant c.loop-j-test.true c.spot_at-a1.ensures (c.spot_at-a2.ensures ∙ ap at c.next.ensures.0) (c.spot_at-b2.ensures ∙ ap at c.next-in-loop-j.ensures.0) c.adjacent.ensures
-    c.clear_pair.ensures (small3 (up-After-spot_at-b2 _ _ _ _ _ c.before.before.before.before.before)) c.turn-d4.ensures c.if-clear_pair.true
+    c.clear_pair.ensures (small3 (up-After-spot_at-b2 _ _ _ _ _ _ c.before.before.before.before.before)) c.turn-d4.ensures c.if-clear_pair.true
 
 pub returns-else-clear_pair : goal.returns-else-clear_pair
 returns-else-clear_pair c =

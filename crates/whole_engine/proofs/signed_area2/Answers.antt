@@ -1,5 +1,6 @@
 -- `whole_engine::signed_area2` meets its contract: the front of the array has the points of the ring. Assumes nothing.
 use native.Mathlib.Omega.{arith}
+use borrow.Author.Rules.{sfits_of}
 use mir.Syntax.{w64}
 use mir.ValLaws.{to_z-of_z}
 use mathlib.Core.Path.{sym, ◌∙◌}
@@ -16,4 +17,4 @@ area2-requires c =
 
 pub returns : goal.returns
 returns c =
-    to_z-of_z w64 _ (sfits_of c.area2.type-inv) ∙ area_front c.args.ring.now _ c.lift.ensures c.area2.ensures
+    to_z-of_z w64 _ (sfits_of c.area2.type_inv) ∙ area_front c.args.ring.now _ c.lift.ensures c.area2.ensures

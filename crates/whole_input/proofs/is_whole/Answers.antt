@@ -8,5 +8,5 @@ use Rattle.whole_input.proofs.is_whole.Goals as goal
 pub returns : goal.returns
 unfolding is_whole
 returns c =
-    let is = to_z-of_z w32 _ (record { sfits = c.whole_part.type-inv }) ∙ c.whole_part.ensures in
+    let is = to_z-of_z w32 _ (record { sfits = c.whole_part.type_inv }) ∙ c.whole_part.ensures in
     ap (λ (z : ℤ). eq (of_int binary64 z) c.args.x) is

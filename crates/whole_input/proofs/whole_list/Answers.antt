@@ -18,7 +18,7 @@ whole_part-requires c =
 
 pub loop-i-preserved : goal.loop-i-preserved
 loop-i-preserved c =
-    let is = to_z-of_z w32 _ (record { sfits = c.whole_part.type-inv }) ∙ c.whole_part.ensures in
+    let is = to_z-of_z w32 _ (record { sfits = c.whole_part.type_inv }) ∙ c.whole_part.ensures in
     turn whole_part nan c.requires.1 c.loop-i-test.true is c.loop-i.invariant
 
 pub returns : goal.returns

@@ -6,6 +6,6 @@ use Rattle.whole_input.proofs.whole_word.Goals as goal
 
 pub returns : goal.returns
 returns c =
-    to_z-of_z w32 _ (record { sfits = c.signed_of.type-inv })
+    to_z-of_z w32 _ (record { sfits = c.signed_of.type_inv })
     ∙ c.signed_of.ensures
     ∙ ap signed_of c.number4.ensures.0

@@ -16,11 +16,9 @@ bounds-room-i c = omega (arith, c.loop-i.invariant.same, c.requires.n_in_bounds.
 
 pub loop-i-preserved : goal.loop-i-preserved
 loop-i-preserved c =
-    let p = c.requires in
     let more = c.loop-i-test.true in
-    turn _ _ _ p.0.0 p.0.1 more (down_stands _ (p.1 c.loop-i.i more) c.down.ensures) c.loop-i.invariant
+    turn _ _ _ c.requires.n_in_bounds.0 c.requires.n_in_bounds.1 more (down_stands _ (c.requires.by_index c.loop-i.i more) c.down.ensures) c.loop-i.invariant
 
 pub returns : goal.returns
 returns c =
-    let p = c.requires in
-    done _ _ _ p.0.0 p.0.1 c.loop-i-test.false c.loop-i.invariant
+    done _ _ _ c.requires.n_in_bounds.0 c.requires.n_in_bounds.1 c.loop-i-test.false c.loop-i.invariant

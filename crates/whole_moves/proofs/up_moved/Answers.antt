@@ -13,6 +13,9 @@ use Rattle.whole_moves.proofs.Sums.{stands}
 use Rattle.whole_moves.proofs.up_moved.Goals as goal
 use Rattle.whole_moves.proofs.up_moved.Goals.{After-moved-s, Else-s-gt1000000}
 
+pub overflow_add-result : goal.overflow_add-result
+overflow_add-result c = subst (SFits w64) (sym (summed c)) (record { sfits = omega (arith, bound (asked c)) })
+
 plain : (c : After-moved-s) → to_z w64 (of_z w64 c.moved-s.result) ≡ c.args.z +ℤ c.args.d
 plain c = stands c.ranges.z c.ranges.d c.moved-s.ensures
 
@@ -29,9 +32,7 @@ summed c =
 
 back : (c : Else-s-gt1000000)
     → to_z w64 (of_z w64 (to_z w64 (of_z w64 c.moved-s.result) +ℤ pos 1000000)) ≡ pos (up_of (asked c))
-back c = to_z-of_z w64 _ (add-result c) ∙ summed c
-
-)
+back c = to_z-of_z w64 _ (overflow_add-result c) ∙ summed c
 
 pub returns-then-s-ltminus1000000 : goal.returns-then-s-ltminus1000000
 returns-then-s-ltminus1000000 c = low _ (rw (plain c.before) at c.if-s-ltminus1000000.true)
@@ -39,13 +40,11 @@ returns-then-s-ltminus1000000 c = low _ (rw (plain c.before) at c.if-s-ltminus10
 pub returns-then-s-gt1000000 : goal.returns-then-s-gt1000000
 returns-then-s-gt1000000 c = high _ (rw (plain c.before.before) at c.if-s-gt1000000.true)
 
-pub overflow_add-result : goal.overflow_add-result
-overflow_add-result c = subst (SFits w64) (sym (summed c)) (record { sfits = omega (arith, bound (asked c)) })
-
 pub overflow_cast-result : goal.overflow_cast-result
 overflow_cast-result c = (
   subst (λ (z : ℤ). T (non_neg z)) (sym (back c)) tt,
   subst (λ (z : ℤ). Fits w64 (nat_abs z)) (sym (back c)) (record { fits = omega (arith, bound (asked c)) }),
+)
 
 pub returns : goal.returns
 unfolding asked

@@ -14,7 +14,7 @@ use Rattle.book_reader.specs.Parts.{tail_check, list_check}
 use Rattle.book_reader.proofs.Files.{Tail, tail_passed, after_tail, after_list, book_is}
 use Rattle.book_reader.proofs.check.check_book.Goals as goal
 use Rattle.book_reader.proofs.check.check_book.Goals.{After-check_coords-coords, After-check_entries-list, After-ring_count-k, Else-not-passed, Else-not-passed-2}
-use Rattle.book_reader.proofs.check.check_book.Lts.View.{up-After-check_coords-coords, up-After-check_entries-list, up-After-passed, up-After-ring_count-k, up-Else-not-passed, up-Else-not-passed-2}
+use Rattle.book_reader.proofs.check.check_book.Lts.View.{up-After-check_coords-coords, up-After-check_entries-list, up-After-ring_count-k, up-Else-not-passed, up-Else-not-passed-2}
 
 abbrev file : Else-not-passed → List ℕ
 file c = c.args.f.now
@@ -27,7 +27,7 @@ tail c =
 -- the two numbers that it goes on with
 module _ (c : After-ring_count-k) where
   abbrev one : Else-not-passed
-  one = up-Else-not-passed _ _ _ (up-After-passed _ _ _ c.before.before.before.before)
+  one = up-Else-not-passed _ _ _ _ c.before.before.before
 
   abbrev f : List ℕ
   f = file one
@@ -44,23 +44,23 @@ module _ (c : After-ring_count-k) where
   is_k : k ≡ ring_count f
   is_k = c.ring_count-k.ensures.0
 
-listed : (c : After-check_entries-list) → c.check_entries-list.result ≡ list_check (f (up-After-ring_count-k _ _ _ c.before.before)) (entry_offset (f (up-After-ring_count-k _ _ _ c.before.before))) (ring_count (f (up-After-ring_count-k _ _ _ c.before.before)))
-listed c = c.check_entries-list.ensures ∙ ap₂ (list_check (f (up-After-ring_count-k _ _ _ c.before.before))) (is_from (up-After-ring_count-k _ _ _ c.before.before)) (is_k (up-After-ring_count-k _ _ _ c.before.before))
+listed : (c : After-check_entries-list) → c.check_entries-list.result ≡ list_check (f (up-After-ring_count-k _ _ _ _ c.before.before)) (entry_offset (f (up-After-ring_count-k _ _ _ _ c.before.before))) (ring_count (f (up-After-ring_count-k _ _ _ _ c.before.before)))
+listed c = c.check_entries-list.ensures ∙ ap₂ (list_check (f (up-After-ring_count-k _ _ _ _ c.before.before))) (is_from (up-After-ring_count-k _ _ _ _ c.before.before)) (is_k (up-After-ring_count-k _ _ _ _ c.before.before))
 
 -- past the last fields: what the other parts find
 past_tail : (c : Else-not-passed) → book_check (file c) ≡ after_tail (file c)
 past_tail c =
     book_is (file c) ∙ on (tail_check (file c)) (after_tail (file c)) c.check_tail-tail.ensures c.passed.ensures (not-false c.passed.result (ap not c.if-not-passed.false))
 
-coords_checked : (c : After-check_coords-coords) → c.check_coords-coords.result ≡ coords_check (entry_offset (f (up-After-ring_count-k _ _ _ c.before.before.before.before.before)) / coordinate_bytes) 0 (f (up-After-ring_count-k _ _ _ c.before.before.before.before.before))
+coords_checked : (c : After-check_coords-coords) → c.check_coords-coords.result ≡ coords_check (entry_offset (f (up-After-ring_count-k _ _ _ _ c.before.before.before.before.before)) / coordinate_bytes) 0 (f (up-After-ring_count-k _ _ _ _ c.before.before.before.before.before))
 coords_checked c =
-    c.check_coords-coords.ensures ∙ ap (λ (e : ℕ). coords_check (e / coordinate_bytes) 0 (f (up-After-ring_count-k _ _ _ c.before.before.before.before.before))) (is_from (up-After-ring_count-k _ _ _ c.before.before.before.before.before))
+    c.check_coords-coords.ensures ∙ ap (λ (e : ℕ). coords_check (e / coordinate_bytes) 0 (f (up-After-ring_count-k _ _ _ _ c.before.before.before.before.before))) (is_from (up-After-ring_count-k _ _ _ _ c.before.before.before.before.before))
 
 -- past the entries
-past_list : (c : Else-not-passed-2) → book_check (f (up-After-ring_count-k _ _ _ c.before.before.before.before)) ≡ after_list (f (up-After-ring_count-k _ _ _ c.before.before.before.before))
+past_list : (c : Else-not-passed-2) → book_check (f (up-After-ring_count-k _ _ _ _ c.before.before.before.before)) ≡ after_list (f (up-After-ring_count-k _ _ _ _ c.before.before.before.before))
 past_list c =
-    past_tail (one (up-After-ring_count-k _ _ _ c.before.before.before.before))
-    ∙ on (list_check (f (up-After-ring_count-k _ _ _ c.before.before.before.before)) (entry_offset (f (up-After-ring_count-k _ _ _ c.before.before.before.before))) (ring_count (f (up-After-ring_count-k _ _ _ c.before.before.before.before)))) (after_list (f (up-After-ring_count-k _ _ _ c.before.before.before.before))) (listed (up-After-check_entries-list _ _ _ c.before.before.before)) c.passed-2.ensures (not-false c.passed-2.result (ap not c.if-not-passed-2.false))
+    past_tail (one (up-After-ring_count-k _ _ _ _ c.before.before.before.before))
+    ∙ on (list_check (f (up-After-ring_count-k _ _ _ _ c.before.before.before.before)) (entry_offset (f (up-After-ring_count-k _ _ _ _ c.before.before.before.before))) (ring_count (f (up-After-ring_count-k _ _ _ _ c.before.before.before.before)))) (after_list (f (up-After-ring_count-k _ _ _ _ c.before.before.before.before))) (listed (up-After-check_entries-list _ _ _ _ c.before.before.before)) c.passed-2.ensures (not-false c.passed-2.result (ap not c.if-not-passed-2.false))
 
 pub returns-then-not-passed : goal.returns-then-not-passed
 returns-then-not-passed c =
@@ -71,7 +71,7 @@ pub entry_offset-from-requires : goal.entry_offset-from-requires
 entry_offset-from-requires c = omega (arith, (tail c).low)
 
 pub ring_count-k-requires : goal.ring_count-k-requires
-ring_count-k-requires c = omega (arith, (tail (up-Else-not-passed _ _ _ c.before.before)).low)
+ring_count-k-requires c = omega (arith, (tail (up-Else-not-passed _ _ _ _ c.before.before)).low)
 
 pub check_entries-list-requires : goal.check_entries-list-requires
 check_entries-list-requires c =
@@ -80,20 +80,20 @@ check_entries-list-requires c =
 
 pub returns-then-not-passed-2 : goal.returns-then-not-passed-2
 returns-then-not-passed-2 c =
-    listed (up-After-check_entries-list _ _ _ c.before.before.before) ∙ sym (past_tail (one (up-After-ring_count-k _ _ _ c.before.before.before.before)) ∙ off _ _ (listed (up-After-check_entries-list _ _ _ c.before.before.before)) c.passed-2.ensures (not-true c.passed-2.result (ap not c.if-not-passed-2.true)))
+    listed (up-After-check_entries-list _ _ _ _ c.before.before.before) ∙ sym (past_tail (one (up-After-ring_count-k _ _ _ _ c.before.before.before.before)) ∙ off _ _ (listed (up-After-check_entries-list _ _ _ _ c.before.before.before)) c.passed-2.ensures (not-true c.passed-2.result (ap not c.if-not-passed-2.true)))
 
 pub check_coords-coords-requires : goal.check_coords-coords-requires
 check_coords-coords-requires c =
-    let t = tail (one (up-After-ring_count-k _ _ _ c.before.before.before.before)) in
-    ((omega (arith, is_from (up-After-ring_count-k _ _ _ c.before.before.before.before), t.sum)), t.high)
+    let t = tail (one (up-After-ring_count-k _ _ _ _ c.before.before.before.before)) in
+    ((omega (arith, is_from (up-After-ring_count-k _ _ _ _ c.before.before.before.before), t.sum)), t.high)
 
 pub returns-then-not-passed-3 : goal.returns-then-not-passed-3
 returns-then-not-passed-3 c =
-    coords_checked (up-After-check_coords-coords _ _ _ c.before.before.before) ∙ sym (past_list (up-Else-not-passed-2 _ _ _ c.before.before.before.before) ∙ off _ _ (coords_checked (up-After-check_coords-coords _ _ _ c.before.before.before)) c.passed-3.ensures (not-true c.passed-3.result (ap not c.if-not-passed-3.true)))
+    coords_checked (up-After-check_coords-coords _ _ _ _ c.before.before.before) ∙ sym (past_list (up-Else-not-passed-2 _ _ _ _ c.before.before.before.before) ∙ off _ _ (coords_checked (up-After-check_coords-coords _ _ _ _ c.before.before.before)) c.passed-3.ensures (not-true c.passed-3.result (ap not c.if-not-passed-3.true)))
 
 pub check_rings-requires : goal.check_rings-requires
 check_rings-requires c =
-    let t = tail (one (up-After-ring_count-k _ _ _ c.before.before.before.before.before.before.before)) in record { tail_bytes_value = ((omega (arith, is_from (up-After-ring_count-k _ _ _ c.before.before.before.before.before.before.before), is_k (up-After-ring_count-k _ _ _ c.before.before.before.before.before.before.before), t.sum)), (omega (arith, is_k (up-After-ring_count-k _ _ _ c.before.before.before.before.before.before.before), t.few)), t.high); list_check = (
+    let t = tail (one (up-After-ring_count-k _ _ _ _ c.before.before.before.before.before.before.before)) in record { tail_bytes_value = ((omega (arith, is_from (up-After-ring_count-k _ _ _ _ c.before.before.before.before.before.before.before), is_k (up-After-ring_count-k _ _ _ _ c.before.before.before.before.before.before.before), t.sum)), (omega (arith, is_k (up-After-ring_count-k _ _ _ _ c.before.before.before.before.before.before.before), t.few)), t.high); list_check = (
         ap passed (sym c.check_entries-list.ensures) ∙ sym c.passed-2.ensures ∙ not-false c.passed-2.result (ap not c.if-not-passed-2.false),
         ap passed (sym c.check_coords-coords.ensures) ∙ sym c.passed-3.ensures ∙ not-false c.passed-3.result (ap not c.if-not-passed-3.false),
       ) }
@@ -101,5 +101,5 @@ check_rings-requires c =
 pub returns : goal.returns
 returns c =
     c.check_rings.ensures
-    ∙ ap₂ (λ (m n : ℕ). least_check (counts_in m (drop n (f (up-After-ring_count-k _ _ _ c.before.before.before.before.before.before.before.before)))) 0 (f (up-After-ring_count-k _ _ _ c.before.before.before.before.before.before.before.before))) (is_k (up-After-ring_count-k _ _ _ c.before.before.before.before.before.before.before.before)) (is_from (up-After-ring_count-k _ _ _ c.before.before.before.before.before.before.before.before))
-    ∙ sym (past_list (up-Else-not-passed-2 _ _ _ c.before.before.before.before.before) ∙ on _ _ (coords_checked (up-After-check_coords-coords _ _ _ c.before.before.before.before)) c.passed-3.ensures (not-false c.passed-3.result (ap not c.if-not-passed-3.false)))
+    ∙ ap₂ (λ (m n : ℕ). least_check (counts_in m (drop n (f (up-After-ring_count-k _ _ _ _ c.before.before.before.before.before.before.before.before)))) 0 (f (up-After-ring_count-k _ _ _ _ c.before.before.before.before.before.before.before.before))) (is_k (up-After-ring_count-k _ _ _ _ c.before.before.before.before.before.before.before.before)) (is_from (up-After-ring_count-k _ _ _ _ c.before.before.before.before.before.before.before.before))
+    ∙ sym (past_list (up-Else-not-passed-2 _ _ _ _ c.before.before.before.before.before) ∙ on _ _ (coords_checked (up-After-check_coords-coords _ _ _ _ c.before.before.before.before)) c.passed-3.ensures (not-false c.passed-3.result (ap not c.if-not-passed-3.false)))

@@ -17,12 +17,12 @@ use Rattle.refusals.proofs.Counts.{is_within}
 use Rattle.book_reader.proofs.Entries.{offset_bad, count_bad, entry_good, total_left, entries_start, entries_end, fields_start, total_end, list_wrong, list_long, list_fine}
 use Rattle.book_reader.proofs.check.check_entries.Goals as goal
 use Rattle.book_reader.proofs.check.check_entries.Goals.{After-is_right, After-is_right-in-loop-i, After-loop-i, At-loop-i, Else-not-is_right, Else-not-is_right-2}
-use Rattle.book_reader.proofs.check.check_entries.Lts.View.{up-After-is_right, up-After-is_right-in-loop-i, up-After-loop-i, up-After-number4-offset, up-After-shared_slice_known-1, up-At-loop-i, up-Else-not-is_right}
+use Rattle.book_reader.proofs.check.check_entries.Lts.View.{up-After-is_right, up-After-is_right-in-loop-i, up-After-loop-i, up-At-loop-i, up-Else-not-is_right}
 
 -- the entry of this turn: what was asked of its offset, and of its vertices
 module _ (c : After-is_right) where
   abbrev l : At-loop-i
-  l = up-At-loop-i _ _ _ _ _ (up-After-shared_slice_known-1 _ _ _ _ _ c.before.before.before.before.before)
+  l = up-At-loop-i _ _ _ _ _ c.before.before.before.before
 
   abbrev f : List ℕ
   f = l.args.f.now
@@ -55,7 +55,7 @@ offset_right c = sym (offset_asked (up-After-is_right _ _ _ _ _ c.before.before)
 -- the vertices are right
 module _ (c : Else-not-is_right-2) where
   abbrev a : After-is_right
-  a = up-After-is_right _ _ _ _ _ (up-After-number4-offset _ _ _ _ _ c.before.before.before.before.before.before)
+  a = up-After-is_right _ _ _ _ _ c.before.before.before.before.before
 
   abbrev n : ℕ
   n = number_of (take field_bytes (drop (from a + entry_bytes * i a + field_bytes) (f a)))

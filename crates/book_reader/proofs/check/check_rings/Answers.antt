@@ -17,12 +17,12 @@ use Rattle.book_reader.proofs.Entries.{entry_held, total_left, entries_start, fi
 use Rattle.book_reader.proofs.Rings.{coords_next, least_good, least_bad, least_end}
 use Rattle.book_reader.proofs.check.check_rings.Goals as goal
 use Rattle.book_reader.proofs.check.check_rings.Goals.{After-is_least_at, After-number4-n, At-loop-i}
-use Rattle.book_reader.proofs.check.check_rings.Lts.View.{up-After-is_least_at, up-After-number4-n, up-After-shared_slice_known-1, up-At-loop-i}
+use Rattle.book_reader.proofs.check.check_rings.Lts.View.{up-After-is_least_at, up-After-number4-n, up-At-loop-i}
 
 -- the ring of this turn
 module _ (c : After-number4-n) where
   abbrev l : At-loop-i
-  l = up-At-loop-i _ _ _ _ _ _ (up-After-shared_slice_known-1 _ _ _ _ _ _ c.before.before.before.before)
+  l = up-At-loop-i _ _ _ _ _ _ c.before.before.before
 
   abbrev f : List ℕ
   f = l.args.f.now

@@ -9,7 +9,7 @@ use Rattle.book_writer.proofs.calls.write_book.Goals as goal
 pub put_book-requires : goal.put_book-requires
 put_book-requires c =
     let a = c.args in
-    takes a.coordinates.now a.counts.now a.parts.now (length a.room.now) (ap passed (sym c.refusal-no.ensures) ∙ sym c.passed.ensures ∙ c.if-passed.true)
+    record { held = (takes a.coordinates.now a.counts.now a.parts.now (length a.room.now) (ap passed (sym c.refusal-no.ensures) ∙ sym c.passed.ensures ∙ c.if-passed.true)).0; counts_in_bounds = (takes a.coordinates.now a.counts.now a.parts.now (length a.room.now) (ap passed (sym c.refusal-no.ensures) ∙ sym c.passed.ensures ∙ c.if-passed.true)).1 }
 
 pub returns-then-passed : goal.returns-then-passed
 returns-then-passed c =

@@ -24,5 +24,5 @@ pub returns : goal.returns
 unfolding write_refusal
 returns c =
     c.short.ensures
-    ∙ ap (λ (n : ℕ). short_room n c.args.size) c.type_size.ensures
+    ∙ ap (λ (n : ℕ). short_room n c.args.size) c.size_of.ensures
     ∙ sym (on _ _ c.lent-no.ensures c.passed.ensures (not-false c.passed.result (ap not c.if-not-passed.false)))

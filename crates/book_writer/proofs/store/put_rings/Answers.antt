@@ -17,12 +17,12 @@ use Rattle.book_writer.proofs.Storing.{stored, rings_on, rings_end}
 use Rattle.book_writer.proofs.Part.{part_is, part_length, part_lent}
 use Rattle.book_writer.proofs.store.put_rings.Goals as goal
 use Rattle.book_writer.proofs.store.put_rings.Goals.{At-loop-i, In-loop-i}
-use Rattle.book_writer.proofs.store.put_rings.Lts.View.{up-After-slice_known-1, up-At-loop-i, up-In-loop-i}
+use Rattle.book_writer.proofs.store.put_rings.Lts.View.{up-At-loop-i, up-In-loop-i}
 
 -- the ring of this turn
 module _ (c : In-loop-i) where
   abbrev l : At-loop-i
-  l = up-At-loop-i _ _ _ _ _ _ (up-After-slice_known-1 _ _ _ _ _ _ c.before.before.before)
+  l = up-At-loop-i _ _ _ _ _ _ c.before.before
 
   abbrev xs : List Float
   xs = l.args.xs.now
@@ -73,12 +73,8 @@ overflow_mul-at c = omega (arith, inside (up-In-loop-i _ _ _ _ _ _ c.before.befo
 
 pub put_least-requires : goal.put_least-requires
 put_least-requires c =
-    let s = (l (up-In-loop-i _ _ _ _ _ _ c.before.before.before.before)).before.before.before.before.before in
-    let t = s.pre.0.2 in
-    let z = part_length (xs (up-In-loop-i _ _ _ _ _ _ c.before.before.before.before)) (l (up-In-loop-i _ _ _ _ _ _ c.before.before.before.before)).loop-i.at (n (up-In-loop-i _ _ _ _ _ _ c.before.before.before.before)) t (inside (up-In-loop-i _ _ _ _ _ _ c.before.before.before.before)).1 in (
-      part_lent (xs (up-In-loop-i _ _ _ _ _ _ c.before.before.before.before)) (l (up-In-loop-i _ _ _ _ _ _ c.before.before.before.before)).loop-i.at (n (up-In-loop-i _ _ _ _ _ _ c.before.before.before.before)) t (inside (up-In-loop-i _ _ _ _ _ _ c.before.before.before.before)).1 (inside (up-In-loop-i _ _ _ _ _ _ c.before.before.before.before)).0,
-      ((omega (arith, (sized (up-In-loop-i _ _ _ _ _ _ c.before.before.before.before)).0)), (omega (arith, (inside (up-In-loop-i _ _ _ _ _ _ c.before.before.before.before)).1, s.pre.1, (l (up-In-loop-i _ _ _ _ _ _ c.before.before.before.before)).loop-i.invariant.1))),
-    )
+    let t = c.requires.counts_value.2 in
+    let z = part_length (xs (up-In-loop-i _ _ _ _ _ _ c.before.before.before.before)) (l (up-In-loop-i _ _ _ _ _ _ c.before.before.before.before)).loop-i.at (n (up-In-loop-i _ _ _ _ _ _ c.before.before.before.before)) t (inside (up-In-loop-i _ _ _ _ _ _ c.before.before.before.before)).1 in record { lent = part_lent (xs (up-In-loop-i _ _ _ _ _ _ c.before.before.before.before)) (l (up-In-loop-i _ _ _ _ _ _ c.before.before.before.before)).loop-i.at (n (up-In-loop-i _ _ _ _ _ _ c.before.before.before.before)) t (inside (up-In-loop-i _ _ _ _ _ _ c.before.before.before.before)).1 (inside (up-In-loop-i _ _ _ _ _ _ c.before.before.before.before)).0; ring_nonzero = ((omega (arith, (sized (up-In-loop-i _ _ _ _ _ _ c.before.before.before.before)).0)), (omega (arith, (inside (up-In-loop-i _ _ _ _ _ _ c.before.before.before.before)).1, c.requires.xs_in_bounds, (l (up-In-loop-i _ _ _ _ _ _ c.before.before.before.before)).loop-i.invariant.1))) }
 
 pub loop-i-preserved : goal.loop-i-preserved
 loop-i-preserved c =

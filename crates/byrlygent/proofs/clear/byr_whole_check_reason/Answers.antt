@@ -13,5 +13,4 @@ returns c =
     let ls = c.args.reason.now in
     let e = c.check_reason.ensures ∙ as_lent (λ (x y : ℤ). check_reason_call st orb x y ls) c.ranges.dx c.ranges.dy in
     let h = c.hand_judged-no.ensures in
-    let n = c.hand_refusal.ensures in
-    (number_told e h.0 n.0, (rw (← e) h.1, (rw (← e) h.2, place_told e h.0 _ n.1)))
+    record { value = number_told e h.0 c.hand_refusal.ensures.value; ground_after = rw (← e) h.1; edge_after = rw (← e) h.2; place_after = place_told e h.0 _ c.hand_refusal.ensures.place_after }

@@ -5,6 +5,5 @@ use Rattle.byrlygent.proofs.disc.byr_make_disc.Goals as goal
 
 pub returns : goal.returns
 returns c =
-    let e = c.make_disc.ensures in
     let h = c.hand_count-no.ensures in
-    (number_told e.0 h.0 refl, (rw (← e.0) h.1, e.1))
+    record { value = number_told c.make_disc.ensures.result_value h.0 refl; vertices_after = rw (← c.make_disc.ensures.result_value) h.1; room_after = c.make_disc.ensures.room_after }

@@ -6,5 +6,4 @@ pub returns : goal.returns
 returns c =
     let e = c.check_reason.ensures in
     let h = c.hand_checked-no.ensures in
-    let n = c.hand_refusal.ensures in
-    (number_told e h.0 n.0, rw (← e) h.1, rw (← e) h.2, rw (← e) h.3, place_told e h.0 _ n.1)
+    (number_told e h.0 c.hand_refusal.ensures.value, rw (← e) h.1, rw (← e) h.2, rw (← e) h.3, place_told e h.0 _ c.hand_refusal.ensures.place_after)

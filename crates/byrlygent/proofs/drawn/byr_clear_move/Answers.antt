@@ -4,16 +4,12 @@ use Rattle.byrlygent.proofs.drawn.byr_clear_move.Goals as goal
 
 pub returns : goal.returns
 returns c =
-    let e = c.clear_move.ensures in
     let h = c.hand_judged-no.ensures in
-    let n = c.hand_refusal.ensures in (
-      (
-        number_told e.0 h.0 n.0,
-        rw (← e.0) h.1,
-        rw (← e.0) h.2,
-        rw (← e.0) h.3,
-        rw (← e.0) h.4,
-        place_told e.0 h.0 _ n.1,
-      ),
-      e.1,
-    )
+    record { fact = (
+        number_told c.clear_move.ensures.result_value h.0 c.hand_refusal.ensures.value,
+        rw (← c.clear_move.ensures.result_value) h.1,
+        rw (← c.clear_move.ensures.result_value) h.2,
+        rw (← c.clear_move.ensures.result_value) h.3,
+        rw (← c.clear_move.ensures.result_value) h.4,
+        place_told c.clear_move.ensures.result_value h.0 _ c.hand_refusal.ensures.place_after,
+      ); reason_after = c.clear_move.ensures.reason_after }

@@ -6,11 +6,11 @@ pub returns : goal.returns
 returns c =
     let e = c.clear_path.ensures in
     let h = c.hand_path_judged-no.ensures in
-    let n = c.hand_refusal.ensures in (
-      number_told e h.0 n.0,
+    (
+      number_told e h.0 c.hand_refusal.ensures.value,
       rw (← e) h.1,
       rw (← e) h.2,
       rw (← e) h.3,
       rw (← e) h.4,
-      place_told e h.0 _ n.1,
+      place_told e h.0 _ c.hand_refusal.ensures.place_after,
     )

@@ -4,7 +4,5 @@ use Rattle.byrlygent.proofs.grid.byr_to_grid.Goals as goal
 
 pub returns : goal.returns
 returns c =
-    let e = c.to_grid.ensures in
     let h = c.hand_count-no.ensures in
-    let n = c.hand_refusal.ensures in
-    record { fact = (number_told e.0 h.0 n.0, rw (← e.0) h.1, place_told e.0 h.0 _ n.1); room_after = e.1 }
+    record { fact = (number_told c.to_grid.ensures.result_value h.0 c.hand_refusal.ensures.value, rw (← c.to_grid.ensures.result_value) h.1, place_told c.to_grid.ensures.result_value h.0 _ c.hand_refusal.ensures.place_after); room_after = c.to_grid.ensures.room_after }

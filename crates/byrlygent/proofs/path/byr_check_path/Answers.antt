@@ -6,5 +6,4 @@ pub returns : goal.returns
 returns c =
     let e = c.check_path.ensures in
     let h = c.hand_verdict-no.ensures in
-    let n = c.hand_refusal.ensures in
-    (number_told e h.0 n.0, (rw (← e) h.1, (rw (← e) h.2, place_told e h.0 _ n.1)))
+    record { value = number_told e h.0 c.hand_refusal.ensures.value; fault_after = rw (← e) h.1; index_after = rw (← e) h.2; place_after = place_told e h.0 _ c.hand_refusal.ensures.place_after }

@@ -5,6 +5,5 @@ use Rattle.byrlygent.proofs.places.byr_next_places.Goals as goal
 
 pub returns : goal.returns
 returns c =
-    let e = c.next_places.ensures in
     let h = c.hand_inspected-no.ensures in
-    (number_told e.0 h.0 refl, (rw (← e.0) h.1, (rw (← e.0) h.2, e.1)))
+    record { value = number_told c.next_places.ensures.result_value h.0 refl; start_after = rw (← c.next_places.ensures.result_value) h.1; count_after = rw (← c.next_places.ensures.result_value) h.2; room_after = c.next_places.ensures.room_after }

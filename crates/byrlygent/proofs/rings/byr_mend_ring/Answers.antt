@@ -6,5 +6,4 @@ pub returns : goal.returns
 returns c =
     let e = c.mend_ring.ensures in
     let h = c.hand_mended-no.ensures in
-    let n = c.hand_refusal.ensures in
-    (number_told e.0 h.0 n.0, (rw (← e.0) h.1, (rw (← e.0) h.2, (place_told e.0 h.0 _ n.1, (e.1, (e.2, e.3))))))
+    record { value = number_told e.0 h.0 c.hand_refusal.ensures.value; vertices_after = rw (← e.0) h.1; count_after = rw (← e.0) h.2; place_after = place_told e.0 h.0 _ c.hand_refusal.ensures.place_after; room_after = e.1; dropped_after = e.2; points_after = e.3 }

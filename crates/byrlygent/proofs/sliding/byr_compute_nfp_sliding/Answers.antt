@@ -5,5 +5,4 @@ pub returns : goal.returns
 returns c =
     let e = c.compute_nfp_sliding-traced.ensures in
     let h = c.hand_traced-no.ensures in
-    let n = c.hand_refusal.ensures in
-    (rw (← e.0, ← h.0) n.0, (rw (← e.0) h.1, (rw (← e.0) h.2, (rw (← e.0) h.3, (rw (← e.0) h.4, (rw (← e.0, ← h.0) n.1, (e.1, e.2)))))))
+    record { value = rw (← e.0, ← h.0) c.hand_refusal.ensures.value; points_after = rw (← e.0) h.1; stored_after = rw (← e.0) h.2; passes_after = rw (← e.0) h.3; stop_after = rw (← e.0) h.4; place_after = rw (← e.0, ← h.0) c.hand_refusal.ensures.place_after; work_after = e.1; res_after = e.2 }

@@ -3,12 +3,10 @@ use Rattle.handed.proofs.Told.{number_told, place_told}
 use Rattle.byrlygent.proofs.sliding.byr_detect_interlocking_opportunity.Goals as goal
 
   statement,
-
 }
 
 pub returns : goal.returns
 returns c =
     let e = c.detect_interlocking_opportunity-answer.ensures in
     let h = c.hand_position-no.ensures in
-    let n = c.hand_refusal.ensures in
-    (number_told e h.0 n.0, (rw (← e) h.1, (rw (← e) h.2, (rw (← e) h.3, place_told e h.0 _ n.1))))
+    record { value = number_told e h.0 c.hand_refusal.ensures.value; found_after = rw (← e) h.1; tox_after = rw (← e) h.2; toy_after = rw (← e) h.3; place_after = place_told e h.0 _ c.hand_refusal.ensures.place_after }

@@ -6,5 +6,4 @@ pub returns : goal.returns
 returns c =
     let e = c.explain_collision-answer.ensures in
     let h = c.hand_explained-no.ensures in
-    let n = c.hand_refusal.ensures in
-    (number_told e h.0 n.0, (rw (← e) h.1, (rw (← e) h.2, (rw (← e) h.3, (rw (← e) h.4, (rw (← e) h.5, (rw (← e) h.6, (rw (← e) h.7, (rw (← e) h.8, (rw (← e) h.9, place_told e h.0 _ n.1))))))))))
+    record { value = number_told e h.0 c.hand_refusal.ensures.value; ground_after = rw (← e) h.1; distance_after = rw (← e) h.2; kind_after = rw (← e) h.3; si_after = rw (← e) h.4; oi_after = rw (← e) h.5; others_after = rw (← e) h.6; near_after = rw (← e) h.7; between_after = rw (← e) h.8; far_after = rw (← e) h.9; place_after = place_told e h.0 _ c.hand_refusal.ensures.place_after }

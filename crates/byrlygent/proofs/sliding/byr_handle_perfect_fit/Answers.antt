@@ -6,5 +6,4 @@ pub returns : goal.returns
 returns c =
     let e = c.handle_perfect_fit.ensures in
     let h = c.hand_count-no.ensures in
-    let n = c.hand_refusal.ensures in
-    (number_told e.0 h.0 n.0, (rw (← e.0) h.1, (place_told e.0 h.0 _ n.1, (e.1, e.2))))
+    record { value = number_told e.0 h.0 c.hand_refusal.ensures.value; count_after = rw (← e.0) h.1; place_after = place_told e.0 h.0 _ c.hand_refusal.ensures.place_after; vectors_after = e.1; sources_after = e.2 }

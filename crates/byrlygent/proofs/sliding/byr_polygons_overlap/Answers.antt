@@ -6,5 +6,4 @@ pub returns : goal.returns
 returns c =
     let e = c.polygons_overlap.ensures in
     let h = c.hand_truth-no.ensures in
-    let n = c.hand_refusal.ensures in
-    (number_told e h.0 n.0, (rw (← e) h.1, place_told e h.0 _ n.1))
+    record { value = number_told e h.0 c.hand_refusal.ensures.value; overlap_after = rw (← e) h.1; place_after = place_told e h.0 _ c.hand_refusal.ensures.place_after }

@@ -7,4 +7,4 @@ pub returns : goal.returns
 returns c =
     let e = c.project_point_to_segment.ensures in
     let h = c.hand_projected-no.ensures in
-    (number_told e h.0 refl, (rw (← e) h.1, rw (← e) h.2))
+    record { value = number_told e h.0 refl; parameter_after = rw (← e) h.1; foot_after = rw (← e) h.2 }

@@ -6,5 +6,4 @@ pub returns : goal.returns
 returns c =
     let e = c.recover_contact-recovered.ensures in
     let h = c.hand_position-no.ensures in
-    let n = c.hand_refusal.ensures in
-    (number_told e h.0 n.0, (rw (← e) h.1, (rw (← e) h.2, (rw (← e) h.3, place_told e h.0 _ n.1))))
+    record { value = number_told e h.0 c.hand_refusal.ensures.value; found_after = rw (← e) h.1; tox_after = rw (← e) h.2; toy_after = rw (← e) h.3; place_after = place_told e h.0 _ c.hand_refusal.ensures.place_after }

@@ -7,5 +7,4 @@ returns c =
     let b = c.previous-before.ensures in
     let e = rw b at c.select_translation_vector.ensures in
     let h = c.hand_selected-no.ensures in
-    let n = c.hand_refusal.ensures in
-    (number_told e h.0 n.0, (rw (← e) h.1, (rw (← e) h.2, place_told e h.0 _ n.1)))
+    record { value = number_told e h.0 c.hand_refusal.ensures.value; found_after = rw (← e) h.1; index_after = rw (← e) h.2; place_after = place_told e h.0 _ c.hand_refusal.ensures.place_after }

@@ -6,9 +6,12 @@ use Rattle.whole_engine.proofs.Read.{six_read}
 use Rattle.byrlygent.proofs.whole.byr_whole_on_segment.Goals as goal
 
 pub returns : goal.returns
-returns c =
-    let e =
+returns c = record { value = (let e =
     c.on_segment.ensures
     ∙ six_read whole_on_segment_call _ _ _ _ _ _ c.ranges.ax c.ranges.ay c.ranges.bx c.ranges.by c.ranges.px c.ranges.py in
     let h = c.hand_truth-no.ensures in
-    (number_told e h.0 refl, rw (← e) h.1)
+    (number_told e h.0 refl, rw (← e) h.1)).0; on_after = (let e =
+    c.on_segment.ensures
+    ∙ six_read whole_on_segment_call _ _ _ _ _ _ c.ranges.ax c.ranges.ay c.ranges.bx c.ranges.by c.ranges.px c.ranges.py in
+    let h = c.hand_truth-no.ensures in
+    (number_told e h.0 refl, rw (← e) h.1)).1 }

@@ -4,7 +4,5 @@ use Rattle.byrlygent.proofs.wkb.byr_write_wkb.Goals as goal
 
 pub returns : goal.returns
 returns c =
-    let e = c.write_wkb.ensures in
     let h = c.hand_count-no.ensures in
-    let n = c.hand_refusal.ensures in
-    (number_told e.0 h.0 n.0, (rw (← e.0) h.1, (place_told e.0 h.0 _ n.1, e.1)))
+    record { value = number_told c.write_wkb.ensures.result_value h.0 c.hand_refusal.ensures.value; bytes_after = rw (← c.write_wkb.ensures.result_value) h.1; place_after = place_told c.write_wkb.ensures.result_value h.0 _ c.hand_refusal.ensures.place_after; room_after = c.write_wkb.ensures.room_after }

@@ -11,8 +11,7 @@ judge-requires c =
 pub returns-then-passed : goal.returns-then-passed
 returns-then-passed c =
     let s = c.args in
-    call_goes _ _ _ _ _ s.reason.now c.drawn_move-no.ensures c.passed.ensures c.if-passed.true c.judge.ensures
+    record { result_value = (call_goes _ _ _ _ _ s.reason.now c.drawn_move-no.ensures c.passed.ensures c.if-passed.true c.judge.ensures).0; reason_after = (call_goes _ _ _ _ _ s.reason.now c.drawn_move-no.ensures c.passed.ensures c.if-passed.true c.judge.ensures).1 }
 
 pub returns-else-passed : goal.returns-else-passed
-returns-else-passed c =
-    call_stops _ _ _ _ _ _ c.drawn_move-no.ensures c.passed.ensures c.if-passed.false
+returns-else-passed c = record { result_value = (call_stops _ _ _ _ _ _ c.drawn_move-no.ensures c.passed.ensures c.if-passed.false).0; reason_after = (call_stops _ _ _ _ _ _ c.drawn_move-no.ensures c.passed.ensures c.if-passed.false).1 }

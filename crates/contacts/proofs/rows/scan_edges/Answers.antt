@@ -9,8 +9,7 @@ use Rattle.contacts.proofs.rows.scan_edges.Goals as goal
 
 pub loop-i-init : goal.loop-i-init
 loop-i-init c =
-    let p = c.requires in
-    (begun _ _ _ (within_rows _ _ _ _ p.0.0 p.0.1), λ h. p.0.1)
+    (begun _ _ _ (within_rows _ _ _ _ c.requires.s_bound.0 c.requires.s_bound.1), λ h. c.requires.s_bound.1)
 
 pub edge_along_within-j-requires : goal.edge_along_within-j-requires
 edge_along_within-j-requires c = record { from_bound = c.loop-i.invariant.1 c.loop-i-test.true; around = c.requires.around }

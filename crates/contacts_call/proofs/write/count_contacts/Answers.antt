@@ -19,7 +19,7 @@ loop-j-init c = start _ _ _
 pub next_within-requires : goal.next_within-requires
 next_within-requires c =
     let d = c.requires in
-    (d, (c.loop-j.invariant.most, c.frames_of-frames.ensures))
+    record { sides = d; from_bound = c.loop-j.invariant.most; framed = c.frames_of-frames.ensures }
 
 pub returns-in-Nothing : goal.returns-in-Nothing
 returns-in-Nothing c =

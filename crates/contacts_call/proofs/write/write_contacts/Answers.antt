@@ -25,7 +25,7 @@ pub loop-j-init : goal.loop-j-init
 loop-j-init c = start _ _ _ _ _
 
 pub next_within-requires : goal.next_within-requires
-next_within-requires c = (c.requires.sides, (c.loop-j.invariant.most, c.frames_of-frames.ensures))
+next_within-requires c = record { sides = c.requires.sides; from_bound = c.loop-j.invariant.most; framed = c.frames_of-frames.ensures }
 
 pub shape_of-which-in-Nothing : goal.shape_of-which-in-Nothing
 shape_of-which-in-Nothing c = c.loop-j.invariant.which.same
@@ -34,9 +34,7 @@ pub shape_of-points-in-Nothing : goal.shape_of-points-in-Nothing
 shape_of-points-in-Nothing c = c.loop-j.invariant.points.same
 
 pub returns-in-Nothing : goal.returns-in-Nothing
-returns-in-Nothing c =
-    let p = c.requires in
-    done _ _ _ _ _ p.1.0 p.1.1 c.loop-j.invariant (next_none _ _ _ _ c.next_within.ensures c.in-Nothing.is)
+returns-in-Nothing c = record { which_after = (done _ _ _ _ _ c.requires.tol_in_bounds c.requires.tol_in_bounds_2 c.loop-j.invariant (next_none _ _ _ _ c.next_within.ensures c.in-Nothing.is)).0; points_after = (done _ _ _ _ _ c.requires.tol_in_bounds c.requires.tol_in_bounds_2 c.loop-j.invariant (next_none _ _ _ _ c.next_within.ensures c.in-Nothing.is)).1 }
 
 pub pair_at-pair-requires : goal.pair_at-pair-requires
 pair_at-pair-requires c = record { sides = c.requires.sides; k_bound = omega (arith, (at c).below) }
@@ -50,8 +48,7 @@ overflow_mul-n c = omega (arith, bounds (up-In-At _ _ _ _ _ _ c.before.before.be
 
 pub put_pair-requires : goal.put_pair-requires
 put_pair-requires c =
-    let p = c.requires in
-    which_fits _ _ _ _ _ p.1.0 p.1.1 c.loop-j.invariant (at (up-In-At _ _ _ _ _ _ c.before.before.before.before))
+    which_fits _ _ _ _ _ c.requires.tol_in_bounds c.requires.tol_in_bounds_2 c.loop-j.invariant (at (up-In-At _ _ _ _ _ _ c.before.before.before.before))
 
 pub overflow_mul-n-in-At : goal.overflow_mul-n-in-At
 overflow_mul-n-in-At c = omega (arith, bounds (up-In-At _ _ _ _ _ _ c.before.before.before.before.before.before.before.before))
@@ -62,8 +59,7 @@ contact_point-requires c =
 
 pub put_point-requires : goal.put_point-requires
 put_point-requires c =
-    let p = c.requires in
-    points_fit _ _ _ _ _ p.1.0 p.1.1 c.loop-j.invariant (at (up-In-At _ _ _ _ _ _ c.before.before.before.before.before.before.before.before.before))
+    points_fit _ _ _ _ _ c.requires.tol_in_bounds c.requires.tol_in_bounds_2 c.loop-j.invariant (at (up-In-At _ _ _ _ _ _ c.before.before.before.before.before.before.before.before.before))
 
 pub overflow_add-n : goal.overflow_add-n
 overflow_add-n c = omega (arith, bounds (up-In-At _ _ _ _ _ _ c.before.before.before.before.before.before.before.before.before.before.before.before))
@@ -76,5 +72,4 @@ loop-j-smaller c = omega (arith, (at (up-In-At _ _ _ _ _ _ c.before.before.befor
 
 pub loop-j-preserved : goal.loop-j-preserved
 loop-j-preserved c =
-    let p = c.requires in
-    turn _ _ _ _ _ p.1.0 p.1.1 c.loop-j.invariant (at (up-In-At _ _ _ _ _ _ c.before.before.before.before.before.before.before.before.before.before.before.before)) c.pair_at-pair.ensures c.contact_foot-foot.ensures c.contact_point.ensures c.put_pair.ensures c.put_point.ensures
+    turn _ _ _ _ _ c.requires.tol_in_bounds c.requires.tol_in_bounds_2 c.loop-j.invariant (at (up-In-At _ _ _ _ _ _ c.before.before.before.before.before.before.before.before.before.before.before.before)) c.pair_at-pair.ensures c.contact_foot-foot.ensures c.contact_point.ensures c.put_pair.ensures c.put_point.ensures

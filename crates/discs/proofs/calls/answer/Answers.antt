@@ -43,16 +43,16 @@ pub copy-requires : goal.copy-requires
 copy-requires c =
     let h = most c.before.before.before.before.before.before.before.before.before.before.before.before in
     let k = c.draw.auto.room in
-    (omega arith, fits _ _ _ _ (refusal (up-After-first-no _ _ _ c.before.before.before.before)) c.passed.ensures c.if-passed.true)
+    (omega arith, fits _ _ _ _ (refusal (up-After-first-no _ _ _ _ c.before.before.before.before)) c.passed.ensures c.if-passed.true)
 
 pub returns-then-passed : goal.returns-then-passed
 returns-then-passed c =
-    let n = refusal (up-After-first-no _ _ _ c.before.before.before.before.before.before.before.before) in
+    let n = refusal (up-After-first-no _ _ _ _ c.before.before.before.before.before.before.before.before) in
     let p = c.passed.ensures in
     record { result_value = goes _ n p _ c.if-passed.true refl; room_after = wrote _ n p _ _ c.if-passed.true (copied _ _ _ _ _ c.draw.ensures c.copy.ensures) }
 
 pub returns-else-passed : goal.returns-else-passed
 returns-else-passed c =
-    let n = refusal (up-After-first-no _ _ _ c.before.before.before) in
+    let n = refusal (up-After-first-no _ _ _ _ c.before.before.before) in
     let p = c.passed.ensures in
     record { result_value = stops _ n p _ c.if-passed.false; room_after = kept _ n p _ _ c.if-passed.false }

@@ -16,19 +16,19 @@ refusal c =
 pub lay-following-requires : goal.lay-following-requires
 lay-following-requires c =
     let m = c.per_shift-m.ensures in
-    let p = passing _ _ _ _ (refusal (up-After-first-no _ _ _ c.before.before.before)) c.passed.ensures c.if-passed.true in
+    let p = passing _ _ _ _ (refusal (up-After-first-no _ _ _ _ c.before.before.before)) c.passed.ensures c.if-passed.true in
     record { start_lt_n = p.0; m_in_bounds = rw m p.1 }
 
 pub returns-then-passed : goal.returns-then-passed
 returns-then-passed c =
-    let n = refusal (up-After-first-no _ _ _ c.before.before.before.before.before.before.before) in
+    let n = refusal (up-After-first-no _ _ _ _ c.before.before.before.before.before.before.before) in
     let p = c.passed.ensures in
     let m = c.per_shift-m.ensures in
-    let w = rw m at c.lay-following.ensures in
+    let w = (rw m at c.lay-following.ensures.value, rw m at c.lay-following.ensures.room_after) in
     record { result_value = goes _ n p _ c.if-passed.true (shift_is m w.0); room_after = wrote _ n p _ _ c.if-passed.true w.1 }
 
 pub returns-else-passed : goal.returns-else-passed
 returns-else-passed c =
-    let n = refusal (up-After-first-no _ _ _ c.before.before.before) in
+    let n = refusal (up-After-first-no _ _ _ _ c.before.before.before) in
     let p = c.passed.ensures in
     record { result_value = stops _ n p _ c.if-passed.false; room_after = kept _ n p _ _ c.if-passed.false }

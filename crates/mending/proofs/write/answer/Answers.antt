@@ -23,15 +23,14 @@ fine c = fit_is _ _ _ _ _ (refusal (up-After-mending-no _ _ _ _ c.before.before.
 pub write_mended-requires : goal.write_mended-requires
 write_mended-requires c =
     let f = fine (up-Then-passed _ _ _ _ c.before.before.before.before) in
-    (c.trail-end.ensures, (f.ring, (f.whys, f.spots)))
+    record { by_index = c.trail-end.ensures; ring_in_bounds = f.ring; ring_in_bounds_2 = f.whys; ring_in_bounds_3 = f.spots }
 
 pub returns-then-passed : goal.returns-then-passed
 returns-then-passed c =
-    let w = c.write_mended.ensures in
     let e = refusal (up-After-mending-no _ _ _ _ c.before.before.before.before.before.before.before.before.before.before.before.before.before) in
     let h = c.passed.ensures in
     let y = c.if-passed.true in
-    (goes _ e h _ y (sizes _ c.count_staying-staying.ensures.0), wrote _ e h _ _ y w.0, wrote _ e h _ _ y w.1.0, wrote _ e h _ _ y w.1.1)
+    (goes _ e h _ y (sizes _ c.count_staying-staying.ensures.0), wrote _ e h _ _ y c.write_mended.ensures.room_after, wrote _ e h _ _ y c.write_mended.ensures.dropped_after, wrote _ e h _ _ y c.write_mended.ensures.points_after)
 
 pub returns : goal.returns
 returns c =

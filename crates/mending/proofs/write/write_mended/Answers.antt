@@ -30,29 +30,24 @@ fate_at-requires c = record { i_bound = c.loop-i-test.true; by_index = c.require
 
 pub put-requires : goal.put-requires
 put-requires c =
-    let p = c.requires.1 in
-    ring_fits _ _ _ _ p.0 p.1.0 p.1.1 c.loop-i-test.true c.loop-i.invariant (stayed (up-In-Stays _ _ _ _ _ _ c.before.before.before))
+    ring_fits _ _ _ _ c.requires.ring_in_bounds c.requires.ring_in_bounds_2 c.requires.ring_in_bounds_3 c.loop-i-test.true c.loop-i.invariant (stayed (up-In-Stays _ _ _ _ _ _ c.before.before.before))
 
 pub loop-i-preserved-in-Stays : goal.loop-i-preserved-in-Stays
 loop-i-preserved-in-Stays c =
-    let p = c.requires.1 in
-    stay _ _ _ _ p.0 p.1.0 p.1.1 c.loop-i-test.true c.loop-i.invariant (stayed (up-In-Stays _ _ _ _ _ _ c.before.before.before.before.before.before)) c.point_at.ensures c.put.ensures
+    stay _ _ _ _ c.requires.ring_in_bounds c.requires.ring_in_bounds_2 c.requires.ring_in_bounds_3 c.loop-i-test.true c.loop-i.invariant (stayed (up-In-Stays _ _ _ _ _ _ c.before.before.before.before.before.before)) c.point_at.ensures c.put.ensures
 
 pub put_why-requires : goal.put_why-requires
 put_why-requires c =
-    let p = c.requires.1 in
-    whys_fit _ _ _ _ p.0 p.1.0 p.1.1 c.loop-i-test.true c.loop-i.invariant (went (up-In-Goes _ _ _ _ _ _ c.before.before)).0
+    whys_fit _ _ _ _ c.requires.ring_in_bounds c.requires.ring_in_bounds_2 c.requires.ring_in_bounds_3 c.loop-i-test.true c.loop-i.invariant (went (up-In-Goes _ _ _ _ _ _ c.before.before)).0
 
 pub put-requires-in-Goes : goal.put-requires-in-Goes
 put-requires-in-Goes c =
-    let p = c.requires.1 in
-    spots_fit _ _ _ _ p.0 p.1.0 p.1.1 c.loop-i-test.true c.loop-i.invariant (went (up-In-Goes _ _ _ _ _ _ c.before.before.before.before.before.before.before)).0
+    spots_fit _ _ _ _ c.requires.ring_in_bounds c.requires.ring_in_bounds_2 c.requires.ring_in_bounds_3 c.loop-i-test.true c.loop-i.invariant (went (up-In-Goes _ _ _ _ _ _ c.before.before.before.before.before.before.before)).0
 
 pub loop-i-preserved : goal.loop-i-preserved
 loop-i-preserved c =
-    let p = c.requires.1 in
     let w = went (up-In-Goes _ _ _ _ _ _ c.before.before.before.before.before.before.before.before.before.before) in
-    go _ _ _ _ p.0 p.1.0 p.1.1 c.loop-i-test.true c.loop-i.invariant w.0 w.1 c.point_at-in-Goes.ensures c.put_why.ensures c.put-in-Goes.ensures
+    go _ _ _ _ c.requires.ring_in_bounds c.requires.ring_in_bounds_2 c.requires.ring_in_bounds_3 c.loop-i-test.true c.loop-i.invariant w.0 w.1 c.point_at-in-Goes.ensures c.put_why.ensures c.put-in-Goes.ensures
 
 pub shape_of-room : goal.shape_of-room
 shape_of-room c = c.loop-i.invariant.ring.same
@@ -65,6 +60,5 @@ shape_of-points c = c.loop-i.invariant.spots.same
 
 pub returns : goal.returns
 returns c =
-    let p = c.requires.1 in
-    let d = done _ _ _ _ p.0 p.1.0 p.1.1 c.loop-i-test.false c.loop-i.invariant in
-    (d.0, (d.1, d.2))
+    let d = done _ _ _ _ c.requires.ring_in_bounds c.requires.ring_in_bounds_2 c.requires.ring_in_bounds_3 c.loop-i-test.false c.loop-i.invariant in
+    record { room_after = d.0; dropped_after = d.1; points_after = d.2 }

@@ -26,8 +26,7 @@ slice_bounds-run-end-2 c = omega (arith, c.fill-2.auto.room)
 pub run-requires : goal.run-requires
 run-requires c =
     let r = c.requires in
-    (r.orb_even, ((r.orb_most, omega (arith, r.orb_most)), (sides r, ((c.fill.ensures, c.fill-2.ensures), (omega (arith, r.room, c.put.auto.room), r.limit)))))
+    record { orbiting_len = r.orb_even; orbiting_len_bound = (r.orb_most, omega (arith, r.orb_most)); sides = sides r; directed = (c.fill.ensures, c.fill-2.ensures); stored_in_bounds = omega (arith, r.room, c.put.auto.room); limit_bound = r.limit }
 
 pub returns : goal.returns
-returns c =
-    followed _ _ _ _ c.requires.room c.find_start_position-start.ensures c.centroid-middle.ensures c.put.ensures c.run.ensures.value c.run.ensures.room_after
+returns c = record { value = (followed _ _ _ _ c.requires.room c.find_start_position-start.ensures c.centroid-middle.ensures c.put.ensures c.run.ensures.value c.run.ensures.room_after).0; work_after = (followed _ _ _ _ c.requires.room c.find_start_position-start.ensures c.centroid-middle.ensures c.put.ensures c.run.ensures.value c.run.ensures.room_after).1 }

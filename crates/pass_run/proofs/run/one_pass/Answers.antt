@@ -1,4 +1,5 @@
 -- `pass_run::run::one_pass` meets its contract: `proofs/Onward.antt` has its four cases. Assumes nothing.
+use borrow.Author.Rules.{rules}
 use native.Mathlib.Omega.{arith}
 use mathlib.Core.Path.{sym, ap, ◌∙◌}
 use lib.Seq.{length-take-le}
@@ -6,13 +7,14 @@ use Rattle.pass_run.proofs.Onward.{after_stop, after_stay, after_full, after_sto
 use Rattle.pass_run.specs.Run.{Afterwards}
 use Rattle.pass_run.proofs.run.one_pass.Goals as goal
 
+pub overflow_mul-len : goal.overflow_mul-len
+overflow_mul-len c = search rules
+
 pub slice_bounds-pass-end-2 : goal.slice_bounds-pass-end-2
 slice_bounds-pass-end-2 c = sym (length-take-le _ _ c.requires.stored_in_bounds)
 
 pub pass-requires : goal.pass-requires
-pass-requires c =
-    let p = c.requires in
-    (p.0, (p.1.0, (p.1.1.0, p.1.1.1.0)))
+pass-requires c = record { orbiting_len = c.requires.orbiting_len; orbiting_len_bound = c.requires.orbiting_len_bound; sides = c.requires.sides; directed = c.requires.directed }
 
 pub returns-then-room-len-lt2 : goal.returns-then-room-len-lt2
 returns-then-room-len-lt2 c =
@@ -20,7 +22,7 @@ returns-then-room-len-lt2 c =
     (sym (ap (λ (d : Afterwards). d.answer) h), sym (ap (λ (d : Afterwards). d.room) h), tt)
 
 pub overflow_add-more : goal.overflow_add-more
-overflow_add-more c = omega (arith, (overflow_mul-len c.before.before.before.before.before.before.before.before.before.before).fits)
+overflow_add-more c = omega (arith, (overflow_mul-len c.before.before.before.before.before.before.before.before).fits)
 
 pub returns-in-Stop : goal.returns-in-Stop
 returns-in-Stop c =

@@ -15,9 +15,7 @@ pub loop-passes-init : goal.loop-passes-init
 loop-passes-init c = (omega arith, refl, c.requires.stored_in_bounds, rw sub-zero refl, refl)
 
 pub one_pass-requires : goal.one_pass-requires
-one_pass-requires c =
-    let p = c.requires in
-    (p.0, ((p.1.0.0, omega (arith, p.1.0.1, c.loop-passes.invariant.4)), (p.1.1.0, (p.1.1.1.0, c.loop-passes.invariant.2))))
+one_pass-requires c = record { orbiting_len = c.requires.orbiting_len; orbiting_len_bound = (c.requires.orbiting_len_bound.0, omega (arith, c.requires.orbiting_len_bound.1, c.loop-passes.invariant.4)); sides = c.requires.sides; directed = c.requires.directed; stored_in_bounds = c.loop-passes.invariant.2 }
 
 pub shape_of-room-in-Halt : goal.shape_of-room-in-Halt
 shape_of-room-in-Halt c = omega (arith, c.one_pass.auto.room)
@@ -29,10 +27,13 @@ shape_of-moved-in-Halt c =
 pub returns-in-Halt : goal.returns-in-Halt
 returns-in-Halt c =
     let t = c.one_pass in
-    let h =
+    record { value = (let h =
     c.loop-passes.invariant.3
     ∙ run_stop _ _ _ _ _ _ _ c.loop-passes-test.true t.ensures.0 t.ensures.1 _ c.in-Halt.is in
-    (sym (ap (λ (d : Done). d.end) h), sym (ap (λ (d : Done). d.room) h))
+    (sym (ap (λ (d : Done). d.end) h), sym (ap (λ (d : Done). d.room) h))).0; room_after = (let h =
+    c.loop-passes.invariant.3
+    ∙ run_stop _ _ _ _ _ _ _ c.loop-passes-test.true t.ensures.0 t.ensures.1 _ c.in-Halt.is in
+    (sym (ap (λ (d : Done). d.end) h), sym (ap (λ (d : Done). d.room) h))).1 }
 
 pub shape_of-room-in-Full : goal.shape_of-room-in-Full
 shape_of-room-in-Full c = omega (arith, c.one_pass.auto.room)
@@ -44,10 +45,13 @@ shape_of-moved-in-Full c =
 pub returns-in-Full : goal.returns-in-Full
 returns-in-Full c =
     let t = c.one_pass in
-    let h =
+    record { value = (let h =
     c.loop-passes.invariant.3
     ∙ run_full _ _ _ _ _ _ _ c.loop-passes-test.true t.ensures.0 t.ensures.1 c.in-Full.is in
-    (sym (ap (λ (d : Done). d.end) h), sym (ap (λ (d : Done). d.room) h))
+    (sym (ap (λ (d : Done). d.end) h), sym (ap (λ (d : Done). d.room) h))).0; room_after = (let h =
+    c.loop-passes.invariant.3
+    ∙ run_full _ _ _ _ _ _ _ c.loop-passes-test.true t.ensures.0 t.ensures.1 c.in-Full.is in
+    (sym (ap (λ (d : Done). d.end) h), sym (ap (λ (d : Done). d.room) h))).1 }
 
 pub shape_of-room-then-is_still : goal.shape_of-room-then-is_still
 shape_of-room-then-is_still c = omega (arith, c.one_pass.auto.room)
@@ -59,10 +63,13 @@ shape_of-moved-then-is_still c =
 pub returns-then-is_still : goal.returns-then-is_still
 returns-then-is_still c =
     let t = c.one_pass in
-    let h =
+    record { value = (let h =
     c.loop-passes.invariant.3
     ∙ run_stays _ _ _ _ _ _ _ _ (omega (arith, c.loop-passes-test.true)) t.ensures.0 t.ensures.1 c.in-Go.is (c.is_still.ensures c.if-is_still.true) in
-    (sym (ap (λ (d : Done). d.end) h), sym (ap (λ (d : Done). d.room) h))
+    (sym (ap (λ (d : Done). d.end) h), sym (ap (λ (d : Done). d.room) h))).0; room_after = (let h =
+    c.loop-passes.invariant.3
+    ∙ run_stays _ _ _ _ _ _ _ _ (omega (arith, c.loop-passes-test.true)) t.ensures.0 t.ensures.1 c.in-Go.is (c.is_still.ensures c.if-is_still.true) in
+    (sym (ap (λ (d : Done). d.end) h), sym (ap (λ (d : Done). d.room) h))).1 }
 
 pub overflow_add-passes : goal.overflow_add-passes
 overflow_add-passes c = omega (arith, c.requires.limit_bound)

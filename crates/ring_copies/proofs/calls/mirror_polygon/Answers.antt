@@ -17,21 +17,21 @@ refusal : (c : After-first-no) → c.first-no.result ≡ copy_refusal c.args.rin
 refusal c = screened _ _ _ c.ring.ensures (rw c.room.ensures at c.first-no.ensures)
 
 fine : (c : Then-passed) → Sized c.args.ring.now × (2 * count c.args.ring.now ≤ length c.args.room.now)
-fine c = passing _ _ _ (refusal (up-After-first-no _ _ _ c.before.before.before)) c.passed.ensures c.if-passed.true
+fine c = passing _ _ _ (refusal (up-After-first-no _ _ _ _ c.before.before.before)) c.passed.ensures c.if-passed.true
 
 pub mirror-requires : goal.mirror-requires
 mirror-requires c =
-    let f = fine (up-Then-passed _ _ _ c.before.before) in
+    let f = fine (up-Then-passed _ _ _ _ c.before.before) in
     record { ring_len = f.0.even; ring_in_bounds = omega arith }
 
 pub returns-then-passed : goal.returns-then-passed
 returns-then-passed c =
-    let n = refusal (up-After-first-no _ _ _ c.before.before.before.before.before.before.before) in
+    let n = refusal (up-After-first-no _ _ _ _ c.before.before.before.before.before.before.before) in
     let p = c.passed.ensures in
     record { result_value = goes _ n p _ c.if-passed.true refl; room_after = wrote _ n p _ _ c.if-passed.true c.mirror.ensures }
 
 pub returns-else-passed : goal.returns-else-passed
 returns-else-passed c =
-    let n = refusal (up-After-first-no _ _ _ c.before.before.before) in
+    let n = refusal (up-After-first-no _ _ _ _ c.before.before.before) in
     let p = c.passed.ensures in
     record { result_value = stops _ n p _ c.if-passed.false; room_after = kept _ n p _ _ c.if-passed.false }

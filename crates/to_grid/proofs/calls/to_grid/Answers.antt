@@ -16,17 +16,16 @@ refusal : (c : After-first-no)
 refusal c = screened _ _ _ c.lent.ensures c.fit.ensures c.first-no.ensures
 
 pub lay-requires : goal.lay-requires
-lay-requires c =
-    passing _ _ _ (refusal (up-After-first-no _ _ _ c.before.before.before.before)) c.passed.ensures c.if-passed.true
+lay-requires c = record { list_value = (passing _ _ _ (refusal (up-After-first-no _ _ _ _ c.before.before.before.before)) c.passed.ensures c.if-passed.true).0; list_in_bounds = (passing _ _ _ (refusal (up-After-first-no _ _ _ _ c.before.before.before.before)) c.passed.ensures c.if-passed.true).1 }
 
 pub returns-then-passed : goal.returns-then-passed
 returns-then-passed c =
-    let n = refusal (up-After-first-no _ _ _ c.before.before.before.before.before.before) in
+    let n = refusal (up-After-first-no _ _ _ _ c.before.before.before.before.before.before) in
     let p = c.passed.ensures in
     record { result_value = goes _ n p _ c.if-passed.true refl; room_after = wrote _ n p _ _ c.if-passed.true c.lay.ensures }
 
 pub returns-else-passed : goal.returns-else-passed
 returns-else-passed c =
-    let n = refusal (up-After-first-no _ _ _ c.before.before.before) in
+    let n = refusal (up-After-first-no _ _ _ _ c.before.before.before) in
     let p = c.passed.ensures in
     record { result_value = stops _ n p _ c.if-passed.false; room_after = kept _ n p _ _ c.if-passed.false }

@@ -29,39 +29,31 @@ pub shape_of-sources-in-End : goal.shape_of-sources-in-End
 shape_of-sources-in-End c = c.loop-vector.invariant.sources.same
 
 pub returns-in-End : goal.returns-in-End
-returns-in-End c =
-    let p = c.requires in
-    done _ _ _ _ _ _ p.1.0 p.1.1 c.loop-vector.invariant (rw c.in-End.is at c.next_kept.ensures)
+returns-in-End c = record { vectors_after = (done _ _ _ _ _ _ c.requires.tol_in_bounds c.requires.tol_in_bounds_2 c.loop-vector.invariant (rw c.in-End.is at c.next_kept.ensures)).0; sources_after = (done _ _ _ _ _ _ c.requires.tol_in_bounds c.requires.tol_in_bounds_2 c.loop-vector.invariant (rw c.in-End.is at c.next_kept.ensures)).1 }
 
 pub overflow_mul-n : goal.overflow_mul-n
 overflow_mul-n c =
-    let p = c.requires in
-    omega (arith, small _ _ _ _ p.0 c.loop-vector.invariant.passing)
+    omega (arith, small _ _ _ _ c.requires.sides c.loop-vector.invariant.passing)
 
 pub put_vector-requires : goal.put_vector-requires
 put_vector-requires c =
-    let p = c.requires in
-    vectors_fit _ _ _ _ _ _ p.1.0 p.1.1 c.loop-vector.invariant (behind (up-In-Vector _ _ _ _ _ _ c.before.before))
+    vectors_fit _ _ _ _ _ _ c.requires.tol_in_bounds c.requires.tol_in_bounds_2 c.loop-vector.invariant (behind (up-In-Vector _ _ _ _ _ _ c.before.before))
 
 pub offset_bounds-sources-n : goal.offset_bounds-sources-n
 offset_bounds-sources-n c =
-    let p = c.requires in
-    omega (arith, small _ _ _ _ p.0 c.loop-vector.invariant.passing)
+    omega (arith, small _ _ _ _ c.requires.sides c.loop-vector.invariant.passing)
 
 pub bounds-sources-n : goal.bounds-sources-n
 bounds-sources-n c =
-    let p = c.requires in
-    sources_fit _ _ _ _ _ _ p.1.0 p.1.1 c.loop-vector.invariant (behind (up-In-Vector _ _ _ _ _ _ c.before.before.before.before.before))
+    sources_fit _ _ _ _ _ _ c.requires.tol_in_bounds c.requires.tol_in_bounds_2 c.loop-vector.invariant (behind (up-In-Vector _ _ _ _ _ _ c.before.before.before.before.before))
 
 pub overflow_add-n : goal.overflow_add-n
 overflow_add-n c =
-    let p = c.requires in
-    omega (arith, small _ _ _ _ p.0 c.loop-vector.invariant.passing)
+    omega (arith, small _ _ _ _ c.requires.sides c.loop-vector.invariant.passing)
 
 pub loop-vector-smaller : goal.loop-vector-smaller
 loop-vector-smaller c = nearer _ _ (behind (up-In-Vector _ _ _ _ _ _ c.before.before.before.before.before))
 
 pub loop-vector-preserved : goal.loop-vector-preserved
 loop-vector-preserved c =
-    let p = c.requires in
-    turn _ _ _ _ _ _ p.1.0 p.1.1 c.loop-vector.invariant (behind (up-In-Vector _ _ _ _ _ _ c.before.before.before.before.before)) c.put_vector.ensures
+    turn _ _ _ _ _ _ c.requires.tol_in_bounds c.requires.tol_in_bounds_2 c.loop-vector.invariant (behind (up-In-Vector _ _ _ _ _ _ c.before.before.before.before.before)) c.put_vector.ensures

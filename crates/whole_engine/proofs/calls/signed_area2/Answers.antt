@@ -1,4 +1,5 @@
 -- `whole_engine::calls::signed_area2` meets its contract: the tests, then the answer. Assumes nothing.
+use borrow.Author.Rules.{sfits_of}
 use mathlib.Core.Path.{◌∙◌}
 use mir.Syntax.{w64}
 use mir.ValLaws.{to_z-of_z}
@@ -12,7 +13,7 @@ signed_area2-requires c =
 
 pub returns-then-passed : goal.returns-then-passed
 returns-then-passed c =
-    goes _ c.ring-no.ensures c.passed.ensures _ c.if-passed.true (to_z-of_z w64 _ (sfits_of c.signed_area2.type-inv) ∙ c.signed_area2.ensures)
+    goes _ c.ring-no.ensures c.passed.ensures _ c.if-passed.true (to_z-of_z w64 _ (sfits_of c.signed_area2.type_inv) ∙ c.signed_area2.ensures)
 
 pub returns-else-passed : goal.returns-else-passed
 returns-else-passed c =

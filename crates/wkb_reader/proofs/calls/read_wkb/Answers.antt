@@ -9,7 +9,7 @@ use Rattle.wkb_reader.proofs.calls.read_wkb.Goals as goal
 pub load-requires : goal.load-requires
 load-requires c =
     let a = c.args in
-    reads a.wkb.now (length a.room.now) (ap passed (sym c.refusal-no.ensures) ∙ sym c.passed.ensures ∙ c.if-passed.true)
+    record { f_value = (reads a.wkb.now (length a.room.now) (ap passed (sym c.refusal-no.ensures) ∙ sym c.passed.ensures ∙ c.if-passed.true)).0; f_in_bounds = (reads a.wkb.now (length a.room.now) (ap passed (sym c.refusal-no.ensures) ∙ sym c.passed.ensures ∙ c.if-passed.true)).1 }
 
 pub returns-then-passed : goal.returns-then-passed
 returns-then-passed c =
