@@ -18,9 +18,10 @@ pub put_polygons-requires-clause-orbiting_len_bound : goal.put_polygons-requires
 put_polygons-requires-clause-orbiting_len_bound c =
     let xs = c.args.xs.now in
     let n = 2 * c.args.n in
-    let m = 2 * c.args.m in
-    (omega (arith, length-take-le ((n + m) - n) (drop n xs) (omega (arith, length-drop n xs))),
-      every_take coordinate ((n + m) - n) (drop n xs) (every_drop coordinate n xs c.requires.xs_value.0))
+    let m = 2 * c.args.m in (
+      omega (arith, length-take-le ((n + m) - n) (drop n xs) (omega (arith, length-drop n xs))),
+      every_take coordinate ((n + m) - n) (drop n xs) (every_drop coordinate n xs c.requires.xs_value.0),
+    )
 
 pub returns : goal.returns
 returns c =

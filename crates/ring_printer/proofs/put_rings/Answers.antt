@@ -35,10 +35,11 @@ slice_bounds-put_ring-end c =
 pub put_ring-next-requires : goal.put_ring-next-requires
 put_ring-next-requires c =
     let ns = c.args.counts.now in
-    let i = c.loop-i.i in
-    (part_long c.args.xs.now c.loop-i.at (get_or ns i 0) (inside ns i c.loop-i.at (length c.args.xs.now) c.loop-i-test.true c.loop-i.invariant.3 c.requires.counts_len_bound.2),
+    let i = c.loop-i.i in (
+      part_long c.args.xs.now c.loop-i.at (get_or ns i 0) (inside ns i c.loop-i.at (length c.args.xs.now) c.loop-i-test.true c.loop-i.invariant.3 c.requires.counts_len_bound.2),
       (sized_here ns i c.loop-i-test.true c.loop-i.invariant.4).1,
-      omega arith)
+      omega arith,
+    )
 
 pub loop-i-preserved : goal.loop-i-preserved
 loop-i-preserved c =
