@@ -1,6 +1,16 @@
 -- `lines::put_place` meets its contract: five texts, one after the other. Assumes nothing.
+use borrow.Author.Rules.{rules}
 use Rattle.print.proofs.Puts.{then}
 use Rattle.lines.proofs.put_place.Goals as goal
+
+-- LEFT slice-aggregate-put-text : tie.Need-slice-aggregate-put-text
+-- slice-aggregate-put-text c = search rules
+
+-- LEFT slice-aggregate-put-text-2 : tie.Need-slice-aggregate-put-text-2
+-- slice-aggregate-put-text-2 c = search rules
+
+-- LEFT slice-aggregate-put-text-3 : tie.Need-slice-aggregate-put-text-3
+-- slice-aggregate-put-text-3 c = search rules
 
 pub returns : goal.returns
 returns c =

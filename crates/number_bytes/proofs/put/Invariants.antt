@@ -1,9 +1,10 @@
--- The room with the bytes of what is left of the number stored from at + i on is what was asked for.
-use Prim.Native.Nat.{◌+◌, ◌-◌, ◌≤◌}
-use mathlib.Core.Path.{◌≡◌}
-use lib.ListN.{length}
+use Prim.Native.Nat.{◌+◌, ◌-◌, ◌%◌, ◌≤◌}
+use mathlib.Core.Path.{◌≡◌, refl, sym, ◌∙◌}
+use native.Mathlib.Omega.{arith}
+use lib.ListN.{length, length-set}
 use lib.Seq.{sets}
 use Rattle.number_bytes.specs.Bytes.{bytes_of}
+use Rattle.number_bytes.proofs.Puts.{put_start, put_on, put_end}
 use Rattle.number_bytes.proofs.put.Given as goal
 
 abbrev pub invariant-loop-i : goal.invariant-loop-i

@@ -1,5 +1,8 @@
 -- `print::put_digits` meets its contract, by the digits that are left. Assumes nothing.
-use Rattle.std.proofs.Common.{ℕ, ◌+◌, ◌-◌, ap, ◌∙◌, take, set, arith}
+use Prim.Native.Nat.{ℕ, ◌+◌, ◌-◌}
+use mathlib.Core.Path.{ap, ◌∙◌}
+use native.Mathlib.Omega.{arith}
+use lib.ListN.{take, set}
 use Rattle.print.proofs.Puts.{digit_more, no_digits}
 use Rattle.print.proofs.+put_digits.Goals as goal
 

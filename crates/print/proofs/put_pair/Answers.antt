@@ -1,7 +1,14 @@
 -- `print::put_pair` meets its contract: four texts one after the other. Assumes nothing.
-use Rattle.std.proofs.Common.{arith}
+use borrow.Author.Rules.{rules}
+use native.Mathlib.Omega.{arith}
 use Rattle.print.proofs.Puts.{then}
 use Rattle.print.proofs.put_pair.Goals as goal
+
+-- LEFT slice-aggregate-put-text : tie.Need-slice-aggregate-put-text
+-- slice-aggregate-put-text c = search rules
+
+-- LEFT slice-aggregate-put-text-2 : tie.Need-slice-aggregate-put-text-2
+-- slice-aggregate-put-text-2 c = search rules
 
 pub returns : goal.returns
 returns c =

@@ -1,6 +1,6 @@
--- What is left of the list decides.
-use Rattle.std.proofs.Common.{◌≡◌, ◌-◌, ◌≤◌, length, drop}
-use Rattle.refusals.specs.Bounds.{every}
+use Rattle.std.proofs.Common.{◌≡◌, ◌-◌, ◌≤◌, length, drop, sym, refl, ◌∙◌, arith}
+use Rattle.refusals.specs.Bounds.{coordinate, every}
+use Rattle.refusals.proofs.Every.{every_on, every_off, every_end, every_at}
 use Rattle.whole_input.specs.Whole.{is_whole}
 use Rattle.whole_input.proofs.are_whole.Given as goal
 

@@ -13,10 +13,13 @@ overflow_cast-result-2 c = search rules
 left : (c : Else-w-lt2147483648) → negsuc 0 -ℤ to_z w32 (4294967295 - c.args.w) ≡ negsuc (4294967295 - c.args.w)
 left c =
     let k = 4294967295 - c.args.w in
-    ap (λ z. negsuc 0 -ℤ z) (to_z-of_z w32 (pos k) (record { sfits = omega (arith, c.if-w-lt2147483648.false) })) ∙ from_last k
+    ap (λ z. negsuc 0 -ℤ z) (to_z-of_z w32 (pos k) (overflow_cast-result-2 c)) ∙ from_last k
+
+pub overflow_cast-result : goal.overflow_cast-result
+overflow_cast-result c = search rules
 
 pub returns-then-w-lt2147483648 : goal.returns-then-w-lt2147483648
-returns-then-w-lt2147483648 c = to_z-of_z w32 (pos c.args.w) (record { sfits = c.if-w-lt2147483648.true }) ∙ low_half c.args.w c.if-w-lt2147483648.true
+returns-then-w-lt2147483648 c = to_z-of_z w32 (pos c.args.w) (overflow_cast-result c) ∙ low_half c.args.w c.if-w-lt2147483648.true
 
 pub overflow_sub-result-2 : goal.overflow_sub-result-2
 overflow_sub-result-2 c = subst (SFits w32) (sym (left c)) (record { sfits = omega (arith, c.if-w-lt2147483648.false) })

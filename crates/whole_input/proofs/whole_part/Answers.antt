@@ -7,7 +7,7 @@ use Rattle.whole_input.proofs.whole_part.Goals as goal
 use Rattle.whole_input.proofs.whole_part.Goals.{After-truncating_f64_to_i64}
 
 -- the whole part, as the machine has it
-part : (c : goal.After-truncating_f64_to_i64) → to_z w64 (of_z w64 c.truncating_f64_to_i64.result) ≡ whole_part c.args.x
+part : (c : After-truncating_f64_to_i64) → to_z w64 (of_z w64 c.truncating_f64_to_i64.result) ≡ whole_part c.args.x
 part c = to_z-of_z w64 _ (record { sfits = c.truncating_f64_to_i64.type_inv }) ∙ c.truncating_f64_to_i64.ensures
 
 pub truncating_f64_to_i64-requires : goal.truncating_f64_to_i64-requires
