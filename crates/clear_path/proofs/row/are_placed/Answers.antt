@@ -24,14 +24,6 @@ is c =
     (λ (x y : ℤ). all_in_bounds (moved_by x y c.args.orbiting.now))
     (record { sfits = c.are_moved_within-arg-1.given }) (record { sfits = c.are_moved_within-arg-in-loop-i-1.given })
 
-shared-slice-copy-out-are-moved-within :
-    tie.Need-shared-slice-copy-out-are-moved-within invariant-loop decreases-loop
-shared-slice-copy-out-are-moved-within c = omega arith
-
-shared-slice-copy-out-are-moved-within-2 :
-    tie.Need-shared-slice-copy-out-are-moved-within-2 invariant-loop decreases-loop
-shared-slice-copy-out-are-moved-within-2 c = omega arith
-
 pub loop-i-init : goal.loop-i-init
 loop-i-init c = (omega arith, all_left _ _)
 
