@@ -1,9 +1,9 @@
 -- How many decimal digits a number has, counted. Assumes nothing.
 use Prim.Native.Nat.{ℕ, zero, suc, ◌+◌, ◌-◌, ◌/◌, ◌≤◌, ◌<◌}
-use mathlib.Core.Path.{◌≡◌, refl, sym, ap, ◌∙◌}
+use mathlib.Core.Path.{◌≡◌, refl, ap, ◌∙◌}
 use native.Mathlib.Omega.{arith}
 use borrow.Author.Tests.{ne_eqb}
-use Rattle.print.specs.Digits.{up_to, width}
+use Rattle.print.specs.Digits.{up_to}
 
 none_left : (k : ℕ) → up_to k 0 ≡ 0
 unfolding up_to

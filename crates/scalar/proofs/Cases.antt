@@ -1,15 +1,15 @@
 -- What the tests of `abs`, `is_minus_zero`, `is_ahead`, `smaller` and `larger` tell of their values. Assumes nothing.
 use Prim.Native.Nat.{ℕ, zero, suc, ◌^◌}
 use mathlib.Core.Path.{◌≡◌, refl, sym, subst}
-use mathlib.Core.Bool.{Bool, true, false, not, ◌&&◌, ◌||◌, cond, or-false}
+use mathlib.Core.Bool.{Bool, true, false, not}
 use native.Mathlib.Omega.{arith}
 use lib.Dec.{T, eqb}
 use lib.Ieee.Compare.{differs_from_itself, nan_differs}
-use lib.IntN.{ℤ, pos, negsuc}
-use lib.Ieee.{Float, nan, inf, fin, binary64, lt, eq, ne, neg, up, down, fits, is_nan, of_bits, to_bits}
+use lib.IntN.{pos}
+use lib.Ieee.{Float, nan, inf, fin, binary64, lt, eq, ne, neg, fits, is_nan, of_bits, to_bits}
 use Rattle.scalar.specs.Float.{f0}
 use Rattle.scalar.specs.Scalar.{abs_of, minus_zero, ahead, or_number}
-use Rattle.scalar.proofs.Zero.{minus_lt, plus_lt, zero_lt, zero_eq, some_eq, zero_at}
+use Rattle.scalar.proofs.Zero.{minus_lt, plus_lt, zero_eq, some_eq, zero_at}
 
 -- ---- the absolute value
 

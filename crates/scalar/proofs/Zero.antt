@@ -1,13 +1,13 @@
 -- How each kind of value compares with 0.0. Assumes nothing.
-use Prim.Native.Nat.{ℕ, zero, suc, ◌+◌, ◌*◌, ◌^◌, ◌<◌}
-use mathlib.Core.Path.{◌≡◌, refl, sym, ◌∙◌}
-use mathlib.Core.Bool.{Bool, true, false, ◌&&◌, ◌||◌, beq}
+use Prim.Native.Nat.{ℕ, zero, suc, ◌+◌, ◌*◌, ◌^◌}
+use mathlib.Core.Path.{◌≡◌, refl}
+use mathlib.Core.Bool.{Bool, true, false}
 use native.Mathlib.Omega.{arith}
 use native.Mathlib.Nat.{mul-pos, zero-lt-suc}
-use lib.Dec.{T, ltb, eqb, eqb→eq}
+use lib.Dec.{T, eqb→eq}
 use lib.Pow.{pow_pos}
 use lib.IntN.{ℤ, pos, negsuc}
-use lib.Ieee.{Float, fin, binary64, lt, eq, up, down, fits, of_bits}
+use lib.Ieee.{fin, binary64, lt, eq, up, down, fits, of_bits}
 use lib.Ieee.Fits.{up_pos}
 use Rattle.scalar.specs.Float.{f0}
 use borrow.Author.Tests.{lt-ltb, le-ltb, eq-eqb, ne_eqb}

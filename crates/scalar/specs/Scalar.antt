@@ -1,5 +1,5 @@
 -- Absolute value, smaller, larger and clamp, on every value of an `f64`. Definitions only.
-use Rattle.std.specs.Prelude.{Bool, true, false, ◌&&◌, ◌||◌, cond, zero, suc, Float}
+use Rattle.std.specs.Prelude.{Bool, false, ◌&&◌, ◌||◌, cond, zero, suc, Float}
 use Rattle.std.specs.Float.{nan, inf, fin}
 use Rattle.std.specs.Float.Ieee.{lt, neg}
 

@@ -1,5 +1,4 @@
 -- `centroid::centroid` meets its contract: the two cases of the test. Assumes nothing.
-use Rattle.std.proofs.Common.{rules}
 use Rattle.centroid.specs.Centroid.{centroid_of}
 use Rattle.centroid.proofs.centroid.Goals as goal
 

@@ -1,9 +1,5 @@
-use Rattle.std.proofs.Common.{◌≡◌, ℕ, ◌+◌, ◌-◌, ◌≤◌, List, refl, ap, ◌∙◌, add-one, arith, rules}
-use lib.Ieee.{Float}
-use Rattle.plane.specs.declared.Point.{Point}
-use Rattle.ring.specs.Ring.{count, point_at, next_of}
-use Rattle.centroid.specs.Centroid.{grown_of, moments_to}
-use Rattle.centroid.specs.declared.Moments.{Moments}
+use Rattle.std.proofs.Common.{◌≡◌, ◌-◌, ◌≤◌}
+use Rattle.centroid.specs.Centroid.{moments_to}
 use Rattle.centroid.proofs.gathered.Given as goal
 
 abbrev pub invariant-loop-i : goal.invariant-loop-i

@@ -1,5 +1,4 @@
 -- `centroid::mean` meets its contract: the sum, then the two quotients. Assumes nothing.
-use Rattle.std.proofs.Common.{rules}
 use Rattle.centroid.specs.Centroid.{mean_of}
 use Rattle.centroid.proofs.mean.Goals as goal
 

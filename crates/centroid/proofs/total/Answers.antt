@@ -1,5 +1,5 @@
 -- `centroid::total` meets its contract. The invariant: the sum is that of the first i vertices. Assumes nothing.
-use Rattle.std.proofs.Common.{◌≡◌, ℕ, ◌+◌, ◌-◌, ◌≤◌, List, refl, ap, ◌∙◌, add-one, arith, rules}
+use Rattle.std.proofs.Common.{◌≡◌, ℕ, ◌+◌, List, refl, ap, ◌∙◌, add-one, arith}
 use lib.Ieee.{Float}
 use Rattle.plane.specs.Vector.{plus_of}
 use Rattle.plane.specs.declared.Point.{Point}

@@ -1,8 +1,4 @@
-use Rattle.std.proofs.Common.{◌≡◌, ℕ, ◌+◌, ◌-◌, ◌≤◌, List, refl, ap, ◌∙◌, add-one, arith, rules}
-use lib.Ieee.{Float}
-use Rattle.plane.specs.Vector.{plus_of}
-use Rattle.plane.specs.declared.Point.{Point}
-use Rattle.ring.specs.Ring.{point_at}
+use Rattle.std.proofs.Common.{◌≡◌, ◌-◌, ◌≤◌}
 use Rattle.centroid.specs.Centroid.{total_to}
 use Rattle.centroid.proofs.total.Given as goal
 

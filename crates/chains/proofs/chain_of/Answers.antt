@@ -1,10 +1,9 @@
 -- `chains::chain_of` meets its contract: `proofs/Edges.antt` has the laws. The invariant: the edges below e are taken, and p is the start of the edge e. Assumes nothing.
-use Prim.Native.Nat.{◌-◌, ◌≤◌, ◌<◌}
-use mathlib.Core.Path.{◌≡◌, ap, ◌∙◌}
+use mathlib.Core.Path.{ap, ◌∙◌}
 use native.Mathlib.Omega.{arith}
 use Rattle.ring.specs.Ring.{point_at}
 use Rattle.frames.proofs.Widened.{next_start}
-use Rattle.chains.proofs.Edges.{Taken, none_taken, one_taken, all_taken}
+use Rattle.chains.proofs.Edges.{none_taken, one_taken, all_taken}
 use Rattle.chains.proofs.chain_of.Goals as goal
 
 pub loop-e-init : goal.loop-e-init

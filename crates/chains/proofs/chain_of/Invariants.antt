@@ -1,9 +1,7 @@
 use Prim.Native.Nat.{◌-◌, ◌≤◌, ◌<◌}
-use mathlib.Core.Path.{◌≡◌, ap, ◌∙◌}
-use native.Mathlib.Omega.{arith}
+use mathlib.Core.Path.{◌≡◌}
 use Rattle.ring.specs.Ring.{point_at}
-use Rattle.frames.proofs.Widened.{next_start}
-use Rattle.chains.proofs.Edges.{Taken, none_taken, one_taken, all_taken}
+use Rattle.chains.proofs.Edges.{Taken}
 use Rattle.chains.proofs.chain_of.Given as goal
 
 abbrev pub invariant-loop-e : goal.invariant-loop-e

@@ -1,9 +1,6 @@
 -- `chains::fill` meets its contract: `proofs/Table.antt` has the laws. The invariant: the chains of the edges below e are in the table, and e begins a chain unless no edge is left. Assumes nothing.
-use Prim.Native.Nat.{◌-◌, ◌%◌, ◌≤◌, ◌<◌}
-use mathlib.Core.Path.{◌≡◌, refl}
+use mathlib.Core.Path.{refl}
 use native.Mathlib.Omega.{arith}
-use lib.ListN.{length}
-use Rattle.chains.specs.Chain.{Tabled}
 use Rattle.chains.proofs.Table.{none_tabled, one_tabled}
 use Rattle.chains.proofs.fill.Goals as goal
 

@@ -1,9 +1,7 @@
 use Prim.Native.Nat.{◌-◌, ◌%◌, ◌≤◌, ◌<◌}
-use mathlib.Core.Path.{◌≡◌, refl}
-use native.Mathlib.Omega.{arith}
+use mathlib.Core.Path.{◌≡◌}
 use lib.ListN.{length}
 use Rattle.chains.specs.Chain.{Tabled}
-use Rattle.chains.proofs.Table.{none_tabled, one_tabled}
 use Rattle.chains.proofs.fill.Given as goal
 
 abbrev pub invariant-loop-e : goal.invariant-loop-e

@@ -1,18 +1,14 @@
 -- `choose::climb` meets its contract: `proofs/Climbing.antt` has the invariant; the measure is what is left of the pairs. Assumes nothing.
 use native.Mathlib.Omega.{arith}
-use Prim.Native.Nat.{◌-◌}
 use mathlib.Core.Path.{refl}
 use lib.Ieee.{add, mul, of_bits}
 use Rattle.square_root.specs.Root.{sqrt_of}
 use Rattle.plane.specs.Vector.{length_of, dot_of}
-use Rattle.ring.specs.Ring.{count}
-use Rattle.pairs.specs.Pairs.{pair_count}
 use Rattle.pairs.proofs.Numbers.{most}
 use Rattle.contacts.proofs.Following.{next_at, next_none}
-use Rattle.vectors.specs.Fit.{keeps}
 use Rattle.selection.specs.Select.{unscored}
-use Rattle.choose.specs.Choose.{standing, unset}
-use Rattle.choose.proofs.Climbing.{Climbing, at_first, up, top}
+use Rattle.choose.specs.Choose.{unset}
+use Rattle.choose.proofs.Climbing.{at_first, up, top}
 use Rattle.choose.proofs.climb.Goals as goal
 
 pub loop-best-init : goal.loop-best-init

@@ -1,17 +1,9 @@
-use native.Mathlib.Omega.{arith}
 use Prim.Native.Nat.{◌-◌}
-use mathlib.Core.Path.{refl}
-use lib.Ieee.{add, mul, of_bits}
-use Rattle.square_root.specs.Root.{sqrt_of}
-use Rattle.plane.specs.Vector.{length_of, dot_of}
 use Rattle.ring.specs.Ring.{count}
 use Rattle.pairs.specs.Pairs.{pair_count}
-use Rattle.pairs.proofs.Numbers.{most}
-use Rattle.contacts.proofs.Following.{next_at, next_none}
 use Rattle.vectors.specs.Fit.{keeps}
-use Rattle.selection.specs.Select.{unscored}
-use Rattle.choose.specs.Choose.{standing, unset}
-use Rattle.choose.proofs.Climbing.{Climbing, at_first, up, top}
+use Rattle.choose.specs.Choose.{standing}
+use Rattle.choose.proofs.Climbing.{Climbing}
 use Rattle.choose.proofs.climb.Given as goal
 
 abbrev pub invariant-loop-best : goal.invariant-loop-best

@@ -22,10 +22,13 @@ pub returns-then-put_both : goal.returns-then-put_both
 returns-then-put_both c =
     let is = c.put_both.ensures.value in
     let holds = c.put_both.ensures.both_hold c.if-put_both.true in
-    record { result_value = found_is _ _ _ _ _ _ is c.if-put_both.true holds c.search.ensures.result_value; lines_held = (
+    record {
+      result_value = found_is _ _ _ _ _ _ is c.if-put_both.true holds c.search.ensures.result_value;
+      lines_held = (
         lines_held _ _ _ _ _ _ is c.if-put_both.true holds _ c.search.ensures.result_value c.search.ensures.lines_after,
         c.search.auto.lines,
-      ) }
+      );
+    }
 
 pub returns-else-put_both : goal.returns-else-put_both
 returns-else-put_both c = record { result_value = found_off _ _ _ _ _ _ c.put_both.ensures.value c.if-put_both.false; lines_held = (λ h. cc, refl) }

@@ -1,10 +1,8 @@
 -- `clear_aside::search_on` meets its contract. The invariant: the hows from `how` on decide; the room is as long. Assumes nothing.
-use Prim.Native.Nat.{◌-◌, ◌≤◌, ◌<◌}
-use mathlib.Core.Path.{◌≡◌, refl, sym, ap, ◌∙◌}
+use Prim.Native.Nat.{◌<◌}
+use mathlib.Core.Path.{refl, sym, ap, ◌∙◌}
 use native.Mathlib.Omega.{arith}
-use lib.ListN.{length}
 use Rattle.reason_check.specs.Told.{ground}
-use Rattle.drawn_aside.specs.Found.{found_by, edge_first, least_from}
 use Rattle.clear_aside.proofs.Hows.{how_on, how_clear, how_enclosed, how_end, kept_clear, kept_edge, kept_enclosed}
 use Rattle.clear_aside.proofs.search_on.Goals as goal
 use Rattle.clear_aside.proofs.search_on.Goals.{In-loop-how}
@@ -24,8 +22,7 @@ returns-in-Clear c =
 
 pub loop-how-preserved : goal.loop-how-preserved
 loop-how-preserved c =
-    let told = ap ground c.in-Edge.is in
-    (
+    let told = ap ground c.in-Edge.is in (
       omega arith,
       c.loop-how.invariant.1 ∙ how_on _ _ _ _ (before_last (up-In-loop-how _ _ _ _ _ _ c.before.before.before.before.before.before)) c.search_by.ensures.result_value told,
       c.search_by.ensures.lines_held.1 ∙ c.loop-how.invariant.2,

@@ -1,10 +1,7 @@
-use Prim.Native.Nat.{◌-◌, ◌≤◌, ◌<◌}
-use mathlib.Core.Path.{◌≡◌, refl, sym, ap, ◌∙◌}
-use native.Mathlib.Omega.{arith}
+use Prim.Native.Nat.{◌-◌, ◌≤◌}
+use mathlib.Core.Path.{◌≡◌}
 use lib.ListN.{length}
-use Rattle.reason_check.specs.Told.{ground}
 use Rattle.drawn_aside.specs.Found.{found_by, edge_first, least_from}
-use Rattle.clear_aside.proofs.Hows.{how_on, how_clear, how_enclosed, how_end, kept_clear, kept_edge, kept_enclosed}
 use Rattle.clear_aside.proofs.search_on.Given as goal
 
 abbrev pub invariant-loop-how : goal.invariant-loop-how

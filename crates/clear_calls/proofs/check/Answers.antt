@@ -1,5 +1,4 @@
 -- `clear_calls::check` meets its contract: the fronts of the arrays hold what is lent, moved up. Assumes nothing.
-use Prim.Native.Nat.{◌-◌}
 use mathlib.Core.Path.{sym, ◌∙◌}
 use native.Mathlib.Omega.{arith}
 use lib.IntN.{ℤ}

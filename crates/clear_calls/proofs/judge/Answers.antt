@@ -1,6 +1,5 @@
 -- `clear_calls::judge` meets its contract: by what is found, and where it is clear by the room. Assumes nothing.
 use borrow.Author.Rules.{rules}
-use Prim.Native.Nat.{◌-◌}
 use mathlib.Core.Path.{◌≡◌, sym, ap, ◌∙◌}
 use native.Mathlib.Omega.{arith}
 use lib.IntN.{ℤ}
@@ -25,10 +24,13 @@ lower-requires c =
     let st = c.args.stationary.now in
     let orb = c.args.orbiting.now in
     let is_clear = sym (ap ground c.in-Clear.is) ∙ c.search.ensures.result_value in
-    record { n_in_bounds = (
+    record {
+      n_in_bounds = (
         omega (arith, c.search.auto.lines, c.requires.ring_most),
         fits _ _ c.fit-no.ensures c.passed.ensures c.if-passed.true,
-      ); by_index = all_low st orb _ _ _ c.search.ensures.lines_after is_clear (still_lent st orb c.ranges.dx c.ranges.dy c.requires) (search rules) }
+      );
+      by_index = all_low st orb _ _ _ c.search.ensures.lines_after is_clear (still_lent st orb c.ranges.dx c.ranges.dy c.requires) (search rules);
+    }
 
 pub returns-then-passed : goal.returns-then-passed
 returns-then-passed c =

@@ -1,5 +1,4 @@
 -- `clear_drawn::check_leg` meets its contract: the fronts of the arrays hold the corners at both ends. Assumes nothing.
-use Prim.Native.Nat.{◌-◌}
 use mathlib.Core.Path.{sym}
 use native.Mathlib.Omega.{arith}
 use lib.Seq.{length-take-le}

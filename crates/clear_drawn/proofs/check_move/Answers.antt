@@ -1,6 +1,5 @@
 -- `clear_drawn::check_move` meets its contract: the fronts of the arrays hold the drawing on the grid, and the lines. Assumes
 -- nothing.
-use Prim.Native.Nat.{◌-◌}
 use mathlib.Core.Path.{sym, ap, ◌∙◌}
 use native.Mathlib.Omega.{arith}
 use lib.Seq.{length-take-le}

@@ -1,6 +1,5 @@
 -- `clear_drawn::judge` meets its contract: by what is found, and where it is clear by the room. Assumes nothing.
 use borrow.Author.Rules.{rules}
-use Prim.Native.Nat.{◌-◌}
 use mathlib.Core.Path.{sym, ap, ◌∙◌}
 use native.Mathlib.Omega.{arith}
 use Rattle.clear_calls.proofs.Written.{fits}
@@ -12,10 +11,13 @@ use Rattle.clear_drawn.proofs.judge.Goals as goal
 pub lower-requires : goal.lower-requires
 lower-requires c =
     let is = sym (ap least c.in-Clear.is) ∙ c.search_move.ensures.result_value in
-    let long = c.search_move.auto.lines in record { n_in_bounds = (
+    let long = c.search_move.auto.lines in record {
+      n_in_bounds = (
         omega (arith, long, c.requires.0.ring_most),
         fits _ _ c.fit-no.ensures c.passed.ensures c.if-passed.true,
-      ); by_index = all_low c.requires.0 c.requires.1 _ is _ _ c.search_move.ensures.move_kept c.in-Clear.is _ long (search rules) }
+      );
+      by_index = all_low c.requires.0 c.requires.1 _ is _ _ c.search_move.ensures.move_kept c.in-Clear.is _ long (search rules);
+    }
 
 pub returns-then-passed : goal.returns-then-passed
 returns-then-passed c =

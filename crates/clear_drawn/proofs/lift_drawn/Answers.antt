@@ -1,15 +1,12 @@
 -- `clear_drawn::lift_drawn` meets its contract. The invariant: the first i numbers are on the grid and moved up, and the rest of
 -- the room is as it came. Assumes nothing.
-use Prim.Native.Nat.{◌-◌}
-use mathlib.Core.Path.{◌≡◌, sym, ap, ◌∙◌}
+use mathlib.Core.Path.{sym, ap, ◌∙◌}
 use mathlib.Core.List.{map-map}
-use native.Mathlib.Omega.{arith}
-use lib.ListN.{length}
 use lib.Ieee.{nan}
 use mir.Syntax.{w32}
 use mir.ValLaws.{to_z-of_z}
 use Rattle.ring.specs.Room.{laid}
-use Rattle.ring.proofs.Mapped.{Written, start, turn, done}
+use Rattle.ring.proofs.Mapped.{start, turn, done}
 use Rattle.refusals.proofs.Every.{every_at}
 use Rattle.shifted.specs.Shifted.{up_of}
 use Rattle.to_grid.specs.Grid.{nearest, fits_grid}

@@ -1,7 +1,6 @@
 -- `clear_drawn::spot_in` meets its contract: the numbers of the point are as they stand in the path. Assumes nothing.
 use Prim.Native.Nat.{◌+◌, ◌*◌}
 use mathlib.Core.Path.{◌∙◌}
-use native.Mathlib.Omega.{arith}
 use lib.ListN.{get_or}
 use lib.IntN.{ℤ, pos}
 use Rattle.shifted.specs.Shifted.{spot_of}

@@ -1,11 +1,8 @@
 -- `clear_drawn_path::first_leg` meets its contract. The invariant: the legs from i on decide, deepened by those before. Assumes
 -- nothing.
-use Prim.Native.Nat.{◌-◌, ◌≤◌}
-use mathlib.Core.Path.{◌≡◌, sym, ap, ◌∙◌}
+use mathlib.Core.Path.{sym, ap, ◌∙◌}
 use native.Mathlib.Omega.{arith}
 use Rattle.clear_aside.specs.Aside.{least}
-use Rattle.clear_drawn_path.specs.Path.{deepened, legs_from}
-use Rattle.clear_drawn_path.specs.Lent.{leg_at}
 use Rattle.clear_drawn_path.proofs.Legs.{all_left, leg_on, leg_edge, leg_enclosed, leg_end}
 use Rattle.clear_drawn_path.proofs.first_leg.Goals as goal
 

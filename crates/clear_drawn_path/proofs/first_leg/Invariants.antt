@@ -1,10 +1,7 @@
 use Prim.Native.Nat.{◌-◌, ◌≤◌}
-use mathlib.Core.Path.{◌≡◌, sym, ap, ◌∙◌}
-use native.Mathlib.Omega.{arith}
-use Rattle.clear_aside.specs.Aside.{least}
+use mathlib.Core.Path.{◌≡◌}
 use Rattle.clear_drawn_path.specs.Path.{deepened, legs_from}
 use Rattle.clear_drawn_path.specs.Lent.{leg_at}
-use Rattle.clear_drawn_path.proofs.Legs.{all_left, leg_on, leg_edge, leg_enclosed, leg_end}
 use Rattle.clear_drawn_path.proofs.first_leg.Given as goal
 
 abbrev pub invariant-loop-i : goal.invariant-loop-i

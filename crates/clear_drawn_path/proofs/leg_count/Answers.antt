@@ -1,5 +1,4 @@
 -- `clear_drawn_path::leg_count` meets its contract. Assumes nothing.
-use native.Mathlib.Omega.{arith}
 use Rattle.clear_drawn_path.proofs.leg_count.Goals as goal
 
 pub returns-then-closed : goal.returns-then-closed

@@ -1,9 +1,6 @@
 use Prim.Native.Nat.{◌-◌, ◌≤◌}
-use mathlib.Core.Path.{◌≡◌, sym, ap, ◌∙◌}
-use native.Mathlib.Omega.{arith}
-use Rattle.reason_check.specs.Told.{ground}
+use mathlib.Core.Path.{◌≡◌}
 use Rattle.clear_path.specs.Path.{leg_found, first_leg}
-use Rattle.clear_path.proofs.Legs.{all_left, leg_on, leg_edge, leg_enclosed, leg_end}
 use Rattle.clear_path.proofs.first_leg.Given as goal
 
 abbrev pub invariant-loop-i : goal.invariant-loop-i

@@ -1,5 +1,5 @@
 -- `clear_path::place` meets its contract: the move to the point is as it stands in the path. Assumes nothing.
-use Prim.Native.Nat.{◌+◌, ◌*◌, ◌-◌}
+use Prim.Native.Nat.{◌+◌, ◌*◌}
 use mathlib.Core.Path.{◌∙◌}
 use lib.ListN.{get_or}
 use lib.IntN.{ℤ, pos}

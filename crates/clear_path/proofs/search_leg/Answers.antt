@@ -1,6 +1,5 @@
 -- `clear_path::search_leg` meets its contract: the fronts of the arrays hold the corners at both ends. Assumes nothing.
 use borrow.Author.Rules.{rules}
-use Prim.Native.Nat.{◌-◌}
 use mathlib.Core.Path.{sym}
 use native.Mathlib.Omega.{arith}
 use lib.Seq.{length-take-le}

@@ -1,7 +1,5 @@
 -- `collision::chained_row` meets its contract: `proofs/Passed.antt` has the laws. The invariant: the edges below e are taken. Assumes nothing.
-use Prim.Native.Nat.{◌-◌, ◌≤◌}
 use native.Mathlib.Omega.{arith}
-use Rattle.collision.specs.Row.{pair_at, Onward}
 use Rattle.collision.proofs.Rows.{at_first, and_then, all_of}
 use Rattle.collision.proofs.Passed.{chain_passed, onward_missed}
 use Rattle.collision.proofs.chained_row.Goals as goal

@@ -1,8 +1,5 @@
 use Prim.Native.Nat.{◌-◌, ◌≤◌}
-use native.Mathlib.Omega.{arith}
 use Rattle.collision.specs.Row.{pair_at, Onward}
-use Rattle.collision.proofs.Rows.{at_first, and_then, all_of}
-use Rattle.collision.proofs.Passed.{chain_passed, onward_missed}
 use Rattle.collision.proofs.chained_row.Given as goal
 
 abbrev pub invariant-loop-e : goal.invariant-loop-e

@@ -1,8 +1,6 @@
 -- `collision::plain_scan` meets its contract: `proofs/Rows.antt` has the laws. The invariant: the first v vertices are taken. Assumes nothing.
-use Prim.Native.Nat.{◌-◌, ◌≤◌}
 use native.Mathlib.Omega.{arith}
-use mathlib.Core.Path.{◌≡◌}
-use Rattle.collision.proofs.Rows.{Taken, none_taken, vertex_more, all_taken}
+use Rattle.collision.proofs.Rows.{none_taken, vertex_more, all_taken}
 use Rattle.collision.proofs.plain_scan.Goals as goal
 
 pub loop-v-init : goal.loop-v-init

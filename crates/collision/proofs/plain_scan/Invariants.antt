@@ -1,7 +1,5 @@
 use Prim.Native.Nat.{◌-◌, ◌≤◌}
-use native.Mathlib.Omega.{arith}
-use mathlib.Core.Path.{◌≡◌}
-use Rattle.collision.proofs.Rows.{Taken, none_taken, vertex_more, all_taken}
+use Rattle.collision.proofs.Rows.{Taken}
 use Rattle.collision.proofs.plain_scan.Given as goal
 
 abbrev pub invariant-loop-v : goal.invariant-loop-v

@@ -1,7 +1,6 @@
 -- `collision::row` meets its contract: `proofs/Rows.antt` has the laws. The invariant: the edges below e are taken, and near is the least distance found. Assumes nothing.
-use Prim.Native.Nat.{◌-◌, ◌≤◌}
 use native.Mathlib.Omega.{arith}
-use Rattle.collision.proofs.Rows.{Sofar, none_yet, replaced, stayed, passed, all_of}
+use Rattle.collision.proofs.Rows.{none_yet, replaced, stayed, passed, all_of}
 use Rattle.collision.proofs.row.Goals as goal
 
 pub loop-e-init : goal.loop-e-init

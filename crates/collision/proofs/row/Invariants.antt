@@ -1,6 +1,5 @@
 use Prim.Native.Nat.{◌-◌, ◌≤◌}
-use native.Mathlib.Omega.{arith}
-use Rattle.collision.proofs.Rows.{Sofar, none_yet, replaced, stayed, passed, all_of}
+use Rattle.collision.proofs.Rows.{Sofar}
 use Rattle.collision.proofs.row.Given as goal
 
 abbrev pub invariant-loop-e : goal.invariant-loop-e

@@ -1,13 +1,9 @@
 -- `directions::fill` meets its contract. The invariant: the first i directions are written, and the rest of the room is as it came. Assumes nothing.
 use native.Mathlib.Omega.{arith}
-use Prim.Native.Nat.{◌*◌, ◌-◌, ◌≤◌}
-use mathlib.Core.Path.{◌≡◌, refl, ap, ◌∙◌}
-use mathlib.Core.List.{◌++◌}
-use lib.ListN.{length, drop}
+use mathlib.Core.Path.{refl, ap, ◌∙◌}
 use Rattle.plane.specs.Vector.{normalize_of}
 use Rattle.ring.specs.Points.{points}
 use Rattle.ring.proofs.Points.{put_next, put_all}
-use Rattle.directions.specs.Directions.{direction_at}
 use Rattle.directions.proofs.Filled.{filled}
 use Rattle.directions.proofs.fill.Goals as goal
 

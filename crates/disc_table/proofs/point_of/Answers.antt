@@ -1,5 +1,4 @@
 -- `disc_table::point_of` meets its contract: the constants at 2k and 2k + 1 are right. Assumes nothing.
-use borrow.Author.Rules.{rules}
 use Prim.Native.Nat.{ℕ}
 use mathlib.Core.Path.{◌≡◌}
 use native.Mathlib.Omega.{arith}

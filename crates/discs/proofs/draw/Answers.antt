@@ -1,12 +1,9 @@
 -- `discs::draw` meets its contract. The invariant: the first i vertices are written, and the rest of the room is as it came. Assumes nothing.
 use native.Mathlib.Omega.{arith}
-use Prim.Native.Nat.{◌*◌, ◌-◌, ◌≤◌}
-use mathlib.Core.Path.{◌≡◌, refl}
-use mathlib.Core.List.{◌++◌}
-use lib.ListN.{length, drop}
+use mathlib.Core.Path.{refl}
 use Rattle.ring.specs.Points.{points}
 use Rattle.ring.proofs.Points.{put_next, put_all}
-use Rattle.discs.specs.Disc.{vertex_of, disc_of}
+use Rattle.discs.specs.Disc.{disc_of}
 use Rattle.discs.proofs.draw.Goals as goal
 
 pub loop-i-init : goal.loop-i-init

@@ -1,11 +1,9 @@
-use native.Mathlib.Omega.{arith}
 use Prim.Native.Nat.{◌*◌, ◌-◌, ◌≤◌}
-use mathlib.Core.Path.{◌≡◌, refl}
+use mathlib.Core.Path.{◌≡◌}
 use mathlib.Core.List.{◌++◌}
 use lib.ListN.{length, drop}
 use Rattle.ring.specs.Points.{points}
-use Rattle.ring.proofs.Points.{put_next, put_all}
-use Rattle.discs.specs.Disc.{vertex_of, disc_of}
+use Rattle.discs.specs.Disc.{vertex_of}
 use Rattle.discs.proofs.draw.Given as goal
 
 abbrev pub invariant-loop-i : goal.invariant-loop-i

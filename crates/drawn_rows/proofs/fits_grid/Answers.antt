@@ -20,10 +20,13 @@ returns-then-not-are_within-3 c =
     (sym c.are_within-3.ensures ∙ not-true _ (ap not c.if-not-are_within-3.true))
 
 pub is_placed-requires : goal.is_placed-requires
-is_placed-requires c = record { le_units = c.requires; orbiting_value = (
-        sym c.are_within-2.ensures ∙ not-false _ (ap not c.if-not-are_within-2.false),
-        sym c.are_within-3.ensures ∙ not-false _ (ap not c.if-not-are_within-3.false),
-      ) }
+is_placed-requires c = record {
+  le_units = c.requires;
+  orbiting_value = (
+    sym c.are_within-2.ensures ∙ not-false _ (ap not c.if-not-are_within-2.false),
+    sym c.are_within-3.ensures ∙ not-false _ (ap not c.if-not-are_within-3.false),
+  );
+}
 
 pub returns : goal.returns
 returns c =

@@ -1,11 +1,10 @@
 -- `drawn_rows::is_placed` meets its contract. The invariant: the points from i on decide. Assumes nothing.
-use Prim.Native.Nat.{◌+◌, ◌*◌, ◌-◌, ◌≤◌}
+use Prim.Native.Nat.{◌+◌, ◌*◌}
 use mathlib.Core.Path.{◌≡◌, sym, ◌∙◌}
 use native.Mathlib.Omega.{arith}
 use lib.Seq.{length-take-le}
 use mir.Syntax.{w32}
 use mir.ValLaws.{to_z-of_z}
-use Rattle.ring.specs.Each.{each}
 use Rattle.ring.proofs.Each.{each_on, each_off, each_end}
 use Rattle.refusals.proofs.Every.{every_at}
 use Rattle.clear_path.specs.Rows.{is_placed}

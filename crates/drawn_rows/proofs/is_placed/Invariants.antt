@@ -1,17 +1,8 @@
-use Prim.Native.Nat.{◌+◌, ◌*◌, ◌-◌, ◌≤◌}
-use mathlib.Core.Path.{◌≡◌, sym, ◌∙◌}
-use native.Mathlib.Omega.{arith}
-use lib.Seq.{length-take-le}
-use mir.Syntax.{w32}
-use mir.ValLaws.{to_z-of_z}
+use Prim.Native.Nat.{◌-◌, ◌≤◌}
+use mathlib.Core.Path.{◌≡◌}
 use Rattle.ring.specs.Each.{each}
-use Rattle.ring.proofs.Each.{each_on, each_off, each_end}
-use Rattle.refusals.proofs.Every.{every_at}
 use Rattle.clear_path.specs.Rows.{is_placed}
-use Rattle.clear_path.proofs.Placed.{all_left}
-use Rattle.to_grid.specs.Grid.{fits_grid}
 use Rattle.drawn_rows.specs.Rows.{grid_of}
-use Rattle.drawn_rows.proofs.Placed.{placed_is}
 use Rattle.drawn_rows.proofs.is_placed.Given as goal
 
 abbrev pub invariant-loop-i : goal.invariant-loop-i

@@ -1,9 +1,7 @@
 -- `frames::frame_of` meets its contract: the bounds are around the edges before i, and a is the start of the edge i. Assumes nothing.
-use Prim.Native.Nat.{◌-◌, ◌<◌}
-use mathlib.Core.Path.{◌≡◌, ap, ◌∙◌}
+use mathlib.Core.Path.{ap, ◌∙◌}
 use native.Mathlib.Omega.{arith}
 use Rattle.ring.specs.Ring.{point_at}
-use Rattle.frames.specs.Frame.{Around}
 use Rattle.frames.proofs.Widened.{none_yet, one_more, next_start}
 use Rattle.frames.proofs.frame_of.Goals as goal
 

@@ -1,9 +1,7 @@
 use Prim.Native.Nat.{◌-◌, ◌<◌}
-use mathlib.Core.Path.{◌≡◌, ap, ◌∙◌}
-use native.Mathlib.Omega.{arith}
+use mathlib.Core.Path.{◌≡◌}
 use Rattle.ring.specs.Ring.{point_at}
 use Rattle.frames.specs.Frame.{Around}
-use Rattle.frames.proofs.Widened.{none_yet, one_more, next_start}
 use Rattle.frames.proofs.frame_of.Given as goal
 
 abbrev pub invariant-loop-i : goal.invariant-loop-i

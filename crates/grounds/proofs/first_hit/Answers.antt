@@ -1,7 +1,5 @@
 -- `grounds::first_hit` meets its contract: `proofs/Missed.antt` has the laws. The invariant: the edges below e are missed. Assumes nothing.
-use Prim.Native.Nat.{◌-◌, ◌≤◌}
 use native.Mathlib.Omega.{arith}
-use Rattle.collision.specs.Chained.{MissesTo}
 use Rattle.grounds.proofs.Missed.{none_missed, more_missed, one_missed}
 use Rattle.grounds.proofs.first_hit.Goals as goal
 

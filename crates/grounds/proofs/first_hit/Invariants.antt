@@ -1,7 +1,5 @@
 use Prim.Native.Nat.{◌-◌, ◌≤◌}
-use native.Mathlib.Omega.{arith}
 use Rattle.collision.specs.Chained.{MissesTo}
-use Rattle.grounds.proofs.Missed.{none_missed, more_missed, one_missed}
 use Rattle.grounds.proofs.first_hit.Given as goal
 
 abbrev pub invariant-loop-e : goal.invariant-loop-e

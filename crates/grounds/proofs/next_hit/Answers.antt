@@ -1,7 +1,6 @@
 -- `grounds::next_hit` meets its contract: `proofs/Missed.antt` has the laws. The invariant: the edges below e are missed. Assumes nothing.
-use Prim.Native.Nat.{◌-◌, ◌≤◌}
 use native.Mathlib.Omega.{arith}
-use Rattle.collision.specs.Chained.{MissesTo, Ready}
+use Rattle.collision.specs.Chained.{Ready}
 use Rattle.collision.proofs.Passed.{chain_passed}
 use Rattle.grounds.proofs.Missed.{none_missed, more_missed}
 use Rattle.grounds.proofs.next_hit.Goals as goal

@@ -1,8 +1,5 @@
 use Prim.Native.Nat.{◌-◌, ◌≤◌}
-use native.Mathlib.Omega.{arith}
-use Rattle.collision.specs.Chained.{MissesTo, Ready}
-use Rattle.collision.proofs.Passed.{chain_passed}
-use Rattle.grounds.proofs.Missed.{none_missed, more_missed}
+use Rattle.collision.specs.Chained.{MissesTo}
 use Rattle.grounds.proofs.next_hit.Given as goal
 
 abbrev pub invariant-loop-e : goal.invariant-loop-e

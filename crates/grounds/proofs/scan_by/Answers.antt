@@ -1,12 +1,11 @@
 -- `grounds::scan_by` meets its contract: `proofs/Passed.antt` has the laws. The invariant: the first v vertices are noted, and the next one against its first e edges. Assumes nothing.
-use Prim.Native.Nat.{◌+◌, ◌*◌, ◌-◌, ◌≤◌}
+use Prim.Native.Nat.{◌*◌}
 use native.Mathlib.Omega.{arith}
-use mathlib.Core.Path.{◌≡◌, refl}
+use mathlib.Core.Path.{refl}
 use Rattle.grounds.specs.Scan.{pairs_most, AtMost}
-use Rattle.grounds.specs.declared.Tally.{Tally}
 use Rattle.grounds.proofs.Counts.{missed}
 use Rattle.grounds.proofs.Noted.{kept_new, kept_best, fields}
-use Rattle.grounds.proofs.Passed.{Sofar, from_none, next_pair, next_vertex, all_pairs, small, fewer}
+use Rattle.grounds.proofs.Passed.{from_none, next_pair, next_vertex, all_pairs, small, fewer}
 use Rattle.grounds.proofs.scan_by.Goals as goal
 use Rattle.grounds.proofs.scan_by.Goals.{At-loop-v}
 use Rattle.grounds.proofs.scan_by.Lts.View.{up-At-loop-v}
@@ -43,43 +42,40 @@ loop-v-smaller-then-is_nearer c =
     omega (arith, c.next_hit-met.ensures.not_before, c.if-k-m.true)
 
 pub loop-v-preserved-then-is_nearer : goal.loop-v-preserved-then-is_nearer
-loop-v-preserved-then-is_nearer c =
-    (
-      c.loop-v.invariant.0,
-      omega (arith, c.if-k-m.true),
-      λ z. absurd (omega (arith, z, c.loop-v-test.true)),
-      next_pair _ _ _ _ _ _ _ c.loop-v.invariant.3 c.point_at.ensures c.next_hit-met.ensures c.if-k-m.true c.in-At.is
-          (fields _ _ _ _ _ _ c.pair-new.ensures (kept_new _ _ c.is_nearer.ensures c.if-is_nearer.true) c.others_after-others.ensures c.one_more-near.ensures c.one_more-between.ensures c.in_between.ensures
-          c.one_more-far.ensures c.too_far.ensures),
-    )
+loop-v-preserved-then-is_nearer c = (
+  c.loop-v.invariant.0,
+  omega (arith, c.if-k-m.true),
+  λ z. absurd (omega (arith, z, c.loop-v-test.true)),
+  next_pair _ _ _ _ _ _ _ c.loop-v.invariant.3 c.point_at.ensures c.next_hit-met.ensures c.if-k-m.true c.in-At.is
+      (fields _ _ _ _ _ _ c.pair-new.ensures (kept_new _ _ c.is_nearer.ensures c.if-is_nearer.true) c.others_after-others.ensures c.one_more-near.ensures c.one_more-between.ensures c.in_between.ensures
+      c.one_more-far.ensures c.too_far.ensures),
+)
 
 pub loop-v-smaller-else-is_nearer : goal.loop-v-smaller-else-is_nearer
 loop-v-smaller-else-is_nearer c =
     omega (arith, c.next_hit-met.ensures.not_before, c.if-k-m.true)
 
 pub loop-v-preserved-else-is_nearer : goal.loop-v-preserved-else-is_nearer
-loop-v-preserved-else-is_nearer c =
-    (
-      c.loop-v.invariant.0,
-      omega (arith, c.if-k-m.true),
-      λ z. absurd (omega (arith, z, c.loop-v-test.true)),
-      next_pair _ _ _ _ _ _ _ c.loop-v.invariant.3 c.point_at.ensures c.next_hit-met.ensures c.if-k-m.true c.in-At.is
-          (fields _ _ _ _ _ _ c.pair-new.ensures (kept_best _ _ c.is_nearer.ensures c.if-is_nearer.false) c.others_after-others.ensures c.one_more-near.ensures c.one_more-between.ensures c.in_between.ensures
-          c.one_more-far.ensures c.too_far.ensures),
-    )
+loop-v-preserved-else-is_nearer c = (
+  c.loop-v.invariant.0,
+  omega (arith, c.if-k-m.true),
+  λ z. absurd (omega (arith, z, c.loop-v-test.true)),
+  next_pair _ _ _ _ _ _ _ c.loop-v.invariant.3 c.point_at.ensures c.next_hit-met.ensures c.if-k-m.true c.in-At.is
+      (fields _ _ _ _ _ _ c.pair-new.ensures (kept_best _ _ c.is_nearer.ensures c.if-is_nearer.false) c.others_after-others.ensures c.one_more-near.ensures c.one_more-between.ensures c.in_between.ensures
+      c.one_more-far.ensures c.too_far.ensures),
+)
 
 pub loop-v-smaller-in_default : goal.loop-v-smaller-in_default
 loop-v-smaller-in_default c =
     omega (arith, c.next_hit-met.ensures.not_before, c.if-k-m.true)
 
 pub loop-v-preserved-in_default : goal.loop-v-preserved-in_default
-loop-v-preserved-in_default c =
-    (
-      c.loop-v.invariant.0,
-      omega (arith, c.if-k-m.true),
-      λ z. absurd (omega (arith, z, c.loop-v-test.true)),
-      next_pair _ _ _ _ _ _ _ c.loop-v.invariant.3 c.point_at.ensures c.next_hit-met.ensures c.if-k-m.true c.in_default.is (missed _ _ _ _ _),
-    )
+loop-v-preserved-in_default c = (
+  c.loop-v.invariant.0,
+  omega (arith, c.if-k-m.true),
+  λ z. absurd (omega (arith, z, c.loop-v-test.true)),
+  next_pair _ _ _ _ _ _ _ c.loop-v.invariant.3 c.point_at.ensures c.next_hit-met.ensures c.if-k-m.true c.in_default.is (missed _ _ _ _ _),
+)
 
 pub loop-v-smaller : goal.loop-v-smaller
 loop-v-smaller c = fewer _ _ _ _ c.loop-v-test.true

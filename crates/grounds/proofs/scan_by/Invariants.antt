@@ -1,11 +1,6 @@
 use Prim.Native.Nat.{◌+◌, ◌*◌, ◌-◌, ◌≤◌}
-use native.Mathlib.Omega.{arith}
-use mathlib.Core.Path.{◌≡◌, refl}
-use Rattle.grounds.specs.Scan.{pairs_most, AtMost}
-use Rattle.grounds.specs.declared.Tally.{Tally}
-use Rattle.grounds.proofs.Counts.{missed}
-use Rattle.grounds.proofs.Noted.{kept_new, kept_best, fields}
-use Rattle.grounds.proofs.Passed.{Sofar, from_none, next_pair, next_vertex, all_pairs, small, fewer}
+use mathlib.Core.Path.{◌≡◌}
+use Rattle.grounds.proofs.Passed.{Sofar}
 use Rattle.grounds.proofs.scan_by.Given as goal
 
 abbrev pub invariant-loop-v : goal.invariant-loop-v

@@ -1,7 +1,5 @@
 -- `inspection::lay` meets its contract: `proofs/Laying.antt` has the invariant; the measure is what is left of the places. Assumes nothing.
-use native.Mathlib.Omega.{arith}
-use Prim.Native.Nat.{◌-◌}
-use Rattle.inspection.proofs.Laying.{Laying, begin, turn, done}
+use Rattle.inspection.proofs.Laying.{begin, turn, done}
 use Rattle.inspection.proofs.lay.Goals as goal
 
 pub loop-i-init : goal.loop-i-init

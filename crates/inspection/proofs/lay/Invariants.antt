@@ -1,6 +1,5 @@
-use native.Mathlib.Omega.{arith}
 use Prim.Native.Nat.{◌-◌}
-use Rattle.inspection.proofs.Laying.{Laying, begin, turn, done}
+use Rattle.inspection.proofs.Laying.{Laying}
 use Rattle.inspection.proofs.lay.Given as goal
 
 abbrev pub invariant-loop-i : goal.invariant-loop-i

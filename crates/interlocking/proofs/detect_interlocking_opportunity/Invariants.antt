@@ -1,12 +1,6 @@
-use native.Mathlib.Omega.{arith}
 use Prim.Native.Nat.{◌-◌, ◌≤◌}
-use mathlib.Core.Path.{◌≡◌, sym, ◌∙◌}
-use mathlib.Core.List.{List}
-use lib.Ieee.{Float}
-use Rattle.plane.specs.declared.Point.{Point}
-use Rattle.ring.specs.Ring.{count}
-use Rattle.interlocking.specs.Interlocking.{least_of, candidate_of, first_found, interlock_of}
-use Rattle.interlocking.proofs.Search.{found_on, found_here, found_none}
+use mathlib.Core.Path.{◌≡◌}
+use Rattle.interlocking.specs.Interlocking.{candidate_of, first_found, interlock_of}
 use Rattle.interlocking.proofs.detect_interlocking_opportunity.Given as goal
 
 abbrev pub invariant-loop-i : goal.invariant-loop-i

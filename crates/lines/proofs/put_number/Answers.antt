@@ -1,5 +1,4 @@
 -- `lines::put_number` meets its contract: three texts, one after the other. Assumes nothing.
-use borrow.Author.Rules.{rules}
 use Rattle.print.proofs.Puts.{then}
 use Rattle.lines.proofs.put_number.Goals as goal
 

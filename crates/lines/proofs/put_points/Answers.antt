@@ -1,8 +1,7 @@
 -- `lines::put_points` meets its contract. The loop's invariant: the lines of the first i points follow what the room held. Assumes nothing.
-use Prim.Native.Nat.{ℕ, ◌+◌, ◌*◌, ◌-◌, ◌≤◌}
+use Prim.Native.Nat.{ℕ}
 use mathlib.Core.Path.{◌≡◌, refl, ap, subst, ◌∙◌}
 use native.Mathlib.Omega.{arith}
-use lib.ListN.{length}
 use lib.Ieee.{binary64, to_bits}
 use Rattle.plane.specs.declared.Point.{Point}
 use Rattle.print.specs.Text.{Put}

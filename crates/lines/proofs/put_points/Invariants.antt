@@ -1,12 +1,8 @@
-use Prim.Native.Nat.{ℕ, ◌+◌, ◌*◌, ◌-◌, ◌≤◌}
-use mathlib.Core.Path.{◌≡◌, refl, ap, subst, ◌∙◌}
-use native.Mathlib.Omega.{arith}
+use Prim.Native.Nat.{◌+◌, ◌*◌, ◌-◌, ◌≤◌}
+use mathlib.Core.Path.{◌≡◌}
 use lib.ListN.{length}
-use lib.Ieee.{binary64, to_bits}
-use Rattle.plane.specs.declared.Point.{Point}
 use Rattle.print.specs.Text.{Put}
 use Rattle.lines.specs.Lines.{point_lines}
-use Rattle.lines.proofs.Points.{no_point, point_more}
 use Rattle.lines.proofs.put_points.Given as goal
 
 abbrev pub invariant-loop-i : goal.invariant-loop-i

@@ -1,6 +1,5 @@
 -- `mending::trail` meets its contract: `proofs/Trailing.antt` has the invariant; the measure is what is left of the ring. Assumes nothing.
-use native.Mathlib.Omega.{arith}
-use Rattle.mending.proofs.Trailing.{Trail, start, back, stopped, done}
+use Rattle.mending.proofs.Trailing.{start, back, stopped, done}
 use Rattle.mending.proofs.trail.Goals as goal
 
 pub loop-end-init : goal.loop-end-init

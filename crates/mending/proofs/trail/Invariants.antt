@@ -1,5 +1,4 @@
-use native.Mathlib.Omega.{arith}
-use Rattle.mending.proofs.Trailing.{Trail, start, back, stopped, done}
+use Rattle.mending.proofs.Trailing.{Trail}
 use Rattle.mending.proofs.trail.Given as goal
 
 abbrev pub invariant-loop-end : goal.invariant-loop-end

@@ -1,11 +1,9 @@
 -- `number_bytes::put` meets its contract. The loop's invariant: with the bytes of what is left of the number stored from at + i on, the room is what
 -- was asked for. Assumes nothing.
-use Prim.Native.Nat.{◌+◌, ◌-◌, ◌%◌, ◌≤◌}
-use mathlib.Core.Path.{◌≡◌, refl, sym, ◌∙◌}
+use Prim.Native.Nat.{◌+◌, ◌%◌}
+use mathlib.Core.Path.{refl, sym, ◌∙◌}
 use native.Mathlib.Omega.{arith}
-use lib.ListN.{length, length-set}
-use lib.Seq.{sets}
-use Rattle.number_bytes.specs.Bytes.{bytes_of}
+use lib.ListN.{length-set}
 use Rattle.number_bytes.proofs.Puts.{put_start, put_on, put_end}
 use Rattle.number_bytes.proofs.put.Goals as goal
 

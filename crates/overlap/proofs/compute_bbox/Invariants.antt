@@ -1,8 +1,6 @@
-use native.Mathlib.Omega.{arith}
 use Prim.Native.Nat.{◌-◌, ◌≤◌}
 use mathlib.Core.Path.{◌≡◌}
 use Rattle.overlap.specs.Extent.{extent_to, x_at, y_at}
-use Rattle.overlap.proofs.Fold.{none_yet, x_more, y_more, box_all}
 use Rattle.overlap.proofs.compute_bbox.Given as goal
 
 abbrev pub invariant-loop-i : goal.invariant-loop-i

@@ -1,8 +1,7 @@
 -- `overlap::project_polygon_on_axis` meets its contract. The invariant: the extent is that of the first i vertices. Assumes nothing.
 use native.Mathlib.Omega.{arith}
-use Prim.Native.Nat.{◌-◌, ◌≤◌}
-use mathlib.Core.Path.{◌≡◌, ap, ◌∙◌}
-use Rattle.overlap.specs.Extent.{extent_to, dot_at, shadow_of}
+use mathlib.Core.Path.{ap, ◌∙◌}
+use Rattle.overlap.specs.Extent.{extent_to, shadow_of}
 use Rattle.overlap.proofs.Fold.{none_yet, dot_more}
 use Rattle.overlap.proofs.project_polygon_on_axis.Goals as goal
 

@@ -1,8 +1,6 @@
-use native.Mathlib.Omega.{arith}
 use Prim.Native.Nat.{◌-◌, ◌≤◌}
-use mathlib.Core.Path.{◌≡◌, ap, ◌∙◌}
-use Rattle.overlap.specs.Extent.{extent_to, dot_at, shadow_of}
-use Rattle.overlap.proofs.Fold.{none_yet, dot_more}
+use mathlib.Core.Path.{◌≡◌}
+use Rattle.overlap.specs.Extent.{extent_to, dot_at}
 use Rattle.overlap.proofs.project_polygon_on_axis.Given as goal
 
 abbrev pub invariant-loop-i : goal.invariant-loop-i

@@ -1,9 +1,8 @@
 -- `path_check::path_fault` meets its contract. The invariant: the points from i on decide, and the room is as long as it was. Assumes nothing.
 use native.Mathlib.Omega.{arith}
-use Prim.Native.Nat.{◌-◌, ◌≤◌}
+use Prim.Native.Nat.{◌-◌}
 use mathlib.Core.Path.{◌≡◌, refl, sym, ◌∙◌}
 use mathlib.Core.List.{List}
-use lib.ListN.{length}
 use lib.Ieee.{Float}
 use Rattle.ring.specs.Ring.{count}
 use Rattle.path_check.specs.Path.{fault_at, first_fault, path_fault}

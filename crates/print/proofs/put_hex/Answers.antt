@@ -1,6 +1,5 @@
 -- `print::put_hex` meets its contract. Assumes nothing.
 use mathlib.Core.Path.{refl}
-use native.Mathlib.Omega.{arith}
 use Rattle.print.proofs.Puts.{digits_put}
 use Rattle.print.proofs.put_hex.Goals as goal
 

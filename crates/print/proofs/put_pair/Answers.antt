@@ -1,5 +1,4 @@
 -- `print::put_pair` meets its contract: four texts one after the other. Assumes nothing.
-use borrow.Author.Rules.{rules}
 use native.Mathlib.Omega.{arith}
 use Rattle.print.proofs.Puts.{then}
 use Rattle.print.proofs.put_pair.Goals as goal

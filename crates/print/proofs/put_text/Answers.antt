@@ -1,9 +1,7 @@
 -- `print::put_text` meets its contract. The loop's invariant: the first i bytes of the text follow what the room held. Assumes nothing.
-use Prim.Native.Nat.{◌+◌, ◌-◌, ◌≤◌}
-use mathlib.Core.Path.{◌≡◌, refl, ◌∙◌}
-use mathlib.Core.List.{◌++◌}
+use mathlib.Core.Path.{refl}
 use native.Mathlib.Omega.{arith}
-use lib.ListN.{length, take, length-set}
+use lib.ListN.{length-set}
 use Rattle.print.proofs.Puts.{nothing, byte_more, byte_all}
 use Rattle.print.proofs.put_text.Goals as goal
 

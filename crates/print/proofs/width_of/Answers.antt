@@ -1,8 +1,6 @@
 -- `print::width_of` meets its contract. The loop's invariant: the digits counted and those of what is left are the width. Assumes nothing.
-use Prim.Native.Nat.{◌+◌, ◌-◌, ◌≤◌}
-use mathlib.Core.Path.{◌≡◌, sym, ◌∙◌}
+use mathlib.Core.Path.{sym, ◌∙◌}
 use native.Mathlib.Omega.{arith}
-use Rattle.print.specs.Digits.{up_to, width}
 use Rattle.print.proofs.Widths.{stop, last, more}
 use Rattle.print.proofs.width_of.Goals as goal
 

@@ -1,8 +1,6 @@
 use Prim.Native.Nat.{◌+◌, ◌-◌, ◌≤◌}
-use mathlib.Core.Path.{◌≡◌, sym, ◌∙◌}
-use native.Mathlib.Omega.{arith}
+use mathlib.Core.Path.{◌≡◌}
 use Rattle.print.specs.Digits.{up_to, width}
-use Rattle.print.proofs.Widths.{stop, last, more}
 use Rattle.print.proofs.width_of.Given as goal
 
 abbrev pub invariant-loop-w : goal.invariant-loop-w

@@ -1,9 +1,8 @@
 -- `put_aside::lay` meets its contract. The invariant: the first i corners are written, and the rest of the room is as it came.
 -- Assumes nothing.
 use native.Mathlib.Omega.{arith}
-use Prim.Native.Nat.{◌-◌}
 use Rattle.put_aside.proofs.Leasts.{small_at}
-use Rattle.put_aside.proofs.Laying.{Laid, lay_start, lay_turn, lay_end}
+use Rattle.put_aside.proofs.Laying.{lay_start, lay_turn, lay_end}
 use Rattle.put_aside.proofs.lay.Goals as goal
 
 pub loop-i-init : goal.loop-i-init

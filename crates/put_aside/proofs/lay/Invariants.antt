@@ -1,7 +1,5 @@
-use native.Mathlib.Omega.{arith}
 use Prim.Native.Nat.{◌-◌}
-use Rattle.put_aside.proofs.Leasts.{small_at}
-use Rattle.put_aside.proofs.Laying.{Laid, lay_start, lay_turn, lay_end}
+use Rattle.put_aside.proofs.Laying.{Laid}
 use Rattle.put_aside.proofs.lay.Given as goal
 
 abbrev pub invariant-loop-i : goal.invariant-loop-i

@@ -1,11 +1,11 @@
 -- `put_aside::middle_of` meets its contract. The invariant: the least and the greatest of the first i corners. Assumes nothing.
 use native.Mathlib.Omega.{arith}
-use Prim.Native.Nat.{◌-◌, ◌/◌, ◌≤◌}
+use Prim.Native.Nat.{◌/◌}
 use mathlib.Core.Path.{◌≡◌, ap, ◌∙◌}
 use lib.ListN.{length}
 use Rattle.shifted.specs.Shifted.{spot_at}
 use Rattle.put_aside.specs.Middle.{level}
-use Rattle.put_aside.proofs.Leasts.{Between, start, turn, done, small_at}
+use Rattle.put_aside.proofs.Leasts.{start, turn, done, small_at}
 use Rattle.put_aside.proofs.middle_of.Goals as goal
 
 pub level-low-requires : goal.level-low-requires

@@ -1,10 +1,7 @@
-use native.Mathlib.Omega.{arith}
-use Prim.Native.Nat.{◌-◌, ◌/◌, ◌≤◌}
-use mathlib.Core.Path.{◌≡◌, ap, ◌∙◌}
-use lib.ListN.{length}
+use Prim.Native.Nat.{◌-◌, ◌≤◌}
 use Rattle.shifted.specs.Shifted.{spot_at}
 use Rattle.put_aside.specs.Middle.{level}
-use Rattle.put_aside.proofs.Leasts.{Between, start, turn, done, small_at}
+use Rattle.put_aside.proofs.Leasts.{Between}
 use Rattle.put_aside.proofs.middle_of.Given as goal
 
 abbrev pub invariant-loop-i : goal.invariant-loop-i

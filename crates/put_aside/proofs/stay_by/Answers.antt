@@ -1,11 +1,9 @@
 -- `put_aside::stay_by` meets its contract. The invariant: the corners from i on decide. Assumes nothing.
 use mathlib.Core.Bool.{not}
-use native.Mathlib.Omega.{arith}
-use Prim.Native.Nat.{◌-◌}
 use mathlib.Core.Path.{ap, sym}
 use borrow.Author.Tests.{not-true, not-false}
 use Rattle.put_aside.proofs.Leasts.{small_at}
-use Rattle.put_aside.proofs.Laying.{Rest, rest_start, rest_off, rest_turn, rest_end}
+use Rattle.put_aside.proofs.Laying.{rest_start, rest_off, rest_turn, rest_end}
 use Rattle.put_aside.proofs.stay_by.Goals as goal
 
 pub loop-i-init : goal.loop-i-init

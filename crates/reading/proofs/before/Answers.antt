@@ -1,12 +1,12 @@
 -- `reading::before` meets its contract. The loop's invariant: what is left of the two readings, from coordinate j on, decides.
 -- Assumes nothing.
-use Prim.Native.Nat.{ℕ, ◌-◌, ◌≤◌, ◌<◌}
+use Prim.Native.Nat.{ℕ, ◌<◌}
 use mathlib.Core.Path.{◌≡◌, refl, sym, ◌∙◌}
 use mathlib.Core.List.{List}
 use native.Mathlib.Omega.{arith}
 use lib.Ieee.{Float}
-use lib.ListN.{length, get_or, drop}
-use Rattle.reading.specs.Reading.{ord, flat, less, earlier, choice}
+use lib.ListN.{length, get_or}
+use Rattle.reading.specs.Reading.{ord, flat, choice}
 use Rattle.reading.specs.Lent.{ring_of}
 use Rattle.reading.proofs.Places.{length_choice, left_lower, left_higher, left_equal, left_none}
 use Rattle.reading.proofs.before.Goals as goal
@@ -41,23 +41,26 @@ loop-j-init c = ((omega arith), refl)
 
 pub returns-then-u-v : goal.returns-then-u-v
 returns-then-u-v c =
+    let here = up-After-key_at-v _ _ _ _ _ _ c.before.before in
     let u = c.key_at-u.ensures in
     let v = c.key_at-v.ensures in
-    sym ((l (up-After-key_at-v _ _ _ _ _ _ c.before.before)).loop-j.invariant.1 ∙ left_lower (p (up-After-key_at-v _ _ _ _ _ _ c.before.before)) (q (up-After-key_at-v _ _ _ _ _ _ c.before.before)) (l (up-After-key_at-v _ _ _ _ _ _ c.before.before)).loop-j.j (in_first (up-After-key_at-v _ _ _ _ _ _ c.before.before)) (in_second (up-After-key_at-v _ _ _ _ _ _ c.before.before)) (omega (arith, c.if-u-v.true)))
+    sym ((l here).loop-j.invariant.1 ∙ left_lower (p here) (q here) (l here).loop-j.j (in_first here) (in_second here) (omega (arith, c.if-u-v.true)))
 
 pub returns-then-v-u : goal.returns-then-v-u
 returns-then-v-u c =
+    let here = up-After-key_at-v _ _ _ _ _ _ c.before.before.before in
     let u = c.key_at-u.ensures in
     let v = c.key_at-v.ensures in
-    sym ((l (up-After-key_at-v _ _ _ _ _ _ c.before.before.before)).loop-j.invariant.1 ∙ left_higher (p (up-After-key_at-v _ _ _ _ _ _ c.before.before.before)) (q (up-After-key_at-v _ _ _ _ _ _ c.before.before.before)) (l (up-After-key_at-v _ _ _ _ _ _ c.before.before.before)).loop-j.j (in_first (up-After-key_at-v _ _ _ _ _ _ c.before.before.before)) (in_second (up-After-key_at-v _ _ _ _ _ _ c.before.before.before)) (omega (arith, c.if-v-u.true)))
+    sym ((l here).loop-j.invariant.1 ∙ left_higher (p here) (q here) (l here).loop-j.j (in_first here) (in_second here) (omega (arith, c.if-v-u.true)))
 
 pub loop-j-preserved : goal.loop-j-preserved
 loop-j-preserved c =
+    let here = up-After-key_at-v _ _ _ _ _ _ c.before.before.before in
     let u = c.key_at-u.ensures in
     let v = c.key_at-v.ensures in
-    let j = (l (up-After-key_at-v _ _ _ _ _ _ c.before.before.before)).loop-j.j in
-    let e : ord (get_or (p (up-After-key_at-v _ _ _ _ _ _ c.before.before.before)) j 0) ≡ ord (get_or (q (up-After-key_at-v _ _ _ _ _ _ c.before.before.before)) j 0) = omega (arith, c.if-v-u.false, c.if-u-v.false) in
-    ((omega arith), (l (up-After-key_at-v _ _ _ _ _ _ c.before.before.before)).loop-j.invariant.1 ∙ left_equal (p (up-After-key_at-v _ _ _ _ _ _ c.before.before.before)) (q (up-After-key_at-v _ _ _ _ _ _ c.before.before.before)) j (in_first (up-After-key_at-v _ _ _ _ _ _ c.before.before.before)) (in_second (up-After-key_at-v _ _ _ _ _ _ c.before.before.before)) e)
+    let j = (l here).loop-j.j in
+    let e : ord (get_or (p here) j 0) ≡ ord (get_or (q here) j 0) = omega (arith, c.if-v-u.false, c.if-u-v.false) in
+    ((omega arith), (l here).loop-j.invariant.1 ∙ left_equal (p here) (q here) j (in_first here) (in_second here) e)
 
 pub returns : goal.returns
 returns c =

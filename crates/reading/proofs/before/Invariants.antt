@@ -1,12 +1,8 @@
-use Prim.Native.Nat.{ℕ, ◌-◌, ◌≤◌, ◌<◌}
-use mathlib.Core.Path.{◌≡◌, refl, sym, ◌∙◌}
-use mathlib.Core.List.{List}
-use native.Mathlib.Omega.{arith}
-use lib.Ieee.{Float}
-use lib.ListN.{length, get_or, drop}
-use Rattle.reading.specs.Reading.{ord, flat, less, earlier, choice}
+use Prim.Native.Nat.{◌-◌, ◌≤◌}
+use mathlib.Core.Path.{◌≡◌}
+use lib.ListN.{length, drop}
+use Rattle.reading.specs.Reading.{flat, less, earlier, choice}
 use Rattle.reading.specs.Lent.{ring_of}
-use Rattle.reading.proofs.Places.{length_choice, left_lower, left_higher, left_equal, left_none}
 use Rattle.reading.proofs.before.Given as goal
 
 abbrev pub invariant-loop-j : goal.invariant-loop-j

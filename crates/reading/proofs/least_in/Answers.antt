@@ -77,14 +77,18 @@ pub overflow_add-b : goal.overflow_add-b
 overflow_add-b c = b_fits (up-After-settle-back _ _ _ _ c.before.before.before)
 
 pub before-requires : goal.before-requires
-before-requires c = record { lent = ((s (up-After-settle-back _ _ _ _ c.before.before.before)).requires.lent, c.fill.ensures); a_in_bounds = (b_low (up-After-settle-back _ _ _ _ c.before.before.before), i_low (up-After-settle-back _ _ _ _ c.before.before.before)) }
+before-requires c =
+    let here = up-After-settle-back _ _ _ _ c.before.before.before in
+    record { lent = ((s here).requires.lent, c.fill.ensures); a_in_bounds = (b_low here, i_low here) }
 
 pub returns-then-before : goal.returns-then-before
 returns-then-before c =
+    let here = up-After-settle-back _ _ _ _ c.before.before.before.before.before in
     let e = sym c.before-2.ensures ∙ c.if-before.true in
-    (all_back (r (up-After-settle-back _ _ _ _ c.before.before.before.before.before)) (some (up-After-settle-back _ _ _ _ c.before.before.before.before.before)) (n (up-After-settle-back _ _ _ _ c.before.before.before.before.before)) (i (up-After-settle-back _ _ _ _ c.before.before.before.before.before)) (j (up-After-settle-back _ _ _ _ c.before.before.before.before.before)) (p (up-After-settle-back _ _ _ _ c.before.before.before.before.before)) (q (up-After-settle-back _ _ _ _ c.before.before.before.before.before)) (half (up-After-settle-back _ _ _ _ c.before.before.before.before.before)) (onward (up-After-settle-back _ _ _ _ c.before.before.before.before.before)) (back (up-After-settle-back _ _ _ _ c.before.before.before.before.before)) e, b_low (up-After-settle-back _ _ _ _ c.before.before.before.before.before))
+    (all_back (r here) (some here) (n here) (i here) (j here) (p here) (q here) (half here) (onward here) (back here) e, b_low here)
 
 pub returns-else-before : goal.returns-else-before
 returns-else-before c =
+    let here = up-After-settle-back _ _ _ _ c.before.before.before.before.before in
     let e = sym c.before-2.ensures ∙ c.if-before.false in
-    (all_on (r (up-After-settle-back _ _ _ _ c.before.before.before.before.before)) (some (up-After-settle-back _ _ _ _ c.before.before.before.before.before)) (n (up-After-settle-back _ _ _ _ c.before.before.before.before.before)) (i (up-After-settle-back _ _ _ _ c.before.before.before.before.before)) (j (up-After-settle-back _ _ _ _ c.before.before.before.before.before)) (p (up-After-settle-back _ _ _ _ c.before.before.before.before.before)) (q (up-After-settle-back _ _ _ _ c.before.before.before.before.before)) (half (up-After-settle-back _ _ _ _ c.before.before.before.before.before)) (onward (up-After-settle-back _ _ _ _ c.before.before.before.before.before)) (back (up-After-settle-back _ _ _ _ c.before.before.before.before.before)) e, i_low (up-After-settle-back _ _ _ _ c.before.before.before.before.before))
+    (all_on (r here) (some here) (n here) (i here) (j here) (p here) (q here) (half here) (onward here) (back here) e, i_low here)

@@ -14,7 +14,7 @@ use Rattle.reading.specs.Reading.{Vertex}
 use Rattle.reading.specs.Lent.{ring_of}
 use Rattle.reading.specs.Starts.{number_of, along, Settled}
 use Rattle.reading.proofs.Places.{length_ringOf}
-use Rattle.reading.proofs.Pushing.{Open, open_start, settled_same, settled_past}
+use Rattle.reading.proofs.Pushing.{open_start, settled_same, settled_past}
 use Rattle.reading.proofs.Step.{Stepped, step}
 use Rattle.reading.proofs.Ways.{round, read_at, start_low}
 use Rattle.reading.proofs.settle.Goals as goal
@@ -127,15 +127,20 @@ pub returns-then-s-ring : goal.returns-then-s-ring
 returns-then-s-ring c = same_end (up-At-loop-s _ _ _ _ _ _ c.before.before.before.before.before) c.if-s-ring.true
 
 pub key_at-u-requires : goal.key_at-u-requires
-key_at-u-requires c = record { lent = (st (l (up-Else-s-ring _ _ _ _ _ _ c.before.before))).requires.lent; c_in_bounds = ((omega (arith, c.number.ensures.1, vertices_of (l (up-Else-s-ring _ _ _ _ _ _ c.before.before)))), short (up-Else-s-ring _ _ _ _ _ _ c.before.before)) }
+key_at-u-requires c =
+    let here = up-Else-s-ring _ _ _ _ _ _ c.before.before in
+    record { lent = (st (l here)).requires.lent; c_in_bounds = ((omega (arith, c.number.ensures.1, vertices_of (l here))), short here) }
 
 pub key_at-v-requires : goal.key_at-v-requires
-key_at-v-requires c = record { lent = (st (l (up-Else-s-ring _ _ _ _ _ _ c.before.before.before.before))).requires.lent; c_in_bounds = ((omega (arith, c.number-in-loop-s.ensures.1, vertices_of (l (up-Else-s-ring _ _ _ _ _ _ c.before.before.before.before)))), short (up-Else-s-ring _ _ _ _ _ _ c.before.before.before.before)) }
+key_at-v-requires c =
+    let here = up-Else-s-ring _ _ _ _ _ _ c.before.before.before.before in
+    record { lent = (st (l here)).requires.lent; c_in_bounds = ((omega (arith, c.number-in-loop-s.ensures.1, vertices_of (l here))), short here) }
 
 pub pushed-s-requires : goal.pushed-s-requires
 pushed-s-requires c =
-    let h = vertices_of (l (up-Else-s-ring _ _ _ _ _ _ c.before.before.before.before.before)) in
-    ((omega (arith, first_low (up-Else-s-ring _ _ _ _ _ _ c.before.before.before.before.before), most (up-Else-s-ring _ _ _ _ _ _ c.before.before.before.before.before))), (omega (arith, second_low (up-Else-s-ring _ _ _ _ _ _ c.before.before.before.before.before), most (up-Else-s-ring _ _ _ _ _ _ c.before.before.before.before.before))), (omega (arith, short (up-Else-s-ring _ _ _ _ _ _ c.before.before.before.before.before), most (up-Else-s-ring _ _ _ _ _ _ c.before.before.before.before.before))))
+    let here = up-Else-s-ring _ _ _ _ _ _ c.before.before.before.before.before in
+    let h = vertices_of (l here) in
+    ((omega (arith, first_low here, most here)), (omega (arith, second_low here, most here)), (omega (arith, short here, most here)))
 
 pub loop-s-smaller : goal.loop-s-smaller
 loop-s-smaller c = left_falls _ _ _ (stepped c).on (in_reach c)
@@ -145,12 +150,14 @@ loop-s-preserved c = (stepped c).still
 
 pub overflow_add-result : goal.overflow_add-result
 overflow_add-result c =
-    let h = half (up-At-loop-s _ _ _ _ _ _ c.before.before.before.before) in
-    let m = (st (up-At-loop-s _ _ _ _ _ _ c.before.before.before.before)).requires.lent.0.most in
-    let i = start_low (r (up-At-loop-s _ _ _ _ _ _ c.before.before.before.before)) (some (up-At-loop-s _ _ _ _ _ _ c.before.before.before.before)) (s (up-At-loop-s _ _ _ _ _ _ c.before.before.before.before)).first ((s (up-At-loop-s _ _ _ _ _ _ c.before.before.before.before)).first + length (r (up-At-loop-s _ _ _ _ _ _ c.before.before.before.before))) (b (up-At-loop-s _ _ _ _ _ _ c.before.before.before.before)) (past_end (up-At-loop-s _ _ _ _ _ _ c.before.before.before.before) c.loop-s-test.false) in
-    sum_fits (s (up-At-loop-s _ _ _ _ _ _ c.before.before.before.before)).first (length (xs (up-At-loop-s _ _ _ _ _ _ c.before.before.before.before)) / 2) (omega arith) (omega arith)
+    let here = up-At-loop-s _ _ _ _ _ _ c.before.before.before.before in
+    let h = half here in
+    let m = (st here).requires.lent.0.most in
+    let i = start_low (r here) (some here) (s here).first ((s here).first + length (r here)) (b here) (past_end here c.loop-s-test.false) in
+    sum_fits (s here).first (length (xs here) / 2) (omega arith) (omega arith)
 
 pub returns : goal.returns
 returns c =
-    subst (λ (n : ℕ). Settled (along (r (up-At-loop-s _ _ _ _ _ _ c.before.before.before.before)) (b (up-At-loop-s _ _ _ _ _ _ c.before.before.before.before))) (length (r (up-At-loop-s _ _ _ _ _ _ c.before.before.before.before))) (s (up-At-loop-s _ _ _ _ _ _ c.before.before.before.before)).first ((s (up-At-loop-s _ _ _ _ _ _ c.before.before.before.before)).first + n)) (sym (half (up-At-loop-s _ _ _ _ _ _ c.before.before.before.before)))
-    (past_end (up-At-loop-s _ _ _ _ _ _ c.before.before.before.before) c.loop-s-test.false)
+    let here = up-At-loop-s _ _ _ _ _ _ c.before.before.before.before in
+    subst (λ (n : ℕ). Settled (along (r here) (b here)) (length (r here)) (s here).first ((s here).first + n)) (sym (half here))
+    (past_end here c.loop-s-test.false)

@@ -1,9 +1,5 @@
 -- `reason_check::balanced` meets its contract. The invariant: the marks of the first j edges are counted. Assumes nothing.
-use Prim.Native.Nat.{◌-◌, ◌/◌}
-use native.Mathlib.Omega.{arith}
-use lib.ListN.{length}
-use Rattle.reasons.specs.Check.{corner, line_from, line_to}
-use Rattle.reason_check.proofs.Marks.{Counted, start, turn, done}
+use Rattle.reason_check.proofs.Marks.{start, turn, done}
 use Rattle.reason_check.proofs.Corners.{first_end, second_end}
 use Rattle.reason_check.proofs.balanced.Goals as goal
 

@@ -1,9 +1,7 @@
 use Prim.Native.Nat.{◌-◌, ◌/◌}
-use native.Mathlib.Omega.{arith}
 use lib.ListN.{length}
 use Rattle.reasons.specs.Check.{corner, line_from, line_to}
-use Rattle.reason_check.proofs.Marks.{Counted, start, turn, done}
-use Rattle.reason_check.proofs.Corners.{first_end, second_end}
+use Rattle.reason_check.proofs.Marks.{Counted}
 use Rattle.reason_check.proofs.balanced.Given as goal
 
 abbrev pub invariant-loop-j : goal.invariant-loop-j

@@ -1,7 +1,5 @@
 -- `reason_check::check` meets its contract. The invariant: the edges from j on decide. Assumes nothing.
-use Prim.Native.Nat.{◌-◌}
-use native.Mathlib.Omega.{arith}
-use Rattle.reason_check.proofs.Edges.{Edges, start, turn, stop, all_clear, all_enclosed}
+use Rattle.reason_check.proofs.Edges.{start, turn, stop, all_clear, all_enclosed}
 use Rattle.reason_check.proofs.check.Goals as goal
 
 pub loop-j-init : goal.loop-j-init

@@ -1,6 +1,5 @@
 use Prim.Native.Nat.{◌-◌}
-use native.Mathlib.Omega.{arith}
-use Rattle.reason_check.proofs.Edges.{Edges, start, turn, stop, all_clear, all_enclosed}
+use Rattle.reason_check.proofs.Edges.{Edges}
 use Rattle.reason_check.proofs.check.Given as goal
 
 abbrev pub invariant-loop-j : goal.invariant-loop-j

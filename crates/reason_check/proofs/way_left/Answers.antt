@@ -1,25 +1,22 @@
 -- `reason_check::way_left` meets its contract. The invariant: the corners from i on decide. Assumes nothing.
 use mathlib.Core.Bool.{not}
-use Prim.Native.Nat.{◌-◌, ◌/◌}
 use native.Mathlib.Omega.{arith}
 use mathlib.Core.Path.{ap, sym}
-use lib.ListN.{length}
 use borrow.Author.Tests.{not-true, not-false}
 use Rattle.shifted.specs.Shifted.{spot_at}
 use Rattle.reason_check.proofs.Small.{small_at}
-use Rattle.reason_check.proofs.Way.{Rest, start, start_off, end_off, turn, done}
+use Rattle.reason_check.proofs.Way.{start, start_off, end_off, turn, done}
 use Rattle.reason_check.proofs.way_left.Goals as goal
 
 pub loop-i-init : goal.loop-i-init
 loop-i-init c = start _ _ _ _ _
 
 pub left_on-requires : goal.left_on-requires
-left_on-requires c =
-    (
-      c.requires.1,
-      c.requires.2,
-      small_at c.args.a.now c.requires.0.starts_small _ c.loop-i-test.true c.spot_at.ensures,
-    )
+left_on-requires c = (
+  c.requires.1,
+  c.requires.2,
+  small_at c.args.a.now c.requires.0.starts_small _ c.loop-i-test.true c.spot_at.ensures,
+)
 
 pub returns-then-not-left_on : goal.returns-then-not-left_on
 returns-then-not-left_on c =

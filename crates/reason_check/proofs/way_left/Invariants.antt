@@ -1,11 +1,7 @@
 use Prim.Native.Nat.{◌-◌, ◌/◌}
-use native.Mathlib.Omega.{arith}
-use mathlib.Core.Path.{sym}
 use lib.ListN.{length}
-use borrow.Author.Tests.{not-true, not-false}
 use Rattle.shifted.specs.Shifted.{spot_at}
-use Rattle.reason_check.proofs.Small.{small_at}
-use Rattle.reason_check.proofs.Way.{Rest, start, start_off, end_off, turn, done}
+use Rattle.reason_check.proofs.Way.{Rest}
 use Rattle.reason_check.proofs.way_left.Given as goal
 
 abbrev pub invariant-loop-i : goal.invariant-loop-i

@@ -1,10 +1,7 @@
-use Prim.Native.Nat.{◌-◌, ◌/◌, ◌≤◌}
-use native.Mathlib.Omega.{arith}
-use mathlib.Core.Path.{◌≡◌, ap, ◌∙◌}
-use lib.ListN.{length}
+use Prim.Native.Nat.{◌-◌, ◌≤◌}
+use mathlib.Core.Path.{◌≡◌}
 use Rattle.shifted.specs.Shifted.{spot_at}
 use Rattle.reason_search.specs.Lines.{box_low, box_high}
-use Rattle.reason_search.proofs.Boxes.{low_turn, high_turn}
 use Rattle.reason_search.proofs.box_of.Given as goal
 
 abbrev pub invariant-loop-i : goal.invariant-loop-i

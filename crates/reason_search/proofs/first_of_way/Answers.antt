@@ -1,8 +1,6 @@
 -- `reason_search::first_of_way` meets its contract. The invariant: the lines from c on decide. Assumes nothing.
-use Prim.Native.Nat.{◌-◌}
 use native.Mathlib.Omega.{arith}
-use Rattle.reasons.proofs.First.{Rest, start, turn, here, end}
-use Rattle.reason_search.specs.Noted.{way_lines, helpful}
+use Rattle.reasons.proofs.First.{start, turn, here, end}
 use Rattle.reason_search.proofs.first_of_way.Goals as goal
 
 pub loop-c-init : goal.loop-c-init

@@ -1,8 +1,6 @@
 -- `reason_search::first_side` meets its contract. The invariant: the sides from c on decide. Assumes nothing.
-use Prim.Native.Nat.{◌-◌}
 use native.Mathlib.Omega.{arith}
-use Rattle.reasons.proofs.First.{Rest, start, turn, here, end}
-use Rattle.reason_search.specs.Noted.{beside_box}
+use Rattle.reasons.proofs.First.{start, turn, here, end}
 use Rattle.reason_search.proofs.Boxes.{made_small, beside_is}
 use Rattle.reason_search.proofs.first_side.Goals as goal
 

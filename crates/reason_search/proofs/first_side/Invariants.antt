@@ -1,8 +1,6 @@
 use Prim.Native.Nat.{◌-◌}
-use native.Mathlib.Omega.{arith}
-use Rattle.reasons.proofs.First.{Rest, start, turn, here, end}
+use Rattle.reasons.proofs.First.{Rest}
 use Rattle.reason_search.specs.Noted.{beside_box}
-use Rattle.reason_search.proofs.Boxes.{made_small, beside_is}
 use Rattle.reason_search.proofs.first_side.Given as goal
 
 abbrev pub invariant-loop-c : goal.invariant-loop-c

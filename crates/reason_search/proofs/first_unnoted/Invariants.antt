@@ -1,6 +1,5 @@
 use Prim.Native.Nat.{◌-◌}
-use native.Mathlib.Omega.{arith}
-use Rattle.reasons.proofs.First.{Rest, start, turn, here, end}
+use Rattle.reasons.proofs.First.{Rest}
 use Rattle.reason_search.specs.Noted.{way_lines, helpful}
 use Rattle.reason_search.proofs.first_unnoted.Given as goal
 

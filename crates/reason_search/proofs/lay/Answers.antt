@@ -1,15 +1,11 @@
 -- `reason_search::lay` meets its contract. The invariant: the lines of the first j edges stand, the line before is held, and the
 -- edges from j on decide. Assumes nothing.
-use mathlib.Core.Bool.{not}
-use Prim.Native.Nat.{◌-◌}
 use native.Mathlib.Omega.{arith}
 use borrow.Author.Tests.{not-true, not-false}
-use mathlib.Core.Path.{ap, ◌≡◌, refl, ◌∙◌}
-use lib.ListN.{length}
+use mathlib.Core.Path.{refl, ◌∙◌}
 use Rattle.reason_check.proofs.Small.{small_at}
 use Rattle.reason_check.proofs.Corners.{first_end, second_end}
-use Rattle.reason_search.specs.Noted.{Ready}
-use Rattle.reason_search.proofs.Laying.{Laid, start, turn, stop, done, room_is}
+use Rattle.reason_search.proofs.Laying.{start, turn, stop, done, room_is}
 use Rattle.reason_search.proofs.lay.Goals as goal
 
 pub loop-j-init : goal.loop-j-init
@@ -18,14 +14,13 @@ loop-j-init c =
     (start _ _ _ _ p.0 p.2 c.side-l.ensures, p.1, refl)
 
 pub take-k-requires : goal.take-k-requires
-take-k-requires c =
-    (
-      c.loop-j.invariant.1,
-      c.requires.2,
-      small_at c.args.st.now c.requires.0.ring_small _ c.loop-j-test.true c.spot_at-s.ensures,
-      small_at c.args.st.now c.requires.0.ring_small _ c.next.ensures.1 c.spot_at-t.ensures,
-      c.loop-j.invariant.0.held,
-    )
+take-k-requires c = (
+  c.loop-j.invariant.1,
+  c.requires.2,
+  small_at c.args.st.now c.requires.0.ring_small _ c.loop-j-test.true c.spot_at-s.ensures,
+  small_at c.args.st.now c.requires.0.ring_small _ c.next.ensures.1 c.spot_at-t.ensures,
+  c.loop-j.invariant.0.held,
+)
 
 pub shape_of-flags-then-not-k : goal.shape_of-flags-then-not-k
 shape_of-flags-then-not-k c =

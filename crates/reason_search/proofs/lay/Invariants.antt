@@ -1,12 +1,8 @@
 use Prim.Native.Nat.{◌-◌}
-use native.Mathlib.Omega.{arith}
-use borrow.Author.Tests.{not-true, not-false}
-use mathlib.Core.Path.{◌≡◌, refl, ◌∙◌}
+use mathlib.Core.Path.{◌≡◌}
 use lib.ListN.{length}
-use Rattle.reason_check.proofs.Small.{small_at}
-use Rattle.reason_check.proofs.Corners.{first_end, second_end}
 use Rattle.reason_search.specs.Noted.{Ready}
-use Rattle.reason_search.proofs.Laying.{Laid, start, turn, stop, done, room_is}
+use Rattle.reason_search.proofs.Laying.{Laid}
 use Rattle.reason_search.proofs.lay.Given as goal
 
 abbrev pub invariant-loop-j : goal.invariant-loop-j

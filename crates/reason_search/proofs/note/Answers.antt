@@ -1,7 +1,6 @@
 -- `reason_search::note` meets its contract. The invariant: the flags of the first c lines stand. Assumes nothing.
-use Prim.Native.Nat.{◌-◌}
 use native.Mathlib.Omega.{arith}
-use Rattle.reason_search.proofs.Flags.{Flags, start, turn}
+use Rattle.reason_search.proofs.Flags.{start, turn}
 use Rattle.reason_search.proofs.note.Goals as goal
 
 pub loop-c-init : goal.loop-c-init

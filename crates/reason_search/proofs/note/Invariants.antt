@@ -1,6 +1,5 @@
 use Prim.Native.Nat.{◌-◌}
-use native.Mathlib.Omega.{arith}
-use Rattle.reason_search.proofs.Flags.{Flags, start, turn}
+use Rattle.reason_search.proofs.Flags.{Flags}
 use Rattle.reason_search.proofs.note.Given as goal
 
 abbrev pub invariant-loop-c : goal.invariant-loop-c

@@ -18,10 +18,16 @@ returns-then-j-st c =
 
 pub returns-then-balanced : goal.returns-then-balanced
 returns-then-balanced c =
-    let is = c.lay-j.ensures.lines_after in record { result_value = all_clear _ _ _ _ is c.lay-j.ensures.value c.if-j-st.false c.lowest.ensures
-          c.balanced.ensures c.if-balanced.true; lines_after = is }
+    let is = c.lay-j.ensures.lines_after in record {
+      result_value = all_clear _ _ _ _ is c.lay-j.ensures.value c.if-j-st.false c.lowest.ensures
+          c.balanced.ensures c.if-balanced.true;
+      lines_after = is;
+    }
 
 pub returns-else-balanced : goal.returns-else-balanced
 returns-else-balanced c =
-    let is = c.lay-j.ensures.lines_after in record { result_value = all_enclosed _ _ _ _ is c.lay-j.ensures.value c.if-j-st.false c.lowest.ensures
-          c.balanced.ensures c.if-balanced.false; lines_after = is }
+    let is = c.lay-j.ensures.lines_after in record {
+      result_value = all_enclosed _ _ _ _ is c.lay-j.ensures.value c.if-j-st.false c.lowest.ensures
+          c.balanced.ensures c.if-balanced.false;
+      lines_after = is;
+    }

@@ -1,5 +1,4 @@
 -- `reason_search::take_anew` meets its contract: a side of the box, a line of the way, or the edge's own. Assumes nothing.
-use native.Mathlib.Omega.{arith}
 use Rattle.reason_search.proofs.Firsts.{box_fits, anew_side, anew_way, anew_own, anew_last}
 use Rattle.reason_search.proofs.take_anew.Goals as goal
 

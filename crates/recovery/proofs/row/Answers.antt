@@ -1,10 +1,9 @@
 -- `recovery::row` meets its contract. The invariant: the first i edges are taken. Assumes nothing.
 use native.Mathlib.Omega.{arith}
-use Prim.Native.Nat.{◌-◌, ◌≤◌}
-use mathlib.Core.Path.{◌≡◌, refl, ap, ◌∙◌}
+use mathlib.Core.Path.{refl, ap, ◌∙◌}
 use Rattle.laws.specs.FirstBest.{over}
 use Rattle.laws.proofs.FirstBest.{over_turn}
-use Rattle.recovery.specs.Recovery.{closest_on, nearer_point}
+use Rattle.recovery.specs.Recovery.{nearer_point}
 use Rattle.recovery.proofs.row.Goals as goal
 
 pub loop-i-init : goal.loop-i-init

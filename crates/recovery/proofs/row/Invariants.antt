@@ -1,8 +1,6 @@
-use native.Mathlib.Omega.{arith}
 use Prim.Native.Nat.{◌-◌, ◌≤◌}
-use mathlib.Core.Path.{◌≡◌, refl, ap, ◌∙◌}
+use mathlib.Core.Path.{◌≡◌}
 use Rattle.laws.specs.FirstBest.{over}
-use Rattle.laws.proofs.FirstBest.{over_turn}
 use Rattle.recovery.specs.Recovery.{closest_on, nearer_point}
 use Rattle.recovery.proofs.row.Given as goal
 

@@ -1,14 +1,8 @@
-use native.Mathlib.Omega.{arith}
-use Prim.Native.Nat.{ℕ, ◌+◌, ◌-◌, ◌≤◌}
-use mathlib.Core.Path.{◌≡◌, refl, ap, ◌∙◌}
-use mathlib.Core.List.{List}
-use lib.Ieee.{Float, div, of_bits}
-use Rattle.plane.specs.declared.Point.{Point}
-use Rattle.ring.specs.Ring.{count, point_at}
-use Rattle.laws.specs.FirstBest.{over, nest}
-use Rattle.laws.proofs.FirstBest.{nest_turn}
-use Rattle.recovery.specs.Recovery.{closest_on, closest_at, nearer_point, afar, closest_of}
-use Rattle.recovery.specs.declared.Closest.{Closest}
+use Prim.Native.Nat.{◌-◌, ◌≤◌}
+use mathlib.Core.Path.{◌≡◌}
+use Rattle.ring.specs.Ring.{count}
+use Rattle.laws.specs.FirstBest.{nest}
+use Rattle.recovery.specs.Recovery.{closest_at, nearer_point, afar}
 use Rattle.recovery.proofs.scan.Given as goal
 
 abbrev pub invariant-loop-i : goal.invariant-loop-i

@@ -1,7 +1,7 @@
 -- `ring_copies::mirror` meets its contract. `proofs/Turning.antt` has the invariant; the measure is what is left of the ring. Assumes nothing.
 use native.Mathlib.Omega.{arith}
 use lib.ListN.{length-set}
-use Rattle.ring_copies.proofs.Turning.{Turning, start, turn, done}
+use Rattle.ring_copies.proofs.Turning.{start, turn, done}
 use Rattle.ring_copies.proofs.mirror.Goals as goal
 
 pub loop-left-init : goal.loop-left-init

@@ -1,6 +1,4 @@
-use native.Mathlib.Omega.{arith}
-use lib.ListN.{length-set}
-use Rattle.ring_copies.proofs.Turning.{Turning, start, turn, done}
+use Rattle.ring_copies.proofs.Turning.{Turning}
 use Rattle.ring_copies.proofs.mirror.Given as goal
 
 abbrev pub invariant-loop-left : goal.invariant-loop-left

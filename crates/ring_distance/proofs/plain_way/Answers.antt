@@ -1,7 +1,6 @@
 -- `ring_distance::plain_way` meets its contract. The invariant: the first i vertices are taken. Assumes nothing.
 use native.Mathlib.Omega.{arith}
-use Prim.Native.Nat.{◌-◌, ◌≤◌}
-use mathlib.Core.Path.{◌≡◌, refl}
+use mathlib.Core.Path.{refl}
 use Rattle.ring_distance.specs.Squared.{squared_way}
 use Rattle.ring_distance.proofs.Turns.{vertex_taken, at_end}
 use Rattle.ring_distance.proofs.plain_way.Goals as goal

@@ -1,8 +1,6 @@
-use native.Mathlib.Omega.{arith}
 use Prim.Native.Nat.{◌-◌, ◌≤◌}
-use mathlib.Core.Path.{◌≡◌, refl}
+use mathlib.Core.Path.{◌≡◌}
 use Rattle.ring_distance.specs.Squared.{squared_way}
-use Rattle.ring_distance.proofs.Turns.{vertex_taken, at_end}
 use Rattle.ring_distance.proofs.plain_way.Given as goal
 
 abbrev pub invariant-loop-i : goal.invariant-loop-i

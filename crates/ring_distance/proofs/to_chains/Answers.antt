@@ -1,7 +1,6 @@
 -- `ring_distance::to_chains` meets its contract. The invariant: the edges below e are taken, and e begins a chain unless no edge is left. Assumes nothing.
 use native.Mathlib.Omega.{arith}
-use Prim.Native.Nat.{◌-◌, ◌%◌, ◌≤◌, ◌<◌}
-use mathlib.Core.Path.{◌≡◌, refl}
+use mathlib.Core.Path.{refl}
 use Rattle.ring_distance.specs.Squared.{squared_to}
 use Rattle.ring_distance.proofs.Turns.{passed, at_end}
 use Rattle.ring_distance.proofs.to_chains.Goals as goal

@@ -1,8 +1,6 @@
-use native.Mathlib.Omega.{arith}
 use Prim.Native.Nat.{◌-◌, ◌%◌, ◌≤◌, ◌<◌}
-use mathlib.Core.Path.{◌≡◌, refl}
+use mathlib.Core.Path.{◌≡◌}
 use Rattle.ring_distance.specs.Squared.{squared_to}
-use Rattle.ring_distance.proofs.Turns.{passed, at_end}
 use Rattle.ring_distance.proofs.to_chains.Given as goal
 
 abbrev pub invariant-loop-e : goal.invariant-loop-e

@@ -1,10 +1,9 @@
 -- `ring_distance::to_edges` meets its contract. The invariant: the edges below e are taken, and a is the start of the edge e. Assumes nothing.
 use native.Mathlib.Omega.{arith}
-use Prim.Native.Nat.{◌-◌, ◌≤◌, ◌<◌}
-use mathlib.Core.Path.{◌≡◌, ap, ◌∙◌}
+use mathlib.Core.Path.{ap, ◌∙◌}
 use Rattle.ring.specs.Ring.{point_at}
 use Rattle.frames.proofs.Widened.{next_start}
-use Rattle.ring_distance.specs.Squared.{squared_to, Carries}
+use Rattle.ring_distance.specs.Squared.{squared_to}
 use Rattle.ring_distance.proofs.Turns.{none_taken, one_taken, at_end}
 use Rattle.ring_distance.proofs.to_edges.Goals as goal
 

@@ -1,10 +1,7 @@
-use native.Mathlib.Omega.{arith}
 use Prim.Native.Nat.{◌-◌, ◌≤◌, ◌<◌}
-use mathlib.Core.Path.{◌≡◌, ap, ◌∙◌}
+use mathlib.Core.Path.{◌≡◌}
 use Rattle.ring.specs.Ring.{point_at}
-use Rattle.frames.proofs.Widened.{next_start}
-use Rattle.ring_distance.specs.Squared.{squared_to, Carries}
-use Rattle.ring_distance.proofs.Turns.{none_taken, one_taken, at_end}
+use Rattle.ring_distance.specs.Squared.{Carries}
 use Rattle.ring_distance.proofs.to_edges.Given as goal
 
 abbrev pub invariant-loop-e : goal.invariant-loop-e

@@ -1,10 +1,9 @@
 -- `ring_distance::to_ring` meets its contract. The invariant: the first i edges are taken, and the next starts at a. Assumes nothing.
 use native.Mathlib.Omega.{arith}
-use Prim.Native.Nat.{◌-◌, ◌<◌}
-use mathlib.Core.Path.{◌≡◌, sym, ap, ◌∙◌}
+use mathlib.Core.Path.{sym, ap, ◌∙◌}
 use native.Mathlib.Nat.{mod-eq_of_lt}
 use Rattle.ring.specs.Ring.{point_at}
-use Rattle.ring_distance.specs.Squared.{squared_to, Carries}
+use Rattle.ring_distance.specs.Squared.{squared_to}
 use Rattle.ring_distance.proofs.Turns.{none_taken, one_taken, last_taken}
 use Rattle.ring_distance.proofs.to_ring.Goals as goal
 

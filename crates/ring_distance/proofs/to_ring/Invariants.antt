@@ -1,10 +1,7 @@
-use native.Mathlib.Omega.{arith}
 use Prim.Native.Nat.{◌-◌, ◌<◌}
-use mathlib.Core.Path.{◌≡◌, sym, ap, ◌∙◌}
-use native.Mathlib.Nat.{mod-eq_of_lt}
+use mathlib.Core.Path.{◌≡◌}
 use Rattle.ring.specs.Ring.{point_at}
-use Rattle.ring_distance.specs.Squared.{squared_to, Carries}
-use Rattle.ring_distance.proofs.Turns.{none_taken, one_taken, last_taken}
+use Rattle.ring_distance.specs.Squared.{Carries}
 use Rattle.ring_distance.proofs.to_ring.Given as goal
 
 abbrev pub invariant-loop-i : goal.invariant-loop-i

@@ -1,7 +1,7 @@
 -- `ring_printer::put_rings` meets its contract: the ring of each turn lies after the numbers of the rings before it. Assumes nothing.
 use Rattle.std.proofs.Common.{◌≡◌, ℕ, ◌+◌, ◌*◌, ◌≤◌, ◌<◌, true, List, length, get_or, take, drop, refl, ap, subst, ◌∙◌, arith}
 use Rattle.print.specs.Text.{Put}
-use Rattle.refusals.specs.Rings.{vertices_least, vertices_most, total, sized_all}
+use Rattle.refusals.specs.Rings.{total}
 use Rattle.refusals.proofs.Counts.{total_on, sized_here}
 use Rattle.ring_printer.specs.Said.{ring_texts}
 use Rattle.ring_printer.proofs.Rings.{total_parts, no_ring, ring_more, part_is, part_long}

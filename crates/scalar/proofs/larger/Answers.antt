@@ -1,6 +1,4 @@
 -- `scalar::larger` meets its contract: a NaN is passed over, and else the order decides. Assumes nothing.
-use mathlib.Core.Path.{sym, ◌∙◌, subst}
-use mathlib.Core.Bool.{cond}
 use Rattle.scalar.specs.Scalar.{larger_of}
 use Rattle.scalar.proofs.Cases.{first_nan, second_nan, numbers}
 use Rattle.scalar.proofs.larger.Goals as goal

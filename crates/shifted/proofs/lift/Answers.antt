@@ -1,13 +1,10 @@
 -- `shifted::lift` meets its contract. The invariant: the first i numbers are written, and the rest of the room is as it
 -- came. Assumes nothing.
-use Prim.Native.Nat.{◌-◌}
 use mathlib.Core.Path.{ap, ◌∙◌}
-use native.Mathlib.Omega.{arith}
-use lib.ListN.{length}
 use mir.Syntax.{w32}
 use mir.ValLaws.{to_z-of_z}
 use Rattle.shifted.specs.Shifted.{up_of}
-use Rattle.shifted.proofs.Lifted.{Lifted, start, turn, done}
+use Rattle.shifted.proofs.Lifted.{start, turn, done}
 use Rattle.shifted.proofs.lift.Goals as goal
 
 pub loop-i-init : goal.loop-i-init

@@ -1,11 +1,6 @@
-use native.Mathlib.Omega.{arith}
-use Prim.Native.Nat.{ℕ, ◌+◌, ◌-◌, ◌≤◌}
-use mathlib.Core.Path.{◌≡◌, refl, ap, ◌∙◌}
-use mathlib.Core.List.{List}
-use native.Mathlib.Numerals.{add-one}
-use lib.Ieee.{Float}
-use Rattle.scalar.specs.Float.{◌⊕◌}
-use Rattle.signed_area.specs.Area.{term_of, sum_to, area2_of}
+use Prim.Native.Nat.{◌-◌, ◌≤◌}
+use mathlib.Core.Path.{◌≡◌}
+use Rattle.signed_area.specs.Area.{sum_to}
 use Rattle.signed_area.proofs.signed_area2.Given as goal
 
 abbrev pub invariant-loop-i : goal.invariant-loop-i

@@ -1,9 +1,7 @@
 -- `simple_polygon::clear_row` meets its contract. The invariant: the row from j on decides, and the edge j starts at b1. Assumes nothing.
-use native.Mathlib.Omega.{arith}
-use Prim.Native.Nat.{◌-◌}
 use mathlib.Core.Path.{sym, ap, ◌∙◌}
 use Rattle.ring.specs.Ring.{point_at}
-use Rattle.simple_polygon.proofs.Row.{Row, first_edge, next_edge, edge_off, no_more}
+use Rattle.simple_polygon.proofs.Row.{first_edge, next_edge, edge_off, no_more}
 use Rattle.simple_polygon.proofs.clear_row.Goals as goal
 
 pub loop-j-init : goal.loop-j-init

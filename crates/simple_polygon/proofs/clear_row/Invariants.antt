@@ -1,8 +1,5 @@
-use native.Mathlib.Omega.{arith}
 use Prim.Native.Nat.{◌-◌}
-use mathlib.Core.Path.{sym, ap, ◌∙◌}
-use Rattle.ring.specs.Ring.{point_at}
-use Rattle.simple_polygon.proofs.Row.{Row, first_edge, next_edge, edge_off, no_more}
+use Rattle.simple_polygon.proofs.Row.{Row}
 use Rattle.simple_polygon.proofs.clear_row.Given as goal
 
 abbrev pub invariant-loop-j : goal.invariant-loop-j

@@ -1,12 +1,6 @@
-use native.Mathlib.Omega.{arith}
-use mathlib.Core.List.{List}
-use lib.Ieee.{Float}
-use Rattle.ring.specs.Ring.{count}
-use borrow.Author.Tests.{le-leb, lt-leb}
 use Prim.Native.Nat.{◌-◌, ◌≤◌}
-use mathlib.Core.Path.{◌≡◌, refl, sym, ◌∙◌}
+use mathlib.Core.Path.{◌≡◌}
 use Rattle.ring.specs.Each.{each}
-use Rattle.ring.proofs.Each.{each_on, each_off, each_end}
 use Rattle.simple_polygon.specs.Simple.{clear_row, is_simple}
 use Rattle.simple_polygon.proofs.is_simple_polygon.Given as goal
 

@@ -1,8 +1,8 @@
 -- `simplify::gather` meets its contract: `proofs/Survive.antt` has the invariant; the measure is what is left of the list. Assumes nothing.
 use native.Mathlib.Omega.{arith}
-use Prim.Native.Nat.{◌+◌, ◌-◌, ◌≤◌}
+use Prim.Native.Nat.{◌+◌, ◌≤◌}
 use lib.ListN.{length, length-set}
-use Rattle.simplify.proofs.Survive.{Gathering, start, room_left, put, skip, done}
+use Rattle.simplify.proofs.Survive.{start, room_left, put, skip, done}
 use Rattle.simplify.proofs.gather.Goals as goal
 use Rattle.simplify.proofs.gather.Goals.{Then-stays}
 use Rattle.simplify.proofs.gather.Lts.View.{up-Then-stays}

@@ -1,7 +1,5 @@
-use native.Mathlib.Omega.{arith}
-use Prim.Native.Nat.{◌+◌, ◌-◌, ◌≤◌}
-use lib.ListN.{length, length-set}
-use Rattle.simplify.proofs.Survive.{Gathering, start, room_left, put, skip, done}
+use Prim.Native.Nat.{◌-◌}
+use Rattle.simplify.proofs.Survive.{Gathering}
 use Rattle.simplify.proofs.gather.Given as goal
 
 abbrev pub invariant-loop-i : goal.invariant-loop-i

@@ -1,6 +1,5 @@
 -- `simplify::staying` meets its contract. The invariant: so many of the first i points stay. Assumes nothing.
 use native.Mathlib.Omega.{arith}
-use Prim.Native.Nat.{◌*◌, ◌-◌, ◌≤◌}
 use mathlib.Core.Path.{◌≡◌, refl, sym, ap, ◌∙◌}
 use lib.ListN.{length}
 use Rattle.ring.specs.Ring.{count}

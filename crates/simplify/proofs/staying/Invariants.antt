@@ -1,10 +1,7 @@
-use native.Mathlib.Omega.{arith}
 use Prim.Native.Nat.{◌*◌, ◌-◌, ◌≤◌}
-use mathlib.Core.Path.{◌≡◌, refl, sym, ap, ◌∙◌}
+use mathlib.Core.Path.{◌≡◌}
 use lib.ListN.{length}
-use Rattle.ring.specs.Ring.{count}
 use Rattle.simplify.specs.Simplify.{survivors}
-use Rattle.simplify.proofs.Survive.{goes, two_more}
 use Rattle.simplify.proofs.staying.Given as goal
 
 abbrev pub invariant-loop-i : goal.invariant-loop-i

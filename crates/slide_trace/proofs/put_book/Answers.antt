@@ -1,5 +1,5 @@
 -- `slide_trace::put_book` meets its contract: the two rings that the reader hands out, or its refusal. Assumes nothing.
-use Rattle.std.proofs.Common.{ℕ, List, Float, arith}
+use Rattle.std.proofs.Common.{List, Float, arith}
 use Rattle.lines.specs.Lines.{refusal_line}
 use Rattle.print.proofs.Puts.{reads}
 use Rattle.pair_input.proofs.Rings.{pair_read, fault_read, pair_said, fault_said}

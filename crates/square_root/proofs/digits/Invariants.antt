@@ -1,9 +1,6 @@
-use Prim.Native.Nat.{ℕ, zero, suc, ◌-◌, ◌*◌, ◌/◌, ◌%◌, ◌^◌, ◌≤◌, ◌<◌}
-use mathlib.Core.Path.{◌≡◌, refl}
-use native.Mathlib.Omega.{arith}
-use native.Mathlib.Nat.{pow-succ', one-le-pow, zero-lt-suc}
-use Rattle.square_root.specs.Root.{Pair, takes}
-use Rattle.square_root.proofs.Pairs.{Found, next_found, short, done, square}
+use Prim.Native.Nat.{ℕ, ◌*◌, ◌^◌, ◌≤◌}
+use mathlib.Core.Path.{◌≡◌}
+use Rattle.square_root.proofs.Pairs.{Found}
 use Rattle.square_root.proofs.digits.Given as goal
 
 pub record Inv (m root left place : ℕ) : Type 0 where

@@ -1,11 +1,7 @@
 -- `to_grid::are_within` meets its contract. The invariant: what is left of the list decides. Assumes nothing.
-use Prim.Native.Nat.{◌-◌, ◌≤◌}
-use mathlib.Core.Path.{◌≡◌, refl, sym, ◌∙◌}
+use mathlib.Core.Path.{refl, sym, ◌∙◌}
 use native.Mathlib.Omega.{arith}
-use lib.ListN.{length, drop}
-use Rattle.refusals.specs.Bounds.{every}
 use Rattle.refusals.proofs.Every.{every_on, every_off, every_end}
-use Rattle.to_grid.specs.Grid.{fits_grid}
 use Rattle.to_grid.proofs.are_within.Goals as goal
 
 pub loop-i-init : goal.loop-i-init

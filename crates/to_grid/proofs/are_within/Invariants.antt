@@ -1,9 +1,7 @@
 use Prim.Native.Nat.{◌-◌, ◌≤◌}
-use mathlib.Core.Path.{◌≡◌, refl, sym, ◌∙◌}
-use native.Mathlib.Omega.{arith}
+use mathlib.Core.Path.{◌≡◌}
 use lib.ListN.{length, drop}
 use Rattle.refusals.specs.Bounds.{every}
-use Rattle.refusals.proofs.Every.{every_on, every_off, every_end}
 use Rattle.to_grid.specs.Grid.{fits_grid}
 use Rattle.to_grid.proofs.are_within.Given as goal
 

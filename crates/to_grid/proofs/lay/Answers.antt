@@ -1,13 +1,10 @@
 -- `to_grid::lay` meets its contract. The invariant: the first i numbers are on the grid, and the rest of the room is as it came.
 -- Assumes nothing.
-use Prim.Native.Nat.{◌-◌}
 use mathlib.Core.Path.{◌∙◌}
-use native.Mathlib.Omega.{arith}
-use lib.ListN.{length}
 use lib.Ieee.{nan}
 use mir.Syntax.{w32}
 use mir.ValLaws.{to_z-of_z}
-use Rattle.ring.proofs.Mapped.{Written, start, turn, done}
+use Rattle.ring.proofs.Mapped.{start, turn, done}
 use Rattle.refusals.proofs.Every.{every_at}
 use Rattle.to_grid.specs.Grid.{nearest, fits_grid}
 use Rattle.to_grid.proofs.lay.Goals as goal

@@ -3,11 +3,11 @@ use native.Mathlib.Omega.{arith}
 use borrow.Author.Rules.{sfits_of}
 use mir.Syntax.{w64}
 use mir.ValLaws.{to_z-of_z}
-use Prim.Native.Nat.{◌-◌, ◌/◌}
+use Prim.Native.Nat.{◌/◌}
 use mathlib.Core.Path.{ap, ◌∙◌}
 use lib.ListN.{length}
 use Rattle.shifted.specs.Shifted.{spot_at, Small}
-use Rattle.whole_engine.proofs.Sums.{Sums, start, term_most, turn, done}
+use Rattle.whole_engine.proofs.Sums.{start, term_most, turn, done}
 use Rattle.whole_engine.proofs.Within.{small_at}
 use Rattle.whole_engine.proofs.area2.Goals as goal
 use Rattle.whole_engine.proofs.area2.Goals.{After-spot_at-q}
@@ -26,23 +26,30 @@ pub loop-i-init : goal.loop-i-init
 loop-i-init c = start _ _
 
 pub overflow_mul-left : goal.overflow_mul-left
-overflow_mul-left c = omega (arith, term_most (small1 (up-After-spot_at-q _ _ _ _ _ c.before.before.before)).width (small2 (up-After-spot_at-q _ _ _ _ _ c.before.before.before)).height)
+overflow_mul-left c =
+    let here = up-After-spot_at-q _ _ _ _ _ c.before.before.before in
+    omega (arith, term_most (small1 here).width (small2 here).height)
 
 pub overflow_add-left : goal.overflow_add-left
 overflow_add-left c =
-    omega (arith, c.requires.0, c.loop-i.invariant.left_most, c.loop-i.invariant.most, term_most (small1 (up-After-spot_at-q _ _ _ _ _ c.before.before.before)).width (small2 (up-After-spot_at-q _ _ _ _ _ c.before.before.before)).height)
+    let here = up-After-spot_at-q _ _ _ _ _ c.before.before.before in
+    omega (arith, c.requires.0, c.loop-i.invariant.left_most, c.loop-i.invariant.most, term_most (small1 here).width (small2 here).height)
 
 pub overflow_mul-right : goal.overflow_mul-right
-overflow_mul-right c = omega (arith, term_most (small2 (up-After-spot_at-q _ _ _ _ _ c.before.before.before.before.before)).width (small1 (up-After-spot_at-q _ _ _ _ _ c.before.before.before.before.before)).height)
+overflow_mul-right c =
+    let here = up-After-spot_at-q _ _ _ _ _ c.before.before.before.before.before in
+    omega (arith, term_most (small2 here).width (small1 here).height)
 
 pub overflow_add-right : goal.overflow_add-right
 overflow_add-right c =
-    omega (arith, c.requires.0, c.loop-i.invariant.right_most, c.loop-i.invariant.most, term_most (small2 (up-After-spot_at-q _ _ _ _ _ c.before.before.before.before.before)).width (small1 (up-After-spot_at-q _ _ _ _ _ c.before.before.before.before.before)).height)
+    let here = up-After-spot_at-q _ _ _ _ _ c.before.before.before.before.before in
+    omega (arith, c.requires.0, c.loop-i.invariant.right_most, c.loop-i.invariant.most, term_most (small2 here).width (small1 here).height)
 
 pub loop-i-preserved : goal.loop-i-preserved
 loop-i-preserved c =
+    let here = up-After-spot_at-q _ _ _ _ _ c.before.before.before.before.before in
     let list = c.args.list.now in
-    turn (spot_at list) (length list / 2) c.loop-i-test.true c.spot_at-p.ensures (c.spot_at-q.ensures ∙ ap (spot_at list) c.next.ensures.0) (small1 (up-After-spot_at-q _ _ _ _ _ c.before.before.before.before.before)) (small2 (up-After-spot_at-q _ _ _ _ _ c.before.before.before.before.before)) c.loop-i.invariant
+    turn (spot_at list) (length list / 2) c.loop-i-test.true c.spot_at-p.ensures (c.spot_at-q.ensures ∙ ap (spot_at list) c.next.ensures.0) (small1 here) (small2 here) c.loop-i.invariant
 
 pub difference-requires : goal.difference-requires
 difference-requires c =

@@ -1,11 +1,7 @@
 -- `whole_engine::clear_row` meets its contract. The invariant: the row from j on decides, and the edge j starts at b1. Assumes nothing.
-use native.Mathlib.Omega.{arith}
-use Prim.Native.Nat.{◌-◌, ◌/◌}
 use mathlib.Core.Path.{sym, ap, ◌∙◌}
-use lib.ListN.{length}
-use Rattle.plane.specs.Orientation.{turn_number}
 use Rattle.shifted.specs.Shifted.{spot_at, Small}
-use Rattle.whole_engine.proofs.Edges.{Row, first_edge, next_edge, edge_off, no_more}
+use Rattle.whole_engine.proofs.Edges.{first_edge, next_edge, edge_off, no_more}
 use Rattle.whole_engine.proofs.Within.{small_at}
 use Rattle.whole_engine.proofs.clear_row.Goals as goal
 use Rattle.whole_engine.proofs.clear_row.Goals.{After-spot_at-a2, After-spot_at-b2}
@@ -34,13 +30,16 @@ loop-j-init c =
 
 pub turn-d4-requires : goal.turn-d4-requires
 turn-d4-requires c =
-    (small1 (up-After-spot_at-a2 _ _ _ _ _ _ c.before.before.before.before.before.before), small2 (up-After-spot_at-a2 _ _ _ _ _ _ c.before.before.before.before.before.before), small3 c)
+    let here = up-After-spot_at-a2 _ _ _ _ _ _ c.before.before.before.before.before.before in
+    (small1 here, small2 here, small3 c)
 
 pub adjacent-requires : goal.adjacent-requires
 adjacent-requires c = (c.loop-j.invariant.past, c.loop-j-test.true)
 
 pub clear_pair-requires : goal.clear_pair-requires
-clear_pair-requires c = record { small = (small1 (up-After-spot_at-a2 _ _ _ _ _ _ c.before.before.before.before.before.before.before.before), small2 (up-After-spot_at-a2 _ _ _ _ _ _ c.before.before.before.before.before.before.before.before), c.loop-j.invariant.small, small3 (up-After-spot_at-b2 _ _ _ _ _ _ c.before.before.before)); d3_value = (c.loop-j.invariant.side, c.turn-d4.ensures) }
+clear_pair-requires c =
+    let here = up-After-spot_at-a2 _ _ _ _ _ _ c.before.before.before.before.before.before.before.before in
+    record { small = (small1 here, small2 here, c.loop-j.invariant.small, small3 (up-After-spot_at-b2 _ _ _ _ _ _ c.before.before.before)); d3_value = (c.loop-j.invariant.side, c.turn-d4.ensures) }
 
 pub loop-j-preserved : goal.loop-j-preserved
 loop-j-preserved c =

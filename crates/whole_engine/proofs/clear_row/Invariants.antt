@@ -1,11 +1,8 @@
-use native.Mathlib.Omega.{arith}
 use Prim.Native.Nat.{◌-◌, ◌/◌}
-use mathlib.Core.Path.{sym, ap, ◌∙◌}
 use lib.ListN.{length}
 use Rattle.plane.specs.Orientation.{turn_number}
-use Rattle.shifted.specs.Shifted.{spot_at, Small}
-use Rattle.whole_engine.proofs.Edges.{Row, first_edge, next_edge, edge_off, no_more}
-use Rattle.whole_engine.proofs.Within.{small_at}
+use Rattle.shifted.specs.Shifted.{spot_at}
+use Rattle.whole_engine.proofs.Edges.{Row}
 use Rattle.whole_engine.proofs.clear_row.Given as goal
 
 abbrev pub invariant-loop-j : goal.invariant-loop-j

@@ -5,7 +5,6 @@ use Prim.Native.Nat.{ℕ, ◌-◌, ◌≤◌}
 use mathlib.Core.Path.{◌≡◌, sym, ◌∙◌}
 use Rattle.ring.specs.Each.{each}
 use Rattle.ring.proofs.Each.{each_on, each_off, each_end}
-use Rattle.shifted.specs.Shifted.{spot_at}
 use Rattle.shifted.specs.declared.Spot.{Spot}
 use Rattle.whole_rules.specs.Simple.{whole_clear_row, whole_simple}
 use Rattle.whole_engine.proofs.is_simple.Goals as goal

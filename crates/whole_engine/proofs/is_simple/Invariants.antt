@@ -1,11 +1,7 @@
-use native.Mathlib.Omega.{arith}
-use borrow.Author.Tests.{le-leb, lt-leb}
-use Prim.Native.Nat.{ℕ, ◌-◌, ◌≤◌}
-use mathlib.Core.Path.{◌≡◌, sym, ◌∙◌}
+use Prim.Native.Nat.{◌-◌, ◌≤◌}
+use mathlib.Core.Path.{◌≡◌}
 use Rattle.ring.specs.Each.{each}
-use Rattle.ring.proofs.Each.{each_on, each_off, each_end}
 use Rattle.shifted.specs.Shifted.{spot_at}
-use Rattle.shifted.specs.declared.Spot.{Spot}
 use Rattle.whole_rules.specs.Simple.{whole_clear_row, whole_simple}
 use Rattle.whole_engine.proofs.is_simple.Given as goal
 

@@ -1,6 +1,6 @@
 -- `whole_input::are_whole` meets its contract. The invariant: what is left of the list decides. Assumes nothing.
-use Rattle.std.proofs.Common.{◌≡◌, ◌-◌, ◌≤◌, length, drop, sym, refl, ◌∙◌, arith}
-use Rattle.refusals.specs.Bounds.{coordinate, every}
+use Rattle.std.proofs.Common.{sym, refl, ◌∙◌, arith}
+use Rattle.refusals.specs.Bounds.{coordinate}
 use Rattle.refusals.proofs.Every.{every_on, every_off, every_end, every_at}
 use Rattle.whole_input.specs.Whole.{is_whole}
 use Rattle.whole_input.proofs.are_whole.Goals as goal

@@ -1,6 +1,5 @@
-use Rattle.std.proofs.Common.{◌≡◌, ◌-◌, ◌≤◌, length, drop, sym, refl, ◌∙◌, arith}
-use Rattle.refusals.specs.Bounds.{coordinate, every}
-use Rattle.refusals.proofs.Every.{every_on, every_off, every_end, every_at}
+use Rattle.std.proofs.Common.{◌≡◌, ◌-◌, ◌≤◌, length, drop}
+use Rattle.refusals.specs.Bounds.{every}
 use Rattle.whole_input.specs.Whole.{is_whole}
 use Rattle.whole_input.proofs.are_whole.Given as goal
 

@@ -1,5 +1,5 @@
 -- `whole_input::is_whole` meets its contract: the whole part, as a float again. Assumes nothing.
-use Rattle.std.proofs.Common.{ℤ, ap, ◌∙◌, w32, rules}
+use Rattle.std.proofs.Common.{ℤ, ap, ◌∙◌, w32}
 use lib.Ieee.{binary64, eq, of_int}
 use mir.ValLaws.{to_z-of_z}
 use Rattle.whole_input.specs.Whole.{is_whole}

@@ -1,11 +1,11 @@
 -- `whole_input::whole_list` meets its contract. The invariant: the first i whole parts are written, and the rest of the room is
 -- as it came. Assumes nothing.
-use Rattle.std.proofs.Common.{◌-◌, length, ◌∙◌, arith, w32, rules}
+use Rattle.std.proofs.Common.{◌∙◌, w32}
 use lib.Ieee.{nan}
 use mir.ValLaws.{to_z-of_z}
 use Rattle.refusals.specs.Bounds.{coordinate}
 use Rattle.refusals.proofs.Every.{every_at}
-use Rattle.ring.proofs.Mapped.{Written, start, turn, done}
+use Rattle.ring.proofs.Mapped.{start, turn, done}
 use Rattle.whole_input.specs.Whole.{whole_part}
 use Rattle.whole_input.proofs.whole_list.Goals as goal
 

@@ -1,9 +1,5 @@
-use Rattle.std.proofs.Common.{◌-◌, length, ◌∙◌, arith, w32, rules}
-use lib.Ieee.{nan}
-use mir.ValLaws.{to_z-of_z}
-use Rattle.refusals.specs.Bounds.{coordinate}
-use Rattle.refusals.proofs.Every.{every_at}
-use Rattle.ring.proofs.Mapped.{Written, start, turn, done}
+use Rattle.std.proofs.Common.{◌-◌, length}
+use Rattle.ring.proofs.Mapped.{Written}
 use Rattle.whole_input.specs.Whole.{whole_part}
 use Rattle.whole_input.proofs.whole_list.Given as goal
 

@@ -1,17 +1,15 @@
 -- `whole_moves::are_moved_within` meets its contract. The invariant: what is left of the list, moved by d first, decides.
 -- Assumes nothing.
 use mathlib.Core.Bool.{not}
-use Prim.Native.Nat.{◌+◌, ◌-◌}
 use mathlib.Core.Path.{◌≡◌, sym, ap, ◌∙◌}
-use native.Mathlib.Omega.{arith}
-use lib.ListN.{length, get_or}
+use lib.ListN.{get_or}
 use borrow.Author.Tests.{not-true, not-false}
 use mir.Syntax.{w32}
 use mir.Val.{to_z}
 use mir.ValLaws.{to_z-of_z}
 use lib.IntN.{ℤ, pos, ◌+ℤ◌}
 use Rattle.shifted.specs.Shifted.{in_bounds}
-use Rattle.whole_moves.proofs.Turns.{Rest, rest_start, rest_off, rest_turn, rest_end}
+use Rattle.whole_moves.proofs.Turns.{rest_start, rest_off, rest_turn, rest_end}
 use Rattle.whole_moves.proofs.are_moved_within.Goals as goal
 use Rattle.whole_moves.proofs.are_moved_within.Goals.{After-is_moved_within}
 

@@ -1,11 +1,6 @@
-use Prim.Native.Nat.{◌+◌, ◌-◌}
-use mathlib.Core.Path.{ap, ◌∙◌}
-use native.Mathlib.Omega.{arith}
-use lib.ListN.{length, get_or}
-use mir.Syntax.{w32}
-use lib.IntN.{ℤ, pos, ◌+ℤ◌}
-use Rattle.shifted.specs.Shifted.{up_of}
-use Rattle.whole_moves.proofs.Turns.{Lifted, lift_start, lift_turn, lift_end}
+use Prim.Native.Nat.{◌-◌}
+use lib.ListN.{length}
+use Rattle.whole_moves.proofs.Turns.{Lifted}
 use Rattle.whole_moves.proofs.lift_moved.Given as goal
 
 abbrev pub invariant-loop-i : goal.invariant-loop-i

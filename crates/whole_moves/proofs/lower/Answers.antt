@@ -1,8 +1,7 @@
 -- `whole_moves::lower` meets its contract. The invariant: the first i numbers are written, and the rest of the room is as it
 -- came. Assumes nothing.
-use Prim.Native.Nat.{◌-◌}
 use native.Mathlib.Omega.{arith}
-use Rattle.whole_moves.proofs.Lowered.{down_stands, Lowered, start, turn, done}
+use Rattle.whole_moves.proofs.Lowered.{down_stands, start, turn, done}
 use Rattle.whole_moves.proofs.lower.Goals as goal
 
 pub loop-i-init : goal.loop-i-init

@@ -1,6 +1,5 @@
 use Prim.Native.Nat.{◌-◌}
-use native.Mathlib.Omega.{arith}
-use Rattle.whole_moves.proofs.Lowered.{down_stands, Lowered, start, turn, done}
+use Rattle.whole_moves.proofs.Lowered.{Lowered}
 use Rattle.whole_moves.proofs.lower.Given as goal
 
 abbrev pub invariant-loop-i : goal.invariant-loop-i

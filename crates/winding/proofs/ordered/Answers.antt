@@ -1,12 +1,8 @@
 -- `winding::ordered` meets its contract. The invariant: the first i vertices are written, and the rest of the room is as it came. Assumes nothing.
 use native.Mathlib.Omega.{arith}
-use Prim.Native.Nat.{◌*◌, ◌-◌, ◌≤◌}
-use mathlib.Core.Path.{◌≡◌, refl}
-use mathlib.Core.List.{◌++◌}
-use lib.ListN.{length, drop}
+use mathlib.Core.Path.{refl}
 use Rattle.ring.specs.Points.{points}
 use Rattle.ring.proofs.Points.{put_next, put_all}
-use Rattle.winding.specs.Winding.{ordered_vertex}
 use Rattle.winding.proofs.ordered.Goals as goal
 
 pub loop-i-init : goal.loop-i-init

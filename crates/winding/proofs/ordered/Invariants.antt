@@ -1,10 +1,8 @@
-use native.Mathlib.Omega.{arith}
 use Prim.Native.Nat.{◌*◌, ◌-◌, ◌≤◌}
-use mathlib.Core.Path.{◌≡◌, refl}
+use mathlib.Core.Path.{◌≡◌}
 use mathlib.Core.List.{◌++◌}
 use lib.ListN.{length, drop}
 use Rattle.ring.specs.Points.{points}
-use Rattle.ring.proofs.Points.{put_next, put_all}
 use Rattle.winding.specs.Winding.{ordered_vertex}
 use Rattle.winding.proofs.ordered.Given as goal
 

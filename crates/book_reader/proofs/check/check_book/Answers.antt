@@ -80,26 +80,34 @@ check_entries-list-requires c =
 
 pub returns-then-not-passed-2 : goal.returns-then-not-passed-2
 returns-then-not-passed-2 c =
-    listed (up-After-check_entries-list _ _ _ _ c.before.before.before) ∙ sym (past_tail (one (up-After-ring_count-k _ _ _ _ c.before.before.before.before)) ∙ off _ _ (listed (up-After-check_entries-list _ _ _ _ c.before.before.before)) c.passed-2.ensures (not-true c.passed-2.result (ap not c.if-not-passed-2.true)))
+    let here = up-After-check_entries-list _ _ _ _ c.before.before.before in
+    listed here ∙ sym (past_tail (one (up-After-ring_count-k _ _ _ _ c.before.before.before.before)) ∙ off _ _ (listed here) c.passed-2.ensures (not-true c.passed-2.result (ap not c.if-not-passed-2.true)))
 
 pub check_coords-coords-requires : goal.check_coords-coords-requires
 check_coords-coords-requires c =
-    let t = tail (one (up-After-ring_count-k _ _ _ _ c.before.before.before.before)) in
-    ((omega (arith, is_from (up-After-ring_count-k _ _ _ _ c.before.before.before.before), t.sum)), t.high)
+    let here = up-After-ring_count-k _ _ _ _ c.before.before.before.before in
+    let t = tail (one here) in
+    ((omega (arith, is_from here, t.sum)), t.high)
 
 pub returns-then-not-passed-3 : goal.returns-then-not-passed-3
 returns-then-not-passed-3 c =
-    coords_checked (up-After-check_coords-coords _ _ _ _ c.before.before.before) ∙ sym (past_list (up-Else-not-passed-2 _ _ _ _ c.before.before.before.before) ∙ off _ _ (coords_checked (up-After-check_coords-coords _ _ _ _ c.before.before.before)) c.passed-3.ensures (not-true c.passed-3.result (ap not c.if-not-passed-3.true)))
+    let here = up-After-check_coords-coords _ _ _ _ c.before.before.before in
+    coords_checked here ∙ sym (past_list (up-Else-not-passed-2 _ _ _ _ c.before.before.before.before) ∙ off _ _ (coords_checked here) c.passed-3.ensures (not-true c.passed-3.result (ap not c.if-not-passed-3.true)))
 
 pub check_rings-requires : goal.check_rings-requires
 check_rings-requires c =
-    let t = tail (one (up-After-ring_count-k _ _ _ _ c.before.before.before.before.before.before.before)) in record { tail_bytes_value = ((omega (arith, is_from (up-After-ring_count-k _ _ _ _ c.before.before.before.before.before.before.before), is_k (up-After-ring_count-k _ _ _ _ c.before.before.before.before.before.before.before), t.sum)), (omega (arith, is_k (up-After-ring_count-k _ _ _ _ c.before.before.before.before.before.before.before), t.few)), t.high); list_check = (
+    let here = up-After-ring_count-k _ _ _ _ c.before.before.before.before.before.before.before in
+    let t = tail (one here) in record {
+      tail_bytes_value = ((omega (arith, is_from here, is_k here, t.sum)), (omega (arith, is_k here, t.few)), t.high);
+      list_check = (
         ap passed (sym c.check_entries-list.ensures) ∙ sym c.passed-2.ensures ∙ not-false c.passed-2.result (ap not c.if-not-passed-2.false),
         ap passed (sym c.check_coords-coords.ensures) ∙ sym c.passed-3.ensures ∙ not-false c.passed-3.result (ap not c.if-not-passed-3.false),
-      ) }
+      );
+    }
 
 pub returns : goal.returns
 returns c =
+    let here = up-After-ring_count-k _ _ _ _ c.before.before.before.before.before.before.before.before in
     c.check_rings.ensures
-    ∙ ap₂ (λ (m n : ℕ). least_check (counts_in m (drop n (f (up-After-ring_count-k _ _ _ _ c.before.before.before.before.before.before.before.before)))) 0 (f (up-After-ring_count-k _ _ _ _ c.before.before.before.before.before.before.before.before))) (is_k (up-After-ring_count-k _ _ _ _ c.before.before.before.before.before.before.before.before)) (is_from (up-After-ring_count-k _ _ _ _ c.before.before.before.before.before.before.before.before))
+    ∙ ap₂ (λ (m n : ℕ). least_check (counts_in m (drop n (f here))) 0 (f here)) (is_k here) (is_from here)
     ∙ sym (past_list (up-Else-not-passed-2 _ _ _ _ c.before.before.before.before.before) ∙ on _ _ (coords_checked (up-After-check_coords-coords _ _ _ _ c.before.before.before.before)) c.passed-3.ensures (not-false c.passed-3.result (ap not c.if-not-passed-3.false)))

@@ -1,13 +1,13 @@
 -- `book_reader::check::check_coords` meets its contract. The loop's invariant: the check of the coordinates left, from j on, decides. Assumes nothing.
 use mathlib.Core.Bool.{not}
-use Prim.Native.Nat.{ℕ, ◌+◌, ◌*◌, ◌-◌, ◌≤◌}
+use Prim.Native.Nat.{ℕ, ◌+◌, ◌*◌}
 use mathlib.Core.Path.{◌≡◌, sym, ap, ◌∙◌}
 use native.Mathlib.Omega.{arith}
 use borrow.Author.Tests.{not-true, not-false}
 use lib.ListN.{take, drop}
 use Rattle.number_bytes.specs.Bytes.{number_of}
 use Rattle.book_layout.specs.Layout.{coordinate_bytes, coordinate_bits}
-use Rattle.book_layout.specs.Faults.{fault_at, coords_check}
+use Rattle.book_layout.specs.Faults.{fault_at}
 use Rattle.book_reader.proofs.Coords.{coords_start, coord_good, coord_bad, coords_end}
 use Rattle.book_reader.proofs.check.check_coords.Goals as goal
 use Rattle.book_reader.proofs.check.check_coords.Goals.{After-are_coordinate_bits}

@@ -1,12 +1,8 @@
-use Prim.Native.Nat.{ℕ, ◌+◌, ◌*◌, ◌-◌, ◌≤◌}
-use mathlib.Core.Path.{◌≡◌, sym, ap, ◌∙◌}
-use native.Mathlib.Omega.{arith}
-use borrow.Author.Tests.{not-true, not-false}
-use lib.ListN.{take, drop}
-use Rattle.number_bytes.specs.Bytes.{number_of}
-use Rattle.book_layout.specs.Layout.{coordinate_bytes, coordinate_bits}
-use Rattle.book_layout.specs.Faults.{fault_at, coords_check}
-use Rattle.book_reader.proofs.Coords.{coords_start, coord_good, coord_bad, coords_end}
+use Prim.Native.Nat.{◌+◌, ◌*◌, ◌-◌, ◌≤◌}
+use mathlib.Core.Path.{◌≡◌}
+use lib.ListN.{drop}
+use Rattle.book_layout.specs.Layout.{coordinate_bytes}
+use Rattle.book_layout.specs.Faults.{coords_check}
 use Rattle.book_reader.proofs.check.check_coords.Given as goal
 
 abbrev pub invariant-loop-j : goal.invariant-loop-j

@@ -89,15 +89,17 @@ loop-i-init c =
 
 pub returns-then-not-is_right : goal.returns-then-not-is_right
 returns-then-not-is_right c =
+    let here = up-After-is_right _ _ _ _ _ c.before.before.before in
     c.fault.ensures
-    ∙ list_wrong (f (up-After-is_right _ _ _ _ _ c.before.before.before)) (from (up-After-is_right _ _ _ _ _ c.before.before.before)) (k (up-After-is_right _ _ _ _ _ c.before.before.before)) (from (up-After-is_right _ _ _ _ _ c.before.before.before) + entry_bytes * i (up-After-is_right _ _ _ _ _ c.before.before.before))
-    ((l (up-After-is_right _ _ _ _ _ c.before.before.before)).loop-i.invariant.2 ∙ offset_bad (f (up-After-is_right _ _ _ _ _ c.before.before.before)) (from (up-After-is_right _ _ _ _ _ c.before.before.before)) (k (up-After-is_right _ _ _ _ _ c.before.before.before)) (i (up-After-is_right _ _ _ _ _ c.before.before.before)) (before (up-After-is_right _ _ _ _ _ c.before.before.before)) (turn (up-After-is_right _ _ _ _ _ c.before.before.before)) (sym (offset_asked (up-After-is_right _ _ _ _ _ c.before.before.before)) ∙ not-true c.is_right.result (ap not c.if-not-is_right.true)))
+    ∙ list_wrong (f here) (from here) (k here) (from here + entry_bytes * i here)
+    ((l here).loop-i.invariant.2 ∙ offset_bad (f here) (from here) (k here) (i here) (before here) (turn here) (sym (offset_asked here) ∙ not-true c.is_right.result (ap not c.if-not-is_right.true)))
 
 pub returns-then-not-is_right-2 : goal.returns-then-not-is_right-2
 returns-then-not-is_right-2 c =
+    let here = up-After-is_right _ _ _ _ _ c.before.before.before.before.before.before in
     c.fault-then-not-is_right-2.ensures
-    ∙ list_wrong (f (up-After-is_right _ _ _ _ _ c.before.before.before.before.before.before)) (from (up-After-is_right _ _ _ _ _ c.before.before.before.before.before.before)) (k (up-After-is_right _ _ _ _ _ c.before.before.before.before.before.before)) (from (up-After-is_right _ _ _ _ _ c.before.before.before.before.before.before) + entry_bytes * i (up-After-is_right _ _ _ _ _ c.before.before.before.before.before.before) + field_bytes)
-    ((l (up-After-is_right _ _ _ _ _ c.before.before.before.before.before.before)).loop-i.invariant.2 ∙ count_bad (f (up-After-is_right _ _ _ _ _ c.before.before.before.before.before.before)) (from (up-After-is_right _ _ _ _ _ c.before.before.before.before.before.before)) (k (up-After-is_right _ _ _ _ _ c.before.before.before.before.before.before)) (i (up-After-is_right _ _ _ _ _ c.before.before.before.before.before.before)) (before (up-After-is_right _ _ _ _ _ c.before.before.before.before.before.before)) (turn (up-After-is_right _ _ _ _ _ c.before.before.before.before.before.before)) (offset_right (up-Else-not-is_right _ _ _ _ _ c.before.before.before.before.before)) (sym (vertices_asked (up-After-is_right-in-loop-i _ _ _ _ _ c.before.before.before)) ∙ not-true c.is_right-in-loop-i.result (ap not c.if-not-is_right-2.true)))
+    ∙ list_wrong (f here) (from here) (k here) (from here + entry_bytes * i here + field_bytes)
+    ((l here).loop-i.invariant.2 ∙ count_bad (f here) (from here) (k here) (i here) (before here) (turn here) (offset_right (up-Else-not-is_right _ _ _ _ _ c.before.before.before.before.before)) (sym (vertices_asked (up-After-is_right-in-loop-i _ _ _ _ _ c.before.before.before)) ∙ not-true c.is_right-in-loop-i.result (ap not c.if-not-is_right-2.true)))
 
 pub overflow_mul-before : goal.overflow_mul-before
 overflow_mul-before c = omega (arith, is_n c, small c)
@@ -107,21 +109,23 @@ overflow_add-before c = omega (arith, is_n c, small c)
 
 pub loop-i-preserved : goal.loop-i-preserved
 loop-i-preserved c =
-    (
+    let here = up-After-is_right _ _ _ _ _ c.before.before.before.before.before in (
       (omega arith),
-      (omega (arith, is_n c, small c, (l (up-After-is_right _ _ _ _ _ c.before.before.before.before.before)).loop-i.invariant.1)),
-      (l (up-After-is_right _ _ _ _ _ c.before.before.before.before.before)).loop-i.invariant.2
-          ∙ entry_good (f (up-After-is_right _ _ _ _ _ c.before.before.before.before.before)) (from (up-After-is_right _ _ _ _ _ c.before.before.before.before.before)) (k (up-After-is_right _ _ _ _ _ c.before.before.before.before.before)) (i (up-After-is_right _ _ _ _ _ c.before.before.before.before.before)) (before (up-After-is_right _ _ _ _ _ c.before.before.before.before.before)) (turn (up-After-is_right _ _ _ _ _ c.before.before.before.before.before)) (offset_right (up-Else-not-is_right _ _ _ _ _ c.before.before.before.before)) (right c)
-          ∙ ap (λ (j : ℕ). entries_check (k (up-After-is_right _ _ _ _ _ c.before.before.before.before.before) - (i (up-After-is_right _ _ _ _ _ c.before.before.before.before.before) + 1)) (from (up-After-is_right _ _ _ _ _ c.before.before.before.before.before) + entry_bytes * (i (up-After-is_right _ _ _ _ _ c.before.before.before.before.before) + 1)) (before (up-After-is_right _ _ _ _ _ c.before.before.before.before.before) + vertex_bytes * j) (drop (from (up-After-is_right _ _ _ _ _ c.before.before.before.before.before) + entry_bytes * (i (up-After-is_right _ _ _ _ _ c.before.before.before.before.before) + 1)) (f (up-After-is_right _ _ _ _ _ c.before.before.before.before.before)))) (sym (is_n c)),
-      (omega (arith, is_n c, (l (up-After-is_right _ _ _ _ _ c.before.before.before.before.before)).loop-i.invariant.3, total_left (f (up-After-is_right _ _ _ _ _ c.before.before.before.before.before)) (from (up-After-is_right _ _ _ _ _ c.before.before.before.before.before)) (k (up-After-is_right _ _ _ _ _ c.before.before.before.before.before)) (i (up-After-is_right _ _ _ _ _ c.before.before.before.before.before)) (before (up-After-is_right _ _ _ _ _ c.before.before.before.before.before)) (turn (up-After-is_right _ _ _ _ _ c.before.before.before.before.before)))),
+      (omega (arith, is_n c, small c, (l here).loop-i.invariant.1)),
+      (l here).loop-i.invariant.2
+          ∙ entry_good (f here) (from here) (k here) (i here) (before here) (turn here) (offset_right (up-Else-not-is_right _ _ _ _ _ c.before.before.before.before)) (right c)
+          ∙ ap (λ (j : ℕ). entries_check (k here - (i here + 1)) (from here + entry_bytes * (i here + 1)) (before here + vertex_bytes * j) (drop (from here + entry_bytes * (i here + 1)) (f here))) (sym (is_n c)),
+      (omega (arith, is_n c, (l here).loop-i.invariant.3, total_left (f here) (from here) (k here) (i here) (before here) (turn here))),
     )
 
 pub returns-then-before-from : goal.returns-then-before-from
 returns-then-before-from c =
+    let here = up-After-loop-i _ _ _ _ _ c.before.before.before in
     let s = c.args in
-    c.fault-then-before-from.ensures ∙ list_long s.f.now s.from s.k (passed (up-After-loop-i _ _ _ _ _ c.before.before.before)) (λ w. c.if-before-from.true (omega (arith, w, summed (up-After-loop-i _ _ _ _ _ c.before.before.before))))
+    c.fault-then-before-from.ensures ∙ list_long s.f.now s.from s.k (passed here) (λ w. c.if-before-from.true (omega (arith, w, summed here)))
 
 pub returns : goal.returns
 returns c =
+    let here = up-After-loop-i _ _ _ _ _ c.before.before.before in
     let s = c.args in
-    c.none.ensures ∙ list_fine s.f.now s.from s.k (passed (up-After-loop-i _ _ _ _ _ c.before.before.before)) (omega (arith, c.if-before-from.false, summed (up-After-loop-i _ _ _ _ _ c.before.before.before)))
+    c.none.ensures ∙ list_fine s.f.now s.from s.k (passed here) (omega (arith, c.if-before-from.false, summed here))

@@ -87,25 +87,30 @@ is_least_at-requires c =
 
 pub returns-then-not-is_least_at : goal.returns-then-not-is_least_at
 returns-then-not-is_least_at c =
+    let here = up-After-number4-n _ _ _ _ _ _ c.before.before.before.before in
     c.fault.ensures
-    ∙ sym ((l (up-After-number4-n _ _ _ _ _ _ c.before.before.before.before)).loop-i.invariant.1 ∙ least_bad (f (up-After-number4-n _ _ _ _ _ _ c.before.before.before.before)) (from (up-After-number4-n _ _ _ _ _ _ c.before.before.before.before)) (k (up-After-number4-n _ _ _ _ _ _ c.before.before.before.before)) (i (up-After-number4-n _ _ _ _ _ _ c.before.before.before.before)) (at (up-After-number4-n _ _ _ _ _ _ c.before.before.before.before)) (turn (up-After-number4-n _ _ _ _ _ _ c.before.before.before.before)) (sym (asked (up-After-is_least_at _ _ _ _ _ _ c.before.before.before)) ∙ not-true c.is_least_at.result (ap not c.if-not-is_least_at.true)))
+    ∙ sym ((l here).loop-i.invariant.1 ∙ least_bad (f here) (from here) (k here) (i here) (at here) (turn here) (sym (asked (up-After-is_least_at _ _ _ _ _ _ c.before.before.before)) ∙ not-true c.is_least_at.result (ap not c.if-not-is_least_at.true)))
 
 pub overflow_mul-at : goal.overflow_mul-at
-overflow_mul-at c = omega (arith, is_n (up-After-number4-n _ _ _ _ _ _ c.before.before.before), (entry (up-After-number4-n _ _ _ _ _ _ c.before.before.before)).1)
+overflow_mul-at c =
+    let here = up-After-number4-n _ _ _ _ _ _ c.before.before.before in
+    omega (arith, is_n here, (entry here).1)
 
 pub overflow_add-at : goal.overflow_add-at
-overflow_add-at c = omega (arith, is_n (up-After-number4-n _ _ _ _ _ _ c.before.before.before), left (up-After-number4-n _ _ _ _ _ _ c.before.before.before))
+overflow_add-at c =
+    let here = up-After-number4-n _ _ _ _ _ _ c.before.before.before in
+    omega (arith, is_n here, left here)
 
 pub loop-i-preserved : goal.loop-i-preserved
 loop-i-preserved c =
-    (
+    let here = up-After-number4-n _ _ _ _ _ _ c.before.before.before in (
       (omega arith),
-      (l (up-After-number4-n _ _ _ _ _ _ c.before.before.before)).loop-i.invariant.1
-          ∙ least_good (f (up-After-number4-n _ _ _ _ _ _ c.before.before.before)) (from (up-After-number4-n _ _ _ _ _ _ c.before.before.before)) (k (up-After-number4-n _ _ _ _ _ _ c.before.before.before)) (i (up-After-number4-n _ _ _ _ _ _ c.before.before.before)) (at (up-After-number4-n _ _ _ _ _ _ c.before.before.before)) (turn (up-After-number4-n _ _ _ _ _ _ c.before.before.before)) (sym (asked (up-After-is_least_at _ _ _ _ _ _ c.before.before)) ∙ not-false c.is_least_at.result (ap not c.if-not-is_least_at.false))
-          ∙ ap (λ (j : ℕ). least_check (rest (up-After-number4-n _ _ _ _ _ _ c.before.before.before)) (at (up-After-number4-n _ _ _ _ _ _ c.before.before.before) + vertex_bytes * j) (drop (at (up-After-number4-n _ _ _ _ _ _ c.before.before.before) + vertex_bytes * j) (f (up-After-number4-n _ _ _ _ _ _ c.before.before.before)))) (sym (is_n (up-After-number4-n _ _ _ _ _ _ c.before.before.before))),
-      (omega (arith, is_n (up-After-number4-n _ _ _ _ _ _ c.before.before.before), left (up-After-number4-n _ _ _ _ _ _ c.before.before.before))),
-      ap (λ (j : ℕ). passed (entries_check (k (up-After-number4-n _ _ _ _ _ _ c.before.before.before) - (i (up-After-number4-n _ _ _ _ _ _ c.before.before.before) + 1)) (from (up-After-number4-n _ _ _ _ _ _ c.before.before.before) + entry_bytes * (i (up-After-number4-n _ _ _ _ _ _ c.before.before.before) + 1)) (at (up-After-number4-n _ _ _ _ _ _ c.before.before.before) + vertex_bytes * j) (drop (from (up-After-number4-n _ _ _ _ _ _ c.before.before.before) + entry_bytes * (i (up-After-number4-n _ _ _ _ _ _ c.before.before.before) + 1)) (f (up-After-number4-n _ _ _ _ _ _ c.before.before.before))))) (is_n (up-After-number4-n _ _ _ _ _ _ c.before.before.before)) ∙ (entry (up-After-number4-n _ _ _ _ _ _ c.before.before.before)).2,
-      ap (λ (j : ℕ). passed (coords_check (2 * total (rest (up-After-number4-n _ _ _ _ _ _ c.before.before.before))) (at (up-After-number4-n _ _ _ _ _ _ c.before.before.before) + vertex_bytes * j) (drop (at (up-After-number4-n _ _ _ _ _ _ c.before.before.before) + vertex_bytes * j) (f (up-After-number4-n _ _ _ _ _ _ c.before.before.before))))) (is_n (up-After-number4-n _ _ _ _ _ _ c.before.before.before)) ∙ (coords (up-After-number4-n _ _ _ _ _ _ c.before.before.before)).1,
+      (l here).loop-i.invariant.1
+          ∙ least_good (f here) (from here) (k here) (i here) (at here) (turn here) (sym (asked (up-After-is_least_at _ _ _ _ _ _ c.before.before)) ∙ not-false c.is_least_at.result (ap not c.if-not-is_least_at.false))
+          ∙ ap (λ (j : ℕ). least_check (rest here) (at here + vertex_bytes * j) (drop (at here + vertex_bytes * j) (f here))) (sym (is_n here)),
+      (omega (arith, is_n here, left here)),
+      ap (λ (j : ℕ). passed (entries_check (k here - (i here + 1)) (from here + entry_bytes * (i here + 1)) (at here + vertex_bytes * j) (drop (from here + entry_bytes * (i here + 1)) (f here)))) (is_n here) ∙ (entry here).2,
+      ap (λ (j : ℕ). passed (coords_check (2 * total (rest here)) (at here + vertex_bytes * j) (drop (at here + vertex_bytes * j) (f here)))) (is_n here) ∙ (coords here).1,
     )
 
 pub returns : goal.returns

@@ -34,7 +34,9 @@ pub slice_bounds-is_least-end : goal.slice_bounds-is_least-end
 slice_bounds-is_least-end c = sym (long (up-After-load _ _ _ _ c.before.before.before))
 
 pub is_least-requires : goal.is_least-requires
-is_least-requires c = record { lent = lent (up-After-load _ _ _ _ c.before.before.before); ring_nonzero = (omega (arith, long (up-After-load _ _ _ _ c.before.before.before), (s (up-After-load _ _ _ _ c.before.before.before)).requires.n_in_bounds.1)) }
+is_least-requires c =
+    let here = up-After-load _ _ _ _ c.before.before.before in
+    record { lent = lent here; ring_nonzero = (omega (arith, long here, (s here).requires.n_in_bounds.1)) }
 
 pub returns : goal.returns
 returns c = c.is_least.ensures ∙ ap is_least (ring (up-After-load _ _ _ _ c.before.before.before.before))

@@ -1,15 +1,15 @@
 -- `book_reader::load::load` meets its contract. The loop's invariant: with the numbers from j on stored at their place, the room is what was asked for, and
 -- the check passes the coordinates left. Assumes nothing.
-use Prim.Native.Nat.{ℕ, ◌+◌, ◌*◌, ◌-◌, ◌≤◌}
-use mathlib.Core.Path.{◌≡◌, refl, sym, ap, ◌∙◌}
+use Prim.Native.Nat.{ℕ, ◌+◌, ◌*◌, ◌-◌}
+use mathlib.Core.Path.{refl, sym, ap, ◌∙◌}
 use mathlib.Core.List.{List, map}
 use native.Mathlib.Omega.{arith}
-use lib.ListN.{length, drop, set, length-set}
+use lib.ListN.{drop, set, length-set}
 use lib.Seq.{sets}
 use lib.Ieee.{binary64, of_bits}
 use Rattle.refusals.specs.Refusals.{passed}
 use Rattle.book_layout.specs.Layout.{coordinate_bytes, coordinate_bits, coords_in}
-use Rattle.book_layout.specs.Faults.{◌passes, coords_check}
+use Rattle.book_layout.specs.Faults.{coords_check}
 use Rattle.book_reader.proofs.Coords.{coords_start, coord_held, load_start, load_on, load_end}
 use Rattle.book_reader.proofs.Fields.{no_nan}
 use Rattle.book_reader.proofs.load.load.Goals as goal

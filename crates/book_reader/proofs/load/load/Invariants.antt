@@ -1,15 +1,11 @@
-use Prim.Native.Nat.{ℕ, ◌+◌, ◌*◌, ◌-◌, ◌≤◌}
-use mathlib.Core.Path.{◌≡◌, refl, sym, ap, ◌∙◌}
-use mathlib.Core.List.{List, map}
-use native.Mathlib.Omega.{arith}
-use lib.ListN.{length, drop, set, length-set}
+use Prim.Native.Nat.{◌+◌, ◌*◌, ◌-◌, ◌≤◌}
+use mathlib.Core.Path.{◌≡◌}
+use mathlib.Core.List.{map}
+use lib.ListN.{length, drop}
 use lib.Seq.{sets}
 use lib.Ieee.{binary64, of_bits}
-use Rattle.refusals.specs.Refusals.{passed}
-use Rattle.book_layout.specs.Layout.{coordinate_bytes, coordinate_bits, coords_in}
+use Rattle.book_layout.specs.Layout.{coordinate_bytes, coords_in}
 use Rattle.book_layout.specs.Faults.{◌passes, coords_check}
-use Rattle.book_reader.proofs.Coords.{coords_start, coord_held, load_start, load_on, load_end}
-use Rattle.book_reader.proofs.Fields.{no_nan}
 use Rattle.book_reader.proofs.load.load.Given as goal
 
 abbrev pub invariant-loop-j : goal.invariant-loop-j

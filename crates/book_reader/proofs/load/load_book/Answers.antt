@@ -54,24 +54,30 @@ ring_count-k-requires c = omega (arith, (all (up-After-slice_known-3-1 _ _ _ _ c
 
 pub load-requires : goal.load-requires
 load-requires c =
-    let a = all (up-After-slice_known-3-1 _ _ _ _ c.before.before.before.before) in record { m_in_bounds = ((omega (arith, is_m (up-After-ring_count-k _ _ _ _ c.before.before), a.offset)), (omega (arith, is_m (up-After-ring_count-k _ _ _ _ c.before.before), length_numbers (f (up-After-ring_count-k _ _ _ _ c.before.before)), (s (up-After-ring_count-k _ _ _ _ c.before.before)).requires.f_in_bounds.0)), a.long.1); coords_check = ap (λ (m : ℕ). passed (coords_check m 0 (f (up-After-ring_count-k _ _ _ _ c.before.before)))) (is_m (up-After-ring_count-k _ _ _ _ c.before.before)) ∙ a.coords }
+    let here = up-After-ring_count-k _ _ _ _ c.before.before in
+    let a = all (up-After-slice_known-3-1 _ _ _ _ c.before.before.before.before) in record { m_in_bounds = ((omega (arith, is_m here, a.offset)), (omega (arith, is_m here, length_numbers (f here), (s here).requires.f_in_bounds.0)), a.long.1); coords_check = ap (λ (m : ℕ). passed (coords_check m 0 (f here))) (is_m here) ∙ a.coords }
 
 pub load_fields-requires : goal.load_fields-requires
-load_fields-requires c = record { tail_bytes_value = ((entries_there (up-After-ring_count-k _ _ _ _ c.before.before.before.before.before.before)).0, (entries_there (up-After-ring_count-k _ _ _ _ c.before.before.before.before.before.before)).1, fits (up-After-ring_count-k _ _ _ _ c.before.before.before.before.before.before) _ (s (up-After-ring_count-k _ _ _ _ c.before.before.before.before.before.before)).requires.f_in_bounds.1); field_bytes_bound = (omega arith) }
+load_fields-requires c =
+    let here = up-After-ring_count-k _ _ _ _ c.before.before.before.before.before.before in
+    record { tail_bytes_value = ((entries_there here).0, (entries_there here).1, fits here _ (s here).requires.f_in_bounds.1); field_bytes_bound = (omega arith) }
 
 pub load_fields-requires-2 : goal.load_fields-requires-2
-load_fields-requires-2 c = record { tail_bytes_value = ((entries_there (up-After-ring_count-k _ _ _ _ c.before.before.before.before.before.before.before.before.before.before)).0, (entries_there (up-After-ring_count-k _ _ _ _ c.before.before.before.before.before.before.before.before.before.before)).1, fits (up-After-ring_count-k _ _ _ _ c.before.before.before.before.before.before.before.before.before.before) _ (s (up-After-ring_count-k _ _ _ _ c.before.before.before.before.before.before.before.before.before.before)).requires.f_in_bounds.2); field_bytes_bound = (omega arith) }
+load_fields-requires-2 c =
+    let here = up-After-ring_count-k _ _ _ _ c.before.before.before.before.before.before.before.before.before.before in
+    record { tail_bytes_value = ((entries_there here).0, (entries_there here).1, fits here _ (s here).requires.f_in_bounds.2); field_bytes_bound = (omega arith) }
 
 pub returns : goal.returns
 unfolding coords_of counts_of parts_of
 returns c =
-    let a = (s (up-After-ring_count-k _ _ _ _ c.before.before.before.before.before.before.before.before.before.before.before.before.before)).args in (
-      c.ring_count-k.ensures.0 ∙ sym (length_counts (f (up-After-ring_count-k _ _ _ _ c.before.before.before.before.before.before.before.before.before.before.before.before.before))),
+    let here = up-After-ring_count-k _ _ _ _ c.before.before.before.before.before.before.before.before.before.before.before.before.before in
+    let a = (s here).args in (
+      c.ring_count-k.ensures.0 ∙ sym (length_counts (f here)),
       c.load.ensures
-          ∙ ap (λ (m : ℕ). sets a.room.now 0 (map (of_bits binary64) (coords_in m (f (up-After-ring_count-k _ _ _ _ c.before.before.before.before.before.before.before.before.before.before.before.before.before))))) (is_m (up-After-ring_count-k _ _ _ _ c.before.before.before.before.before.before.before.before.before.before.before.before.before))
-          ∙ laid_is (numbers_of (f (up-After-ring_count-k _ _ _ _ c.before.before.before.before.before.before.before.before.before.before.before.before.before))) a.room.now (s (up-After-ring_count-k _ _ _ _ c.before.before.before.before.before.before.before.before.before.before.before.before.before)).requires.f_in_bounds.0,
-      c.load_fields.ensures ∙ loaded (up-After-ring_count-k _ _ _ _ c.before.before.before.before.before.before.before.before.before.before.before.before.before) field_bytes a.counts.now ∙ laid_is (counts_of (f (up-After-ring_count-k _ _ _ _ c.before.before.before.before.before.before.before.before.before.before.before.before.before))) a.counts.now (s (up-After-ring_count-k _ _ _ _ c.before.before.before.before.before.before.before.before.before.before.before.before.before)).requires.f_in_bounds.1,
+          ∙ ap (λ (m : ℕ). sets a.room.now 0 (map (of_bits binary64) (coords_in m (f here)))) (is_m here)
+          ∙ laid_is (numbers_of (f here)) a.room.now (s here).requires.f_in_bounds.0,
+      c.load_fields.ensures ∙ loaded here field_bytes a.counts.now ∙ laid_is (counts_of (f here)) a.counts.now (s here).requires.f_in_bounds.1,
       c.load_fields-2.ensures
-          ∙ loaded (up-After-ring_count-k _ _ _ _ c.before.before.before.before.before.before.before.before.before.before.before.before.before) (2 * field_bytes) a.parts.now
-          ∙ laid_is (parts_of (f (up-After-ring_count-k _ _ _ _ c.before.before.before.before.before.before.before.before.before.before.before.before.before))) a.parts.now (omega (arith, length_parts (f (up-After-ring_count-k _ _ _ _ c.before.before.before.before.before.before.before.before.before.before.before.before.before)), length_counts (f (up-After-ring_count-k _ _ _ _ c.before.before.before.before.before.before.before.before.before.before.before.before.before)), (s (up-After-ring_count-k _ _ _ _ c.before.before.before.before.before.before.before.before.before.before.before.before.before)).requires.f_in_bounds.2)),
+          ∙ loaded here (2 * field_bytes) a.parts.now
+          ∙ laid_is (parts_of (f here)) a.parts.now (omega (arith, length_parts (f here), length_counts (f here), (s here).requires.f_in_bounds.2)),
     )

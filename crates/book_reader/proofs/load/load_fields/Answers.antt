@@ -1,9 +1,9 @@
 -- `book_reader::load::load_fields` meets its contract. The loop's invariant: with the fields from i on stored at their place, the room is what was asked
 -- for. Assumes nothing.
-use Prim.Native.Nat.{ℕ, ◌+◌, ◌*◌, ◌-◌, ◌≤◌}
-use mathlib.Core.Path.{◌≡◌, refl, sym, ap, ◌∙◌}
+use Prim.Native.Nat.{ℕ, ◌+◌, ◌*◌, ◌-◌}
+use mathlib.Core.Path.{refl, sym, ap, ◌∙◌}
 use native.Mathlib.Omega.{arith}
-use lib.ListN.{length, drop, set, length-set}
+use lib.ListN.{drop, set, length-set}
 use lib.Seq.{sets}
 use Rattle.book_layout.specs.Layout.{entry_bytes, fields_in}
 use Rattle.book_reader.proofs.Entries.{fields_start, fields_on, fields_end}

@@ -1,10 +1,8 @@
-use Prim.Native.Nat.{ℕ, ◌+◌, ◌*◌, ◌-◌, ◌≤◌}
-use mathlib.Core.Path.{◌≡◌, refl, sym, ap, ◌∙◌}
-use native.Mathlib.Omega.{arith}
-use lib.ListN.{length, drop, set, length-set}
+use Prim.Native.Nat.{◌+◌, ◌*◌, ◌-◌, ◌≤◌}
+use mathlib.Core.Path.{◌≡◌}
+use lib.ListN.{length, drop}
 use lib.Seq.{sets}
 use Rattle.book_layout.specs.Layout.{entry_bytes, fields_in}
-use Rattle.book_reader.proofs.Entries.{fields_start, fields_on, fields_end}
 use Rattle.book_reader.proofs.load.load_fields.Given as goal
 
 abbrev pub invariant-loop-i : goal.invariant-loop-i

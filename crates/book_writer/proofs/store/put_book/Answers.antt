@@ -74,29 +74,39 @@ put_rings-requires c =
     record { counts_value = (h.sized, h.whole, h.bounded); xs_in_bounds = (omega (arith, h.whole)) }
 
 pub put_entries-requires : goal.put_entries-requires
-put_entries-requires c = record { counts_len_bound = ((s (up-After-sum_of-from _ _ _ _ c.before.before.before.before.before.before)).requires.held.few, (omega (arith, first_length (up-After-put_rings _ _ _ _ c.before.before.before.before), sum (up-After-sum_of-from _ _ _ _ c.before.before.before.before.before.before), (s (up-After-sum_of-from _ _ _ _ c.before.before.before.before.before.before)).requires.counts_in_bounds))); counts_bound = ((omega (arith, small (up-After-sum_of-from _ _ _ _ c.before.before.before.before.before.before), (s (up-After-sum_of-from _ _ _ _ c.before.before.before.before.before.before)).requires.held.few)), (s (up-After-sum_of-from _ _ _ _ c.before.before.before.before.before.before)).requires.held.many) }
+put_entries-requires c =
+    let here = up-After-sum_of-from _ _ _ _ c.before.before.before.before.before.before in
+    record { counts_len_bound = ((s here).requires.held.few, (omega (arith, first_length (up-After-put_rings _ _ _ _ c.before.before.before.before), sum here, (s here).requires.counts_in_bounds))); counts_bound = ((omega (arith, small here, (s here).requires.held.few)), (s here).requires.held.many) }
 
 pub put-requires : goal.put-requires
 put-requires c =
-    omega (arith, second_length (up-After-put_entries _ _ _ _ c.before.before.before.before), sum (up-After-sum_of-from _ _ _ _ c.before.before.before.before.before.before.before.before.before.before), (s (up-After-sum_of-from _ _ _ _ c.before.before.before.before.before.before.before.before.before.before)).requires.counts_in_bounds)
+    let here = up-After-sum_of-from _ _ _ _ c.before.before.before.before.before.before.before.before.before.before in
+    omega (arith, second_length (up-After-put_entries _ _ _ _ c.before.before.before.before), sum here, (s here).requires.counts_in_bounds)
 
 pub overflow_add-tail-2 : goal.overflow_add-tail-2
 overflow_add-tail-2 c =
-    omega (arith, sum (up-After-sum_of-from _ _ _ _ c.before.before.before.before.before.before.before.before.before.before.before.before.before.before), small (up-After-sum_of-from _ _ _ _ c.before.before.before.before.before.before.before.before.before.before.before.before.before.before), (s (up-After-sum_of-from _ _ _ _ c.before.before.before.before.before.before.before.before.before.before.before.before.before.before)).requires.held.few)
+    let here = up-After-sum_of-from _ _ _ _ c.before.before.before.before.before.before.before.before.before.before.before.before.before.before in
+    omega (arith, sum here, small here, (s here).requires.held.few)
 
 pub put-requires-2 : goal.put-requires-2
 put-requires-2 c =
-    let n = length (ns (up-After-sum_of-from _ _ _ _ c.before.before.before.before.before.before.before.before.before.before.before.before.before.before)) in
-    omega (arith, ap length (third_run (up-After-put _ _ _ _ c.before.before.before.before)) ∙ length-sets c.put_entries.new.room (vertex_bytes * total (ns (up-After-sum_of-from _ _ _ _ c.before.before.before.before.before.before.before.before.before.before.before.before.before.before)) + entry_bytes * n) (bytes_of field_bytes n) ∙ second_length (up-After-put_entries _ _ _ _ c.before.before.before.before.before.before.before.before), sum (up-After-sum_of-from _ _ _ _ c.before.before.before.before.before.before.before.before.before.before.before.before.before.before), (s (up-After-sum_of-from _ _ _ _ c.before.before.before.before.before.before.before.before.before.before.before.before.before.before)).requires.counts_in_bounds)
+    let here = up-After-sum_of-from _ _ _ _ c.before.before.before.before.before.before.before.before.before.before.before.before.before.before in
+    let n = length (ns here) in
+    omega (arith, ap length (third_run (up-After-put _ _ _ _ c.before.before.before.before)) ∙ length-sets c.put_entries.new.room (vertex_bytes * total (ns here) + entry_bytes * n) (bytes_of field_bytes n) ∙ second_length (up-After-put_entries _ _ _ _ c.before.before.before.before.before.before.before.before), sum here, (s here).requires.counts_in_bounds)
 
 pub overflow_add-result : goal.overflow_add-result
 overflow_add-result c =
-    omega (arith, sum (up-After-sum_of-from _ _ _ _ c.before.before.before.before.before.before.before.before.before.before.before.before.before.before.before.before.before), small (up-After-sum_of-from _ _ _ _ c.before.before.before.before.before.before.before.before.before.before.before.before.before.before.before.before.before), (s (up-After-sum_of-from _ _ _ _ c.before.before.before.before.before.before.before.before.before.before.before.before.before.before.before.before.before)).requires.held.few)
+    let here = up-After-sum_of-from _ _ _ _ c.before.before.before.before.before.before.before.before.before.before.before.before.before.before.before.before.before in
+    omega (arith, sum here, small here, (s here).requires.held.few)
 
 pub returns : goal.returns
 returns c =
-    let f = vertex_bytes * total (ns (up-After-sum_of-from _ _ _ _ c.before.before.before.before.before.before.before.before.before.before.before.before.before.before.before.before.before)) in
-    let n = length (ns (up-After-sum_of-from _ _ _ _ c.before.before.before.before.before.before.before.before.before.before.before.before.before.before.before.before.before)) in record { value = (omega (arith, sum (up-After-sum_of-from _ _ _ _ c.before.before.before.before.before.before.before.before.before.before.before.before.before.before.before.before.before))); room_after = c.put-2.ensures
-          ∙ ap (λ (j : ℕ). sets c.put.new.room (vertex_bytes * j + entry_bytes * n + field_bytes) (bytes_of field_bytes (vertex_bytes * j))) (sum (up-After-sum_of-from _ _ _ _ c.before.before.before.before.before.before.before.before.before.before.before.before.before.before.before.before.before))
-          ∙ ap (λ (r : List ℕ). sets r (f + entry_bytes * n + field_bytes) (bytes_of field_bytes f)) (third_run (up-After-put _ _ _ _ c.before.before.before.before.before.before.before) ∙ ap (λ (r : List ℕ). sets r (f + entry_bytes * n) (bytes_of field_bytes n)) (second_run (up-After-put_entries _ _ _ _ c.before.before.before.before.before.before.before.before.before.before.before) ∙ ap (λ (r : List ℕ). sets r f (entries 0 (ns (up-After-sum_of-from _ _ _ _ c.before.before.before.before.before.before.before.before.before.before.before.before.before.before.before.before.before)) (ps (up-After-sum_of-from _ _ _ _ c.before.before.before.before.before.before.before.before.before.before.before.before.before.before.before.before.before)))) (first_run (up-After-put_rings _ _ _ _ c.before.before.before.before.before.before.before.before.before.before.before.before.before.before.before))))
-          ∙ four_runs (xs (up-After-sum_of-from _ _ _ _ c.before.before.before.before.before.before.before.before.before.before.before.before.before.before.before.before.before)) (ns (up-After-sum_of-from _ _ _ _ c.before.before.before.before.before.before.before.before.before.before.before.before.before.before.before.before.before)) (ps (up-After-sum_of-from _ _ _ _ c.before.before.before.before.before.before.before.before.before.before.before.before.before.before.before.before.before)) (room (up-After-sum_of-from _ _ _ _ c.before.before.before.before.before.before.before.before.before.before.before.before.before.before.before.before.before)) (s (up-After-sum_of-from _ _ _ _ c.before.before.before.before.before.before.before.before.before.before.before.before.before.before.before.before.before)).requires.held.sized (s (up-After-sum_of-from _ _ _ _ c.before.before.before.before.before.before.before.before.before.before.before.before.before.before.before.before.before)).requires.held.whole (s (up-After-sum_of-from _ _ _ _ c.before.before.before.before.before.before.before.before.before.before.before.before.before.before.before.before.before)).requires.held.many (s (up-After-sum_of-from _ _ _ _ c.before.before.before.before.before.before.before.before.before.before.before.before.before.before.before.before.before)).requires.counts_in_bounds }
+    let here = up-After-sum_of-from _ _ _ _ c.before.before.before.before.before.before.before.before.before.before.before.before.before.before.before.before.before in
+    let f = vertex_bytes * total (ns here) in
+    let n = length (ns here) in record {
+      value = (omega (arith, sum here));
+      room_after = c.put-2.ensures
+          ∙ ap (λ (j : ℕ). sets c.put.new.room (vertex_bytes * j + entry_bytes * n + field_bytes) (bytes_of field_bytes (vertex_bytes * j))) (sum here)
+          ∙ ap (λ (r : List ℕ). sets r (f + entry_bytes * n + field_bytes) (bytes_of field_bytes f)) (third_run (up-After-put _ _ _ _ c.before.before.before.before.before.before.before) ∙ ap (λ (r : List ℕ). sets r (f + entry_bytes * n) (bytes_of field_bytes n)) (second_run (up-After-put_entries _ _ _ _ c.before.before.before.before.before.before.before.before.before.before.before) ∙ ap (λ (r : List ℕ). sets r f (entries 0 (ns here) (ps here))) (first_run (up-After-put_rings _ _ _ _ c.before.before.before.before.before.before.before.before.before.before.before.before.before.before.before))))
+          ∙ four_runs (xs here) (ns here) (ps here) (room here) (s here).requires.held.sized (s here).requires.held.whole (s here).requires.held.many (s here).requires.counts_in_bounds;
+    }

@@ -1,6 +1,6 @@
 -- `book_writer::store::put_entries` meets its contract. The loop's invariant: with the entries from i on stored at their place, the room is what was
 -- asked for, and the bytes before them are those of the rings passed. Assumes nothing.
-use Prim.Native.Nat.{ℕ, ◌+◌, ◌*◌, ◌-◌, ◌≤◌}
+use Prim.Native.Nat.{ℕ, ◌+◌, ◌*◌}
 use mathlib.Core.Path.{◌≡◌, refl, sym, ap, ◌∙◌}
 use mathlib.Core.List.{List}
 use native.Mathlib.Omega.{arith}

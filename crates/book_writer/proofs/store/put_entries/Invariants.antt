@@ -1,14 +1,9 @@
-use Prim.Native.Nat.{ℕ, ◌+◌, ◌*◌, ◌-◌, ◌≤◌}
-use mathlib.Core.Path.{◌≡◌, refl, sym, ap, ◌∙◌}
-use mathlib.Core.List.{List}
-use native.Mathlib.Omega.{arith}
-use lib.ListN.{length, get_or, drop}
-use lib.Seq.{sets, length-sets}
-use Rattle.number_bytes.specs.Bytes.{bytes_of}
+use Prim.Native.Nat.{◌+◌, ◌*◌, ◌-◌, ◌≤◌}
+use mathlib.Core.Path.{◌≡◌}
+use lib.ListN.{length, drop}
+use lib.Seq.{sets}
 use Rattle.refusals.specs.Rings.{total}
-use Rattle.book_layout.specs.Layout.{field_bytes, vertex_bytes, entry_bytes, entries}
-use Rattle.refusals.proofs.Counts.{total_on}
-use Rattle.book_writer.proofs.Storing.{entries_start, entries_on, entries_end}
+use Rattle.book_layout.specs.Layout.{vertex_bytes, entry_bytes, entries}
 use Rattle.book_writer.proofs.store.put_entries.Given as goal
 
 abbrev pub invariant-loop-i : goal.invariant-loop-i

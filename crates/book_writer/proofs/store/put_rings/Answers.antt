@@ -1,6 +1,6 @@
 -- `book_writer::store::put_rings` meets its contract. The loop's invariant: with the rings from i on stored at their place, the room is what was asked
 -- for; the coordinates from at on are those of the rings left. Assumes nothing.
-use Prim.Native.Nat.{ℕ, ◌+◌, ◌*◌, ◌-◌, ◌≤◌}
+use Prim.Native.Nat.{ℕ, ◌+◌, ◌*◌, ◌≤◌}
 use mathlib.Core.Path.{◌≡◌, refl, sym, ap, ◌∙◌}
 use mathlib.Core.Bool.{true}
 use mathlib.Core.List.{List}
@@ -73,25 +73,27 @@ overflow_mul-at c = omega (arith, inside (up-In-loop-i _ _ _ _ _ _ c.before.befo
 
 pub put_least-requires : goal.put_least-requires
 put_least-requires c =
+    let here = up-In-loop-i _ _ _ _ _ _ c.before.before.before.before in
     let t = c.requires.counts_value.2 in
-    let z = part_length (xs (up-In-loop-i _ _ _ _ _ _ c.before.before.before.before)) (l (up-In-loop-i _ _ _ _ _ _ c.before.before.before.before)).loop-i.at (n (up-In-loop-i _ _ _ _ _ _ c.before.before.before.before)) t (inside (up-In-loop-i _ _ _ _ _ _ c.before.before.before.before)).1 in record { lent = part_lent (xs (up-In-loop-i _ _ _ _ _ _ c.before.before.before.before)) (l (up-In-loop-i _ _ _ _ _ _ c.before.before.before.before)).loop-i.at (n (up-In-loop-i _ _ _ _ _ _ c.before.before.before.before)) t (inside (up-In-loop-i _ _ _ _ _ _ c.before.before.before.before)).1 (inside (up-In-loop-i _ _ _ _ _ _ c.before.before.before.before)).0; ring_nonzero = ((omega (arith, (sized (up-In-loop-i _ _ _ _ _ _ c.before.before.before.before)).0)), (omega (arith, (inside (up-In-loop-i _ _ _ _ _ _ c.before.before.before.before)).1, c.requires.xs_in_bounds, (l (up-In-loop-i _ _ _ _ _ _ c.before.before.before.before)).loop-i.invariant.1))) }
+    let z = part_length (xs here) (l here).loop-i.at (n here) t (inside here).1 in record { lent = part_lent (xs here) (l here).loop-i.at (n here) t (inside here).1 (inside here).0; ring_nonzero = ((omega (arith, (sized here).0)), (omega (arith, (inside here).1, c.requires.xs_in_bounds, (l here).loop-i.invariant.1))) }
 
 pub loop-i-preserved : goal.loop-i-preserved
 loop-i-preserved c =
-    let at = (l (up-In-loop-i _ _ _ _ _ _ c.before.before.before.before.before.before.before)).loop-i.at in
-    let i = (l (up-In-loop-i _ _ _ _ _ _ c.before.before.before.before.before.before.before)).loop-i.i in
-    let room = (l (up-In-loop-i _ _ _ _ _ _ c.before.before.before.before.before.before.before)).loop-i.room in
-    let u = coord_bytes (flat (least_reading (ring_of (take (2 * n (up-In-loop-i _ _ _ _ _ _ c.before.before.before.before.before.before.before)) (drop at (xs (up-In-loop-i _ _ _ _ _ _ c.before.before.before.before.before.before.before))))))) in
+    let here = up-In-loop-i _ _ _ _ _ _ c.before.before.before.before.before.before.before in
+    let at = (l here).loop-i.at in
+    let i = (l here).loop-i.i in
+    let room = (l here).loop-i.room in
+    let u = coord_bytes (flat (least_reading (ring_of (take (2 * n here) (drop at (xs here)))))) in
     let e : c.put_least.new.room ≡ sets room (coordinate_bytes * at) u =
     c.put_least.ensures
-    ∙ ap (λ (p : List Float). sets room (coordinate_bytes * at) (coord_bytes (flat (least_reading (ring_of p))))) (part_is (xs (up-In-loop-i _ _ _ _ _ _ c.before.before.before.before.before.before.before)) at (n (up-In-loop-i _ _ _ _ _ _ c.before.before.before.before.before.before.before)) (l (up-In-loop-i _ _ _ _ _ _ c.before.before.before.before.before.before.before)).requires.counts_value.2 (inside (up-In-loop-i _ _ _ _ _ _ c.before.before.before.before.before.before.before)).1) in (
+    ∙ ap (λ (p : List Float). sets room (coordinate_bytes * at) (coord_bytes (flat (least_reading (ring_of p))))) (part_is (xs here) at (n here) (l here).requires.counts_value.2 (inside here).1) in (
       (omega arith),
-      ap length e ∙ length-sets room (coordinate_bytes * at) u ∙ (l (up-In-loop-i _ _ _ _ _ _ c.before.before.before.before.before.before.before)).loop-i.invariant.1,
-      left (up-In-loop-i _ _ _ _ _ _ c.before.before.before.before.before.before.before),
-      (sized (up-In-loop-i _ _ _ _ _ _ c.before.before.before.before.before.before.before)).2,
-      (l (up-In-loop-i _ _ _ _ _ _ c.before.before.before.before.before.before.before)).loop-i.invariant.4
-          ∙ rings_on room (ns (up-In-loop-i _ _ _ _ _ _ c.before.before.before.before.before.before.before)) (xs (up-In-loop-i _ _ _ _ _ _ c.before.before.before.before.before.before.before)) at i c.loop-i-test.true (omega (arith, (sized (up-In-loop-i _ _ _ _ _ _ c.before.before.before.before.before.before.before)).0)) (inside (up-In-loop-i _ _ _ _ _ _ c.before.before.before.before.before.before.before)).1
-          ∙ ap (λ (r : List ℕ). sets r (coordinate_bytes * (at + 2 * n (up-In-loop-i _ _ _ _ _ _ c.before.before.before.before.before.before.before))) (stored (drop (i + 1) (ns (up-In-loop-i _ _ _ _ _ _ c.before.before.before.before.before.before.before))) (drop (at + 2 * n (up-In-loop-i _ _ _ _ _ _ c.before.before.before.before.before.before.before)) (xs (up-In-loop-i _ _ _ _ _ _ c.before.before.before.before.before.before.before))))) (sym e),
+      ap length e ∙ length-sets room (coordinate_bytes * at) u ∙ (l here).loop-i.invariant.1,
+      left here,
+      (sized here).2,
+      (l here).loop-i.invariant.4
+          ∙ rings_on room (ns here) (xs here) at i c.loop-i-test.true (omega (arith, (sized here).0)) (inside here).1
+          ∙ ap (λ (r : List ℕ). sets r (coordinate_bytes * (at + 2 * n here)) (stored (drop (i + 1) (ns here)) (drop (at + 2 * n here) (xs here)))) (sym e),
     )
 
 pub returns : goal.returns

@@ -1,18 +1,11 @@
-use Prim.Native.Nat.{ℕ, ◌+◌, ◌*◌, ◌-◌, ◌≤◌}
-use mathlib.Core.Path.{◌≡◌, refl, sym, ap, ◌∙◌}
+use Prim.Native.Nat.{◌+◌, ◌*◌, ◌-◌, ◌≤◌}
+use mathlib.Core.Path.{◌≡◌}
 use mathlib.Core.Bool.{true}
-use mathlib.Core.List.{List}
-use native.Mathlib.Omega.{arith}
-use lib.ListN.{length, get_or, take, drop}
-use lib.Seq.{sets, length-sets}
-use lib.Ieee.{Float}
-use Rattle.reading.specs.Reading.{flat, least_reading}
-use Rattle.reading.specs.Lent.{ring_of}
-use Rattle.refusals.specs.Rings.{vertices_least, vertices_most, total, sized_all}
-use Rattle.book_layout.specs.Layout.{coordinate_bytes, coord_bytes}
-use Rattle.refusals.proofs.Counts.{total_on, sized_here}
-use Rattle.book_writer.proofs.Storing.{stored, rings_on, rings_end}
-use Rattle.book_writer.proofs.Part.{part_is, part_length, part_lent}
+use lib.ListN.{length, drop}
+use lib.Seq.{sets}
+use Rattle.refusals.specs.Rings.{total, sized_all}
+use Rattle.book_layout.specs.Layout.{coordinate_bytes}
+use Rattle.book_writer.proofs.Storing.{stored}
 use Rattle.book_writer.proofs.store.put_rings.Given as goal
 
 abbrev pub invariant-loop-i : goal.invariant-loop-i

@@ -5,11 +5,14 @@ use Rattle.byrlygent.proofs.drawn.byr_clear_move.Goals as goal
 pub returns : goal.returns
 returns c =
     let h = c.hand_judged-no.ensures in
-    record { fact = (
+    record {
+      fact = (
         number_told c.clear_move.ensures.result_value h.0 c.hand_refusal.ensures.value,
         rw (← c.clear_move.ensures.result_value) h.1,
         rw (← c.clear_move.ensures.result_value) h.2,
         rw (← c.clear_move.ensures.result_value) h.3,
         rw (← c.clear_move.ensures.result_value) h.4,
         place_told c.clear_move.ensures.result_value h.0 _ c.hand_refusal.ensures.place_after,
-      ); reason_after = c.clear_move.ensures.reason_after }
+      );
+      reason_after = c.clear_move.ensures.reason_after;
+    }

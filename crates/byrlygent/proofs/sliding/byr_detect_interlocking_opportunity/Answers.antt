@@ -2,9 +2,6 @@
 use Rattle.handed.proofs.Told.{number_told, place_told}
 use Rattle.byrlygent.proofs.sliding.byr_detect_interlocking_opportunity.Goals as goal
 
-  statement,
-}
-
 pub returns : goal.returns
 returns c =
     let e = c.detect_interlocking_opportunity-answer.ensures in

@@ -2,9 +2,6 @@
 use Rattle.handed.proofs.Told.{number_told, place_told}
 use Rattle.byrlygent.proofs.sliding.byr_polygons_overlap_with_tolerance.Goals as goal
 
-  statement,
-}
-
 pub returns : goal.returns
 returns c =
     let e = c.polygons_overlap_with_tolerance.ensures in

@@ -1,5 +1,4 @@
 -- `clear_calls::calls::check_reason` meets its contract: the tests, then the check. Assumes nothing.
-use Prim.Native.Nat.{◌-◌}
 use mathlib.Core.Path.{◌≡◌, ◌∙◌}
 use lib.IntN.{ℤ}
 use mir.Syntax.{w32}

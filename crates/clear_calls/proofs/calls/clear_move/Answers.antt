@@ -1,5 +1,4 @@
 -- `clear_calls::calls::clear_move` meets its contract: the tests, then what is found and the room. Assumes nothing.
-use Prim.Native.Nat.{◌-◌}
 use mathlib.Core.Path.{◌≡◌, ◌∙◌}
 use lib.ListN.{length}
 use mathlib.Core.List.{List}

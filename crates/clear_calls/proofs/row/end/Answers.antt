@@ -1,5 +1,4 @@
 -- `clear_calls::row::end` meets its contract: the test of the corners that are moved. Assumes nothing.
-use Prim.Native.Nat.{◌-◌}
 use Rattle.clear_calls.proofs.Passed.{as_lent}
 use lib.IntN.{ℤ}
 use Rattle.clear_calls.specs.Rows.{wrong_end}

@@ -1,5 +1,4 @@
 -- `clear_calls::row::lengths` meets its contract: the tests in the order of the definition. Assumes nothing.
-use Prim.Native.Nat.{◌-◌}
 use Rattle.clear_calls.proofs.row.lengths.Goals as goal
 
 pub returns : goal.returns

@@ -1,5 +1,4 @@
 -- `clear_calls::row::reason_numbers` meets its contract: the tests in the order of the definition. Assumes nothing.
-use Prim.Native.Nat.{◌-◌}
 use mathlib.Core.Path.{◌∙◌}
 use Rattle.clear_calls.proofs.Passed.{as_lent}
 use lib.IntN.{ℤ}

@@ -1,5 +1,4 @@
 -- `clear_calls::row::whole_move` meets its contract: the lengths, then the numbers. Assumes nothing.
-use Prim.Native.Nat.{◌-◌}
 use mathlib.Core.Path.{sym, ◌∙◌}
 use mathlib.Core.List.{[], ◌∷◌}
 use lib.IntN.{ℤ}

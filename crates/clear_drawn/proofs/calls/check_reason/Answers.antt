@@ -1,6 +1,5 @@
 -- `clear_drawn::calls::check_reason` meets its contract: the tests, then the check. Assumes nothing.
-use Prim.Native.Nat.{◌-◌}
-use mathlib.Core.Path.{◌≡◌, refl}
+use mathlib.Core.Path.{refl}
 use Rattle.refusals.proofs.Calls.{goes, stops}
 use Rattle.clear_drawn.proofs.Handed.{reason_tested}
 use Rattle.clear_drawn.proofs.calls.check_reason.Goals as goal

@@ -1,5 +1,4 @@
 -- `clear_drawn::calls::clear_move` meets its contract: the tests, then what is found and the room. Assumes nothing.
-use Prim.Native.Nat.{◌-◌}
 use mathlib.Core.Path.{refl}
 use Rattle.clear_drawn.proofs.Handed.{move_tested, call_goes, call_stops}
 use Rattle.clear_drawn.proofs.calls.clear_move.Goals as goal

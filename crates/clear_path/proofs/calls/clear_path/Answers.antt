@@ -1,5 +1,4 @@
 -- `clear_path::calls::clear_path` meets its contract: the tests, then the legs. Assumes nothing.
-use Prim.Native.Nat.{◌-◌}
 use Rattle.refusals.proofs.Calls.{goes, stops}
 use Rattle.clear_path.proofs.Placed.{path_lent}
 use Rattle.clear_path.proofs.calls.clear_path.Goals as goal

@@ -1,10 +1,9 @@
 -- `clear_path::row::are_placed` meets its contract. The invariant: the points from i on decide. Assumes nothing.
-use Prim.Native.Nat.{◌+◌, ◌*◌, ◌-◌, ◌≤◌}
+use Prim.Native.Nat.{◌+◌, ◌*◌}
 use mathlib.Core.Path.{◌≡◌, sym, ◌∙◌}
 use native.Mathlib.Omega.{arith}
 use lib.ListN.{get_or}
 use lib.IntN.{ℤ, pos}
-use Rattle.ring.specs.Each.{each}
 use Rattle.ring.proofs.Each.{each_on, each_off, each_end}
 use Rattle.whole_engine.specs.Rows.{all_in_bounds}
 use Rattle.whole_moves.specs.Moved.{moved_by}

@@ -1,5 +1,4 @@
 -- `clear_path::row::lengths` meets its contract: the tests in the order of the definition. Assumes nothing.
-use Prim.Native.Nat.{◌-◌}
 use Rattle.clear_path.proofs.row.lengths.Goals as goal
 
 pub returns : goal.returns

@@ -1,5 +1,4 @@
 -- `clear_path::row::whole_path` meets its contract: the lengths, then the numbers. Assumes nothing.
-use Prim.Native.Nat.{◌-◌}
 use mathlib.Core.Path.{sym, ◌∙◌}
 use Rattle.refusals.proofs.First.{on, off}
 use Rattle.clear_path.specs.Rows.{of_whole_path}

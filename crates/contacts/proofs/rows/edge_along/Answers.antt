@@ -1,12 +1,9 @@
 -- `contacts::rows::edge_along` meets its contract: `proofs/Rowing.antt` has the invariant; c is the start of the edge i, and starts whether it is near. Assumes nothing.
 use native.Mathlib.Omega.{arith}
-use Prim.Native.Nat.{◌-◌, ◌<◌}
-use mathlib.Core.Path.{◌≡◌, refl, ap, ◌∙◌}
-use Rattle.plane.specs.Segment.{near_segment_of}
+use mathlib.Core.Path.{refl, ap, ◌∙◌}
 use Rattle.ring.specs.Ring.{point_at}
 use Rattle.frames.proofs.Widened.{next_start}
-use Rattle.contacts.specs.Rows.{along_edge}
-use Rattle.contacts.proofs.Rowing.{Sought, begun, onward, found, none_found, is_along}
+use Rattle.contacts.proofs.Rowing.{begun, onward, found, none_found, is_along}
 use Rattle.contacts.proofs.rows.edge_along.Goals as goal
 
 pub loop-i-init : goal.loop-i-init

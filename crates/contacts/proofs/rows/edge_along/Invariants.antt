@@ -1,11 +1,9 @@
-use native.Mathlib.Omega.{arith}
 use Prim.Native.Nat.{◌-◌, ◌<◌}
-use mathlib.Core.Path.{◌≡◌, refl, ap, ◌∙◌}
+use mathlib.Core.Path.{◌≡◌}
 use Rattle.plane.specs.Segment.{near_segment_of}
 use Rattle.ring.specs.Ring.{point_at}
-use Rattle.frames.proofs.Widened.{next_start}
 use Rattle.contacts.specs.Rows.{along_edge}
-use Rattle.contacts.proofs.Rowing.{Sought, begun, onward, found, none_found, is_along}
+use Rattle.contacts.proofs.Rowing.{Sought}
 use Rattle.contacts.proofs.rows.edge_along.Given as goal
 
 abbrev pub invariant-loop-i : goal.invariant-loop-i

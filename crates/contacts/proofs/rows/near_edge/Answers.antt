@@ -1,11 +1,9 @@
 -- `contacts::rows::near_edge` meets its contract: `proofs/Rowing.antt` has the invariant, and a is the start of the edge i. Assumes nothing.
 use native.Mathlib.Omega.{arith}
-use Prim.Native.Nat.{◌-◌, ◌<◌}
-use mathlib.Core.Path.{◌≡◌, ap, ◌∙◌}
+use mathlib.Core.Path.{ap, ◌∙◌}
 use Rattle.ring.specs.Ring.{point_at}
 use Rattle.frames.proofs.Widened.{next_start}
-use Rattle.contacts.specs.Rows.{on_edge}
-use Rattle.contacts.proofs.Rowing.{Sought, begun, onward, found, none_found, on_edge_lem}
+use Rattle.contacts.proofs.Rowing.{begun, onward, found, none_found, on_edge_lem}
 use Rattle.contacts.proofs.rows.near_edge.Goals as goal
 
 pub loop-i-init : goal.loop-i-init

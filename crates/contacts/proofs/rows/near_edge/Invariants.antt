@@ -1,10 +1,8 @@
-use native.Mathlib.Omega.{arith}
 use Prim.Native.Nat.{◌-◌, ◌<◌}
-use mathlib.Core.Path.{◌≡◌, ap, ◌∙◌}
+use mathlib.Core.Path.{◌≡◌}
 use Rattle.ring.specs.Ring.{point_at}
-use Rattle.frames.proofs.Widened.{next_start}
 use Rattle.contacts.specs.Rows.{on_edge}
-use Rattle.contacts.proofs.Rowing.{Sought, begun, onward, found, none_found, on_edge_lem}
+use Rattle.contacts.proofs.Rowing.{Sought}
 use Rattle.contacts.proofs.rows.near_edge.Given as goal
 
 abbrev pub invariant-loop-i : goal.invariant-loop-i

@@ -1,10 +1,9 @@
 -- `contacts::rows::scan_edges` meets its contract: row by row, as `proofs/Rowing.antt` has it. Assumes nothing.
 use native.Mathlib.Omega.{arith}
-use Prim.Native.Nat.{◌+◌, ◌*◌, ◌-◌, ◌≤◌, ◌<◌}
+use Prim.Native.Nat.{◌≤◌}
 use mathlib.Core.Path.{ap, ◌∙◌}
 use Rattle.ring.specs.Ring.{point_at}
-use Rattle.contacts.specs.Rows.{along_edge_at}
-use Rattle.contacts.proofs.Rowing.{Sought, begun, none_found, in_row, next_row, along_rows, within_rows, past_rows, small, edged}
+use Rattle.contacts.proofs.Rowing.{begun, none_found, in_row, next_row, along_rows, within_rows, past_rows, small, edged}
 use Rattle.contacts.proofs.rows.scan_edges.Goals as goal
 
 pub loop-i-init : goal.loop-i-init

@@ -1,9 +1,6 @@
-use native.Mathlib.Omega.{arith}
-use Prim.Native.Nat.{◌+◌, ◌*◌, ◌-◌, ◌≤◌, ◌<◌}
-use mathlib.Core.Path.{ap, ◌∙◌}
-use Rattle.ring.specs.Ring.{point_at}
+use Prim.Native.Nat.{◌+◌, ◌*◌, ◌-◌, ◌<◌}
 use Rattle.contacts.specs.Rows.{along_edge_at}
-use Rattle.contacts.proofs.Rowing.{Sought, begun, none_found, in_row, next_row, along_rows, within_rows, past_rows, small, edged}
+use Rattle.contacts.proofs.Rowing.{Sought}
 use Rattle.contacts.proofs.rows.scan_edges.Given as goal
 
 abbrev pub invariant-loop-i : goal.invariant-loop-i

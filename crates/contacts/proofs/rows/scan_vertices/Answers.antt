@@ -1,8 +1,7 @@
 -- `contacts::rows::scan_vertices` meets its contract: row by row, as `proofs/Rowing.antt` has it. Assumes nothing.
 use native.Mathlib.Omega.{arith}
-use Prim.Native.Nat.{◌+◌, ◌*◌, ◌-◌, ◌≤◌, ◌<◌}
-use Rattle.contacts.specs.Rows.{on_edge_at}
-use Rattle.contacts.proofs.Rowing.{Sought, begun, none_found, in_row, next_row, on_rows, within_rows, past_rows, small}
+use Prim.Native.Nat.{◌≤◌}
+use Rattle.contacts.proofs.Rowing.{begun, none_found, in_row, next_row, on_rows, within_rows, past_rows, small}
 use Rattle.contacts.proofs.rows.scan_vertices.Goals as goal
 
 pub loop-i-init : goal.loop-i-init

@@ -1,7 +1,6 @@
-use native.Mathlib.Omega.{arith}
-use Prim.Native.Nat.{◌+◌, ◌*◌, ◌-◌, ◌≤◌, ◌<◌}
+use Prim.Native.Nat.{◌+◌, ◌*◌, ◌-◌, ◌<◌}
 use Rattle.contacts.specs.Rows.{on_edge_at}
-use Rattle.contacts.proofs.Rowing.{Sought, begun, none_found, in_row, next_row, on_rows, within_rows, past_rows, small}
+use Rattle.contacts.proofs.Rowing.{Sought}
 use Rattle.contacts.proofs.rows.scan_vertices.Given as goal
 
 abbrev pub invariant-loop-i : goal.invariant-loop-i

@@ -1,11 +1,8 @@
 -- `contacts_call::write::count_contacts` meets its contract: `proofs/Counting.antt` has the invariant; the measure is what is left of the pairs. Assumes nothing.
 use native.Mathlib.Omega.{arith}
-use Prim.Native.Nat.{◌-◌}
-use Rattle.ring.specs.Ring.{count}
-use Rattle.pairs.specs.Pairs.{pair_count}
 use Rattle.pairs.proofs.Numbers.{most}
 use Rattle.contacts.proofs.Following.{FoundAt, next_at, next_none}
-use Rattle.contacts_call.proofs.Counting.{Counting, start, one_more, all}
+use Rattle.contacts_call.proofs.Counting.{start, one_more, all}
 use Rattle.contacts_call.proofs.write.count_contacts.Goals as goal
 use Rattle.contacts_call.proofs.write.count_contacts.Goals.{In-At}
 

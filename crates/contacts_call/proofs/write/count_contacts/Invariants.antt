@@ -1,10 +1,7 @@
-use native.Mathlib.Omega.{arith}
 use Prim.Native.Nat.{◌-◌}
 use Rattle.ring.specs.Ring.{count}
 use Rattle.pairs.specs.Pairs.{pair_count}
-use Rattle.pairs.proofs.Numbers.{most}
-use Rattle.contacts.proofs.Following.{FoundAt, next_at, next_none}
-use Rattle.contacts_call.proofs.Counting.{Counting, start, one_more, all}
+use Rattle.contacts_call.proofs.Counting.{Counting}
 use Rattle.contacts_call.proofs.write.count_contacts.Given as goal
 
 abbrev pub invariant-loop-j : goal.invariant-loop-j

@@ -1,6 +1,5 @@
 -- `contacts_call::write::foot_by` meets its contract: the stationary vertex of the kind 1, and else the orbiting one. Assumes nothing.
-use Prim.Native.Nat.{ℕ}
-use mathlib.Core.Path.{◌≡◌, sym, ◌∙◌}
+use mathlib.Core.Path.{sym, ◌∙◌}
 use Rattle.contacts.proofs.ByKind.{of_1, but_1}
 use Rattle.contacts_call.specs.Which.{foot_by}
 use Rattle.contacts_call.proofs.write.foot_by.Goals as goal

@@ -1,11 +1,9 @@
 -- `contacts_call::write::write_contacts` meets its contract: `proofs/Writing.antt` has the invariant; the measure is what is left of the pairs. Assumes nothing.
 use native.Mathlib.Omega.{arith}
-use Prim.Native.Nat.{◌-◌, ◌≤◌, ◌<◌}
-use Rattle.ring.specs.Ring.{count}
-use Rattle.pairs.specs.Pairs.{pair_count}
+use Prim.Native.Nat.{◌≤◌, ◌<◌}
 use Rattle.pairs.proofs.Numbers.{most, within}
 use Rattle.contacts.proofs.Following.{FoundAt, next_at, next_none}
-use Rattle.contacts_call.proofs.Writing.{Writing, start, which_fits, points_fit, turn, done}
+use Rattle.contacts_call.proofs.Writing.{start, which_fits, points_fit, turn, done}
 use Rattle.contacts_call.proofs.write.write_contacts.Goals as goal
 use Rattle.contacts_call.proofs.write.write_contacts.Goals.{In-At}
 use Rattle.contacts_call.proofs.write.write_contacts.Lts.View.{up-In-At}
@@ -68,7 +66,9 @@ pub overflow_add-k : goal.overflow_add-k
 overflow_add-k c = omega (arith, bounds (up-In-At _ _ _ _ _ _ c.before.before.before.before.before.before.before.before.before.before.before.before))
 
 pub loop-j-smaller : goal.loop-j-smaller
-loop-j-smaller c = omega (arith, (at (up-In-At _ _ _ _ _ _ c.before.before.before.before.before.before.before.before.before.before.before.before)).least, (at (up-In-At _ _ _ _ _ _ c.before.before.before.before.before.before.before.before.before.before.before.before)).below)
+loop-j-smaller c =
+    let here = up-In-At _ _ _ _ _ _ c.before.before.before.before.before.before.before.before.before.before.before.before in
+    omega (arith, (at here).least, (at here).below)
 
 pub loop-j-preserved : goal.loop-j-preserved
 loop-j-preserved c =

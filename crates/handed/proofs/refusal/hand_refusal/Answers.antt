@@ -1,5 +1,5 @@
 -- `handed::refusal::hand_refusal` meets its contract: a refusal that tells a place or not. Assumes nothing.
-use mathlib.Core.Path.{refl, sym, ◌∙◌}
+use mathlib.Core.Path.{refl}
 use Rattle.handed.specs.Handed.{place_of}
 use Rattle.handed.proofs.refusal.hand_refusal.Goals as goal
 

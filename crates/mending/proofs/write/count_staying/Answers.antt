@@ -1,10 +1,8 @@
 -- `mending::write::count_staying` meets its contract: `proofs/Counting.antt` has the invariant; the measure is what is left of the ring. Assumes nothing.
-use Prim.Native.Nat.{◌-◌}
 use mathlib.Core.Path.{sym, ◌∙◌}
 use native.Mathlib.Omega.{arith}
-use Rattle.ring.specs.Ring.{count}
 use Rattle.mending.proofs.Fates.{is_going, is_staying}
-use Rattle.mending.proofs.Counting.{Counting, start, one_stays, one_goes, counted}
+use Rattle.mending.proofs.Counting.{start, one_stays, one_goes, counted}
 use Rattle.mending.proofs.write.count_staying.Goals as goal
 
 pub loop-i-init : goal.loop-i-init

@@ -1,9 +1,6 @@
 use Prim.Native.Nat.{◌-◌}
-use mathlib.Core.Path.{sym, ◌∙◌}
-use native.Mathlib.Omega.{arith}
 use Rattle.ring.specs.Ring.{count}
-use Rattle.mending.proofs.Fates.{is_going, is_staying}
-use Rattle.mending.proofs.Counting.{Counting, start, one_stays, one_goes, counted}
+use Rattle.mending.proofs.Counting.{Counting}
 use Rattle.mending.proofs.write.count_staying.Given as goal
 
 abbrev pub invariant-loop-i : goal.invariant-loop-i

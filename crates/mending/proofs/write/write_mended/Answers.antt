@@ -1,12 +1,9 @@
 -- `mending::write::write_mended` meets its contract: `proofs/Writing.antt` has the invariant; the measure is what is left of the ring. Assumes nothing.
-use Prim.Native.Nat.{◌-◌}
 use mathlib.Core.Path.{◌≡◌, sym, ◌∙◌}
 use mathlib.Core.Bool.{true, false}
-use native.Mathlib.Omega.{arith}
-use Rattle.ring.specs.Ring.{count}
 use Rattle.mending.specs.Mending.{goes_at, why_of}
 use Rattle.mending.proofs.Fates.{is_going, is_staying}
-use Rattle.mending.proofs.Writing.{Writing, start, ring_fits, whys_fit, spots_fit, stay, go, done}
+use Rattle.mending.proofs.Writing.{start, ring_fits, whys_fit, spots_fit, stay, go, done}
 use Rattle.mending.proofs.write.write_mended.Goals as goal
 use Rattle.mending.proofs.write.write_mended.Goals.{In-Goes, In-Stays}
 use Rattle.mending.proofs.write.write_mended.Lts.View.{up-In-Goes, up-In-Stays}

@@ -1,14 +1,11 @@
 -- `pass_run::run::run` meets its contract. The invariant: the run from the first state is the run of the passes left from where it is; the stored points
 -- lie in the room, and both rooms are as long as they came. Assumes nothing.
 use native.Mathlib.Omega.{arith}
-use Prim.Native.Nat.{◌*◌, ◌-◌, ◌≤◌}
-use mathlib.Core.Path.{◌≡◌, refl, sym, ap, ◌∙◌}
-use lib.ListN.{length}
+use mathlib.Core.Path.{refl, sym, ap, ◌∙◌}
 use native.Mathlib.Nat.{sub-zero}
 use Rattle.pass_run.proofs.Onward.{run_go, run_stop, run_full, run_out}
 use Rattle.pass_run.proofs.Standstill.{run_stays}
-use Rattle.pass_run.specs.Run.{run_of, Done}
-use Rattle.pass.specs.Pass.{scene}
+use Rattle.pass_run.specs.Run.{Done}
 use Rattle.pass_run.proofs.run.run.Goals as goal
 
 pub loop-passes-init : goal.loop-passes-init

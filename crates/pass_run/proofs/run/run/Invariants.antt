@@ -1,11 +1,7 @@
-use native.Mathlib.Omega.{arith}
 use Prim.Native.Nat.{◌*◌, ◌-◌, ◌≤◌}
-use mathlib.Core.Path.{◌≡◌, refl, sym, ap, ◌∙◌}
+use mathlib.Core.Path.{◌≡◌}
 use lib.ListN.{length}
-use native.Mathlib.Nat.{sub-zero}
-use Rattle.pass_run.proofs.Onward.{run_go, run_stop, run_full, run_out}
-use Rattle.pass_run.proofs.Standstill.{run_stays}
-use Rattle.pass_run.specs.Run.{run_of, Done}
+use Rattle.pass_run.specs.Run.{run_of}
 use Rattle.pass.specs.Pass.{scene}
 use Rattle.pass_run.proofs.run.run.Given as goal
 

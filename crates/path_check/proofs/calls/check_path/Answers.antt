@@ -1,5 +1,4 @@
 -- `path_check::calls::check_path` meets its contract: the tests, then the path. Assumes nothing.
-use native.Mathlib.Omega.{arith}
 use Rattle.refusals.proofs.Calls.{goes, stops}
 use Rattle.path_check.proofs.Placed.{polygons, lent_sides}
 use Rattle.path_check.proofs.calls.check_path.Goals as goal

@@ -1,11 +1,9 @@
 -- `refusals::lists::counts` meets its contract. The invariant: the counts left decide, from their own place on. Assumes nothing.
 use mathlib.Core.Bool.{not}
-use Prim.Native.Nat.{◌-◌, ◌≤◌}
-use mathlib.Core.Path.{ap, ◌≡◌, refl, sym, ◌∙◌}
+use mathlib.Core.Path.{ap, refl, sym, ◌∙◌}
 use native.Mathlib.Omega.{arith}
-use lib.ListN.{length, drop}
 use borrow.Author.Tests.{not-true, not-false}
-use Rattle.refusals.proofs.Faults.{counts_from, counts_on, counts_off, counts_end}
+use Rattle.refusals.proofs.Faults.{counts_on, counts_off, counts_end}
 use Rattle.refusals.proofs.lists.counts.Goals as goal
 
 pub loop-i-init : goal.loop-i-init

@@ -1,9 +1,7 @@
 use Prim.Native.Nat.{◌-◌, ◌≤◌}
-use mathlib.Core.Path.{◌≡◌, refl, sym, ◌∙◌}
-use native.Mathlib.Omega.{arith}
+use mathlib.Core.Path.{◌≡◌}
 use lib.ListN.{length, drop}
-use borrow.Author.Tests.{not-true, not-false}
-use Rattle.refusals.proofs.Faults.{counts_from, counts_on, counts_off, counts_end}
+use Rattle.refusals.proofs.Faults.{counts_from}
 use Rattle.refusals.proofs.lists.counts.Given as goal
 
 abbrev pub invariant-loop-i : goal.invariant-loop-i

@@ -1,9 +1,5 @@
 -- `refusals::rings::sum_of` meets its contract. The loop's invariant: sum is that of the counts passed, each below 2^32. Assumes nothing.
-use Prim.Native.Nat.{◌+◌, ◌*◌, ◌-◌, ◌≤◌}
-use mathlib.Core.Path.{◌≡◌}
 use native.Mathlib.Omega.{arith}
-use lib.ListN.{length, drop}
-use Rattle.refusals.specs.Rings.{total}
 use Rattle.refusals.proofs.Counts.{total_on, total_end}
 use Rattle.refusals.proofs.rings.sum_of.Goals as goal
 

@@ -1,9 +1,7 @@
 use Prim.Native.Nat.{◌+◌, ◌*◌, ◌-◌, ◌≤◌}
 use mathlib.Core.Path.{◌≡◌}
-use native.Mathlib.Omega.{arith}
 use lib.ListN.{length, drop}
 use Rattle.refusals.specs.Rings.{total}
-use Rattle.refusals.proofs.Counts.{total_on, total_end}
 use Rattle.refusals.proofs.rings.sum_of.Given as goal
 
 abbrev pub invariant-loop-i : goal.invariant-loop-i

@@ -1,9 +1,6 @@
 -- `refusals::test::are_coordinates` meets its contract. The invariant: what is left of the list decides. Assumes nothing.
 use native.Mathlib.Omega.{arith}
-use Prim.Native.Nat.{◌-◌, ◌≤◌}
-use mathlib.Core.Path.{◌≡◌, refl, sym, ◌∙◌}
-use lib.ListN.{length, drop}
-use Rattle.refusals.specs.Bounds.{coordinate, every}
+use mathlib.Core.Path.{refl, sym, ◌∙◌}
 use Rattle.refusals.proofs.Every.{every_on, every_off, every_end}
 use Rattle.refusals.proofs.test.are_coordinates.Goals as goal
 

@@ -1,9 +1,7 @@
-use native.Mathlib.Omega.{arith}
 use Prim.Native.Nat.{◌-◌, ◌≤◌}
-use mathlib.Core.Path.{◌≡◌, refl, sym, ◌∙◌}
+use mathlib.Core.Path.{◌≡◌}
 use lib.ListN.{length, drop}
 use Rattle.refusals.specs.Bounds.{finite, every}
-use Rattle.refusals.proofs.Every.{every_on, every_off, every_end}
 use Rattle.refusals.proofs.test.are_finite.Given as goal
 
 abbrev pub invariant-loop-i : goal.invariant-loop-i

@@ -1,11 +1,8 @@
 -- `ring::moving::move_ring` meets its contract. The invariant: the first i vertices are written, and the rest of the room is as it came. Assumes nothing.
 use native.Mathlib.Omega.{arith}
-use Prim.Native.Nat.{◌*◌, ◌-◌, ◌≤◌}
-use mathlib.Core.Path.{◌≡◌, refl}
-use mathlib.Core.List.{◌++◌}
-use lib.ListN.{length, drop}
+use mathlib.Core.Path.{refl}
 use Rattle.ring.specs.Points.{points}
-use Rattle.ring.specs.Moved.{moved_at, moved_of}
+use Rattle.ring.specs.Moved.{moved_of}
 use Rattle.ring.proofs.Points.{put_next, put_all}
 use Rattle.ring.proofs.Moved.{moved_at_lem}
 use Rattle.ring.proofs.moving.move_ring.Goals as goal

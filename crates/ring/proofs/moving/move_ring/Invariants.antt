@@ -1,12 +1,9 @@
-use native.Mathlib.Omega.{arith}
 use Prim.Native.Nat.{◌*◌, ◌-◌, ◌≤◌}
-use mathlib.Core.Path.{◌≡◌, refl}
+use mathlib.Core.Path.{◌≡◌}
 use mathlib.Core.List.{◌++◌}
 use lib.ListN.{length, drop}
 use Rattle.ring.specs.Points.{points}
-use Rattle.ring.specs.Moved.{moved_at, moved_of}
-use Rattle.ring.proofs.Points.{put_next, put_all}
-use Rattle.ring.proofs.Moved.{moved_at_lem}
+use Rattle.ring.specs.Moved.{moved_at}
 use Rattle.ring.proofs.moving.move_ring.Given as goal
 
 abbrev pub invariant-loop-i : goal.invariant-loop-i

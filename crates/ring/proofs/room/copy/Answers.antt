@@ -1,9 +1,7 @@
 -- `ring::room::copy` meets its contract. The invariant: the first i numbers are written, and the rest of the room is as it came. Assumes nothing.
 use native.Mathlib.Omega.{arith}
-use Prim.Native.Nat.{◌-◌, ◌≤◌}
-use mathlib.Core.Path.{◌≡◌, refl}
-use mathlib.Core.List.{◌++◌}
-use lib.ListN.{length, take, drop, length-set}
+use mathlib.Core.Path.{refl}
+use lib.ListN.{length-set}
 use lib.Ieee.{nan}
 use Rattle.ring.proofs.Emit.{emit_next, emit_all}
 use Rattle.ring.proofs.room.copy.Goals as goal

@@ -1,10 +1,7 @@
-use native.Mathlib.Omega.{arith}
 use Prim.Native.Nat.{◌-◌, ◌≤◌}
-use mathlib.Core.Path.{◌≡◌, refl}
+use mathlib.Core.Path.{◌≡◌}
 use mathlib.Core.List.{◌++◌}
-use lib.ListN.{length, take, drop, length-set}
-use lib.Ieee.{nan}
-use Rattle.ring.proofs.Emit.{emit_next, emit_all}
+use lib.ListN.{length, take, drop}
 use Rattle.ring.proofs.room.copy.Given as goal
 
 abbrev pub invariant-loop-i : goal.invariant-loop-i

@@ -1,7 +1,7 @@
 -- `ring_copies::calls::mirror_polygon` meets its contract: the tests, then the copy. Assumes nothing.
 use native.Mathlib.Omega.{arith}
 use Prim.Native.Nat.{◌*◌, ◌≤◌}
-use mathlib.Core.Path.{◌≡◌, refl, sym, ◌∙◌}
+use mathlib.Core.Path.{◌≡◌, refl}
 use lib.ListN.{length}
 use Rattle.ring.specs.Ring.{count}
 use Rattle.refusals.proofs.Calls.{goes, stops, wrote, kept}

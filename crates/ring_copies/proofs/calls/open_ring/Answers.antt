@@ -1,9 +1,8 @@
 -- `ring_copies::calls::open_ring` meets its contract: the tests, then the copy. Assumes nothing.
 use native.Mathlib.Omega.{arith}
 use Prim.Native.Nat.{◌*◌, ◌≤◌}
-use mathlib.Core.Path.{◌≡◌, refl, sym, ◌∙◌}
+use mathlib.Core.Path.{◌≡◌}
 use lib.ListN.{length}
-use Rattle.ring.specs.Ring.{count}
 use Rattle.refusals.proofs.Calls.{goes, stops, wrote, kept}
 use Rattle.refusals.proofs.Sized.{Sized}
 use Rattle.ring_copies.specs.Calls.{copy_refusal}

@@ -1,14 +1,9 @@
 -- `ring_distance::far::bounds_of` meets its contract: `proofs/Filled.antt` has the laws. The invariant: the edges below e are bounded, and a is
 -- the start of the edge e. Assumes nothing.
 use native.Mathlib.Omega.{arith}
-use Prim.Native.Nat.{◌-◌, ◌≤◌, ◌<◌}
-use mathlib.Core.Path.{◌≡◌, ap, ◌∙◌}
-use Rattle.scalar.specs.Float.{f0}
-use Rattle.plane.specs.Vector.{point}
+use mathlib.Core.Path.{ap, ◌∙◌}
 use Rattle.ring.specs.Ring.{point_at}
-use Rattle.frames.specs.Frame.{Inside}
 use Rattle.frames.proofs.Widened.{next_start}
-use Rattle.ring_distance.specs.Far.{BoundsEdges}
 use Rattle.ring_distance.proofs.Filled.{none_bounded, one_bounded}
 use Rattle.ring_distance.proofs.far.bounds_of.Goals as goal
 

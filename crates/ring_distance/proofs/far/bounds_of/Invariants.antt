@@ -1,13 +1,10 @@
-use native.Mathlib.Omega.{arith}
 use Prim.Native.Nat.{◌-◌, ◌≤◌, ◌<◌}
-use mathlib.Core.Path.{◌≡◌, ap, ◌∙◌}
+use mathlib.Core.Path.{◌≡◌}
 use Rattle.scalar.specs.Float.{f0}
 use Rattle.plane.specs.Vector.{point}
 use Rattle.ring.specs.Ring.{point_at}
 use Rattle.frames.specs.Frame.{Inside}
-use Rattle.frames.proofs.Widened.{next_start}
 use Rattle.ring_distance.specs.Far.{BoundsEdges}
-use Rattle.ring_distance.proofs.Filled.{none_bounded, one_bounded}
 use Rattle.ring_distance.proofs.far.bounds_of.Given as goal
 
 abbrev pub invariant-loop-e : goal.invariant-loop-e

@@ -1,10 +1,7 @@
 -- `ring_distance::far::fill_chains` meets its contract: `proofs/Filled.antt` has the laws. The invariant: the bounds of the chains of the edges
 -- below e are in the table, and e begins a chain unless no edge is left. Assumes nothing.
 use native.Mathlib.Omega.{arith}
-use Prim.Native.Nat.{◌-◌, ◌%◌, ◌≤◌, ◌<◌}
-use mathlib.Core.Path.{◌≡◌, refl}
-use lib.ListN.{length}
-use Rattle.ring_distance.specs.Far.{Tabled}
+use mathlib.Core.Path.{refl}
 use Rattle.ring_distance.proofs.Filled.{none_tabled, one_tabled}
 use Rattle.ring_distance.proofs.far.fill_chains.Goals as goal
 

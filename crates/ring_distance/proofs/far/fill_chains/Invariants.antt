@@ -1,9 +1,7 @@
-use native.Mathlib.Omega.{arith}
 use Prim.Native.Nat.{◌-◌, ◌%◌, ◌≤◌, ◌<◌}
-use mathlib.Core.Path.{◌≡◌, refl}
+use mathlib.Core.Path.{◌≡◌}
 use lib.ListN.{length}
 use Rattle.ring_distance.specs.Far.{Tabled}
-use Rattle.ring_distance.proofs.Filled.{none_tabled, one_tabled}
 use Rattle.ring_distance.proofs.far.fill_chains.Given as goal
 
 abbrev pub invariant-loop-e : goal.invariant-loop-e

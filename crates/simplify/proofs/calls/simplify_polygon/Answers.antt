@@ -13,7 +13,9 @@ refusal : (c : After-fits-no) → c.fits-no.result ≡ simplify_refusal c.args.l
 refusal c = screened _ _ _ c.list.ensures c.fits-no.ensures
 
 pub simplify-requires : goal.simplify-requires
-simplify-requires c = record { list_len = (passing _ _ _ (refusal (up-After-fits-no _ _ _ _ c.before.before.before.before)) c.passed.ensures c.if-passed.true).0; tolerance_in_bounds = (passing _ _ _ (refusal (up-After-fits-no _ _ _ _ c.before.before.before.before)) c.passed.ensures c.if-passed.true).1 }
+simplify-requires c =
+    let here = up-After-fits-no _ _ _ _ c.before.before.before.before in
+    record { list_len = (passing _ _ _ (refusal here) c.passed.ensures c.if-passed.true).0; tolerance_in_bounds = (passing _ _ _ (refusal here) c.passed.ensures c.if-passed.true).1 }
 
 pub returns-then-passed : goal.returns-then-passed
 returns-then-passed c =

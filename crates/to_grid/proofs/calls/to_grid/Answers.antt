@@ -16,7 +16,9 @@ refusal : (c : After-first-no)
 refusal c = screened _ _ _ c.lent.ensures c.fit.ensures c.first-no.ensures
 
 pub lay-requires : goal.lay-requires
-lay-requires c = record { list_value = (passing _ _ _ (refusal (up-After-first-no _ _ _ _ c.before.before.before.before)) c.passed.ensures c.if-passed.true).0; list_in_bounds = (passing _ _ _ (refusal (up-After-first-no _ _ _ _ c.before.before.before.before)) c.passed.ensures c.if-passed.true).1 }
+lay-requires c =
+    let here = up-After-first-no _ _ _ _ c.before.before.before.before in
+    record { list_value = (passing _ _ _ (refusal here) c.passed.ensures c.if-passed.true).0; list_in_bounds = (passing _ _ _ (refusal here) c.passed.ensures c.if-passed.true).1 }
 
 pub returns-then-passed : goal.returns-then-passed
 returns-then-passed c =

@@ -1,10 +1,5 @@
 -- `vectors::fit::next_kept` meets its contract: `proofs/Steps.antt` has the invariant; the measure is how far the end is. Assumes nothing.
-use Prim.Native.Nat.{◌*◌, ◌-◌}
-use Rattle.ring.specs.Ring.{count}
-use Rattle.pairs.specs.Pairs.{pair_count}
-use Rattle.vectors.specs.Fit.{keeps}
-use Rattle.vectors.specs.Places.{far}
-use Rattle.vectors.proofs.Steps.{Seeking, seek, drops, keeps_it, ends, nearer}
+use Rattle.vectors.proofs.Steps.{seek, drops, keeps_it, ends, nearer}
 use Rattle.vectors.proofs.fit.next_kept.Goals as goal
 
 pub loop-vector-init : goal.loop-vector-init

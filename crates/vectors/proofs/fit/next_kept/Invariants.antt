@@ -3,7 +3,7 @@ use Rattle.ring.specs.Ring.{count}
 use Rattle.pairs.specs.Pairs.{pair_count}
 use Rattle.vectors.specs.Fit.{keeps}
 use Rattle.vectors.specs.Places.{far}
-use Rattle.vectors.proofs.Steps.{Seeking, seek, drops, keeps_it, ends, nearer}
+use Rattle.vectors.proofs.Steps.{Seeking}
 use Rattle.vectors.proofs.fit.next_kept.Given as goal
 
 abbrev pub invariant-loop-vector : goal.invariant-loop-vector

@@ -1,13 +1,10 @@
 -- `vectors_call::write::count_vectors` meets its contract: `proofs/Passing.antt` has the invariant; the measure is how far the end is. Assumes nothing.
 use native.Mathlib.Omega.{arith}
-use Prim.Native.Nat.{◌*◌, ◌-◌}
-use Rattle.ring.specs.Ring.{count}
-use Rattle.pairs.specs.Pairs.{pair_count}
 use Rattle.vectors.specs.Vectors.{sourced}
 use Rattle.vectors.specs.Fit.{kept_vectors, keeps}
-use Rattle.vectors.specs.Places.{Behind, far}
+use Rattle.vectors.specs.Places.{Behind}
 use Rattle.vectors.proofs.Steps.{nearer}
-use Rattle.vectors_call.proofs.Passing.{Counting, count_none, count_one, count_all, small}
+use Rattle.vectors_call.proofs.Passing.{count_none, count_one, count_all, small}
 use Rattle.vectors_call.proofs.write.count_vectors.Goals as goal
 use Rattle.vectors_call.proofs.write.count_vectors.Goals.{In-Vector}
 

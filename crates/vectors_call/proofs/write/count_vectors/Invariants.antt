@@ -1,12 +1,9 @@
-use native.Mathlib.Omega.{arith}
 use Prim.Native.Nat.{◌*◌, ◌-◌}
 use Rattle.ring.specs.Ring.{count}
 use Rattle.pairs.specs.Pairs.{pair_count}
-use Rattle.vectors.specs.Vectors.{sourced}
-use Rattle.vectors.specs.Fit.{kept_vectors, keeps}
-use Rattle.vectors.specs.Places.{Behind, far}
-use Rattle.vectors.proofs.Steps.{nearer}
-use Rattle.vectors_call.proofs.Passing.{Counting, count_none, count_one, count_all, small}
+use Rattle.vectors.specs.Fit.{keeps}
+use Rattle.vectors.specs.Places.{far}
+use Rattle.vectors_call.proofs.Passing.{Counting}
 use Rattle.vectors_call.proofs.write.count_vectors.Given as goal
 
 abbrev pub invariant-loop-rest : goal.invariant-loop-rest

@@ -1,12 +1,9 @@
-use native.Mathlib.Omega.{arith}
 use Prim.Native.Nat.{◌*◌, ◌-◌}
 use Rattle.ring.specs.Ring.{count}
 use Rattle.pairs.specs.Pairs.{pair_count}
-use Rattle.vectors.specs.Vectors.{sourced}
-use Rattle.vectors.specs.Fit.{kept_vectors, keeps}
-use Rattle.vectors.specs.Places.{Behind, far}
-use Rattle.vectors.proofs.Steps.{nearer}
-use Rattle.vectors_call.proofs.Passing.{Writing, start, vectors_fit, sources_fit, turn, done, small}
+use Rattle.vectors.specs.Fit.{keeps}
+use Rattle.vectors.specs.Places.{far}
+use Rattle.vectors_call.proofs.Passing.{Writing}
 use Rattle.vectors_call.proofs.write.write_vectors.Given as goal
 
 abbrev pub invariant-loop-vector : goal.invariant-loop-vector

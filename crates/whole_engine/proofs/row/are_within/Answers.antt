@@ -1,13 +1,11 @@
 -- `whole_engine::row::are_within` meets its contract. The invariant: what is left of the list decides. Assumes nothing.
 use native.Mathlib.Omega.{arith}
-use Prim.Native.Nat.{◌-◌, ◌≤◌}
 use mathlib.Core.Path.{◌≡◌, refl, sym, ap, ◌∙◌}
-use lib.ListN.{length, get_or, drop}
+use lib.ListN.{get_or}
 use lib.IntN.{pos}
 use mir.Syntax.{w32}
 use mir.ValLaws.{to_z-of_z}
 use Rattle.shifted.specs.Shifted.{in_bounds}
-use Rattle.whole_engine.specs.Rows.{all_in_bounds}
 use Rattle.whole_engine.proofs.Within.{within_on, within_off, within_end}
 use Rattle.whole_engine.proofs.row.are_within.Goals as goal
 use Rattle.whole_engine.proofs.row.are_within.Goals.{After-is_within}

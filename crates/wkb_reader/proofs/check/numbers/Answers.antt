@@ -1,12 +1,11 @@
 -- `wkb_reader::check::numbers` meets its contract. The loop's invariant: the check of the coordinates left, from j on, decides. Assumes nothing.
 use mathlib.Core.Bool.{not}
-use Prim.Native.Nat.{◌-◌, ◌≤◌}
 use mathlib.Core.Path.{◌≡◌, sym, ap, ◌∙◌}
 use native.Mathlib.Omega.{arith}
 use borrow.Author.Tests.{not-true, not-false}
 use Rattle.refusals.specs.Bounds.{coordinate}
 use Rattle.wkb_layout.specs.Faults.{number_in}
-use Rattle.wkb_reader.proofs.Numbers.{number_at, check_from, check_start, number_good, number_bad, check_end}
+use Rattle.wkb_reader.proofs.Numbers.{number_at, check_start, number_good, number_bad, check_end}
 use Rattle.wkb_reader.proofs.check.numbers.Goals as goal
 use Rattle.wkb_reader.proofs.check.numbers.Goals.{After-is_coordinate}
 use Rattle.wkb_reader.proofs.check.numbers.Lts.View.{up-After-is_coordinate}

@@ -1,10 +1,6 @@
 use Prim.Native.Nat.{◌-◌, ◌≤◌}
-use mathlib.Core.Path.{◌≡◌, sym, ap, ◌∙◌}
-use native.Mathlib.Omega.{arith}
-use borrow.Author.Tests.{not-true, not-false}
-use Rattle.refusals.specs.Bounds.{coordinate}
-use Rattle.wkb_layout.specs.Faults.{number_in}
-use Rattle.wkb_reader.proofs.Numbers.{number_at, check_from, check_start, number_good, number_bad, check_end}
+use mathlib.Core.Path.{◌≡◌}
+use Rattle.wkb_reader.proofs.Numbers.{check_from}
 use Rattle.wkb_reader.proofs.check.numbers.Given as goal
 
 abbrev pub invariant-loop-j : goal.invariant-loop-j

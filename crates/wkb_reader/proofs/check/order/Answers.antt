@@ -1,5 +1,4 @@
 -- `wkb_reader::check::order` meets its contract: 0 is big-endian. Assumes nothing.
-use native.Mathlib.Omega.{arith}
 use borrow.Author.Tests.{eq-eqb, ne_eqb}
 use Rattle.wkb_reader.proofs.check.order.Goals as goal
 

@@ -1,9 +1,8 @@
 -- `wkb_reader::load::load` meets its contract. The loop's invariant: with the numbers from j on stored at their place, the room is what was asked
 -- for. Assumes nothing.
-use Prim.Native.Nat.{ℕ, ◌+◌, ◌*◌, ◌-◌, ◌≤◌}
+use Prim.Native.Nat.{ℕ, ◌+◌, ◌*◌, ◌-◌}
 use native.Mathlib.Omega.{arith}
 use mathlib.Core.Path.{◌≡◌, refl, sym, ap, ◌∙◌}
-use mathlib.Core.List.{List}
 use lib.ListN.{length, set, length-set, length-map, drop}
 use lib.Seq.{sets}
 use lib.Ieee.{Float, binary64, of_bits}
@@ -69,7 +68,10 @@ returns c =
     let f = c.args.f.now in
     let n = c.points.result - 1 in
     let e : n ≡ open_vertices f = ap (λ (k : ℕ). k - 1) c.points.ensures.0 in
-    let size : length (open_ring f) ≡ 2 * open_vertices f = length-map (numbers_in (order_in f) (2 * open_vertices f) (drop head_bytes f)) (of_bits binary64) ∙ length_numbersIn (order_in f) (2 * open_vertices f) (drop head_bytes f) in record { value = e; room_after = sym (load_end f (2 * n) c.loop-j.j c.loop-j-test.false c.loop-j.room)
+    let size : length (open_ring f) ≡ 2 * open_vertices f = length-map (numbers_in (order_in f) (2 * open_vertices f) (drop head_bytes f)) (of_bits binary64) ∙ length_numbersIn (order_in f) (2 * open_vertices f) (drop head_bytes f) in record {
+      value = e;
+      room_after = sym (load_end f (2 * n) c.loop-j.j c.loop-j-test.false c.loop-j.room)
           ∙ sym c.loop-j.invariant.2
           ∙ ap (λ (k : ℕ). sets c.args.room.now 0 (numbers_from f (2 * k) 0)) e
-          ∙ laid_is (open_ring f) c.args.room.now (omega (arith, size, c.requires.f_in_bounds)) }
+          ∙ laid_is (open_ring f) c.args.room.now (omega (arith, size, c.requires.f_in_bounds));
+    }

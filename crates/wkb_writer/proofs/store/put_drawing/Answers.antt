@@ -17,6 +17,9 @@ pub returns : goal.returns
 returns c =
     let xs = c.args.xs.now in
     let last = head_bytes + number_bytes * length xs in
-    let e = c.put_numbers.ensures ∙ ap (λ (r : List ℕ). sets r head_bytes (numbers xs)) c.put_head.ensures in record { value = (omega arith); room_after = c.put_numbers-2.ensures
+    let e = c.put_numbers.ensures ∙ ap (λ (r : List ℕ). sets r head_bytes (numbers xs)) c.put_head.ensures in record {
+      value = (omega arith);
+      room_after = c.put_numbers-2.ensures
           ∙ ap (λ (r : List ℕ). sets r last (numbers (take 2 xs))) e
-          ∙ three_runs xs c.args.room.now c.requires.xs_len.0 c.requires.xs_len.1 c.requires.xs_in_bounds }
+          ∙ three_runs xs c.args.room.now c.requires.xs_len.0 c.requires.xs_len.1 c.requires.xs_in_bounds;
+    }

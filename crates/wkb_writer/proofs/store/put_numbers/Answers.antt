@@ -1,6 +1,6 @@
 -- `wkb_writer::store::put_numbers` meets its contract. The loop's invariant: with the numbers from j on stored at their place, the room is
 -- what was asked for. Assumes nothing.
-use Prim.Native.Nat.{ℕ, ◌+◌, ◌*◌, ◌-◌, ◌≤◌}
+use Prim.Native.Nat.{ℕ, ◌+◌, ◌*◌}
 use mathlib.Core.Path.{◌≡◌, refl, sym, ap, ◌∙◌}
 use mathlib.Core.List.{List}
 use native.Mathlib.Omega.{arith}

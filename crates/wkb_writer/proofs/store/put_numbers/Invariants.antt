@@ -1,13 +1,9 @@
-use Prim.Native.Nat.{ℕ, ◌+◌, ◌*◌, ◌-◌, ◌≤◌}
-use mathlib.Core.Path.{◌≡◌, refl, sym, ap, ◌∙◌}
-use mathlib.Core.List.{List}
-use native.Mathlib.Omega.{arith}
-use lib.ListN.{length, get_or, drop}
-use lib.Seq.{sets, length-sets}
-use lib.Ieee.{nan, binary64, to_bits}
-use Rattle.number_bytes.specs.Bytes.{bytes_of}
+use Prim.Native.Nat.{◌+◌, ◌*◌, ◌-◌, ◌≤◌}
+use mathlib.Core.Path.{◌≡◌}
+use lib.ListN.{length, drop}
+use lib.Seq.{sets}
 use Rattle.wkb_layout.specs.Layout.{number_bytes}
-use Rattle.wkb_writer.proofs.Storing.{numbers, numbers_start, numbers_on, numbers_end}
+use Rattle.wkb_writer.proofs.Storing.{numbers}
 use Rattle.wkb_writer.proofs.store.put_numbers.Given as goal
 
 abbrev pub invariant-loop-j : goal.invariant-loop-j
