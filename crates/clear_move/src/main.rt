@@ -17,11 +17,12 @@ ghost use Rattle.clear_move.specs.Said.{pair_text, rings_text, book_text, input_
 use book_layout::{BOOK_MOST, NUMBERS_MOST};
 use book_reader::calls::read_book;
 use clear_calls::calls::clear_move;
-use libc::{STDIN_FILENO, STDOUT_FILENO};
 use lines::put_refusal;
 use refusals::answer::Count;
 use refusals::{REFUSED_BOOK, REFUSED_FEW, REFUSED_NUMBER, RINGS_MOST, Refusal};
 use say::put_judged;
+use std::io;
+use std::io::Read;
 use whole_input::{are_whole, whole_list, whole_word};
 
 // Bytes of the move.
@@ -137,10 +138,11 @@ fn put_input(input: &[u8], out: &mut [u8]) -> usize
 }
 
 // One byte more than the move and the longest book is read, so that what is too long is refused like any other wrong length.
-fn main() {
-    let mut input = [0u8; MOVE_BYTES + BOOK_MOST + 1];
+fn main(rt: HostRuntime) -> io::Result<()> {
+    let mut input = Vec::new(rt.alloc());
+    let most = MOVE_BYTES + BOOK_MOST + 1;
+    rt.reader().take(most as u64).read_to_end(&mut input)?;
     let mut out = [0u8; TEXT_MOST];
-    let n = io::read_full(STDIN_FILENO, &mut input);
-    let length = put_input(&input[..n], &mut out);
-    io::write_all(STDOUT_FILENO, &out[..length]);
+    let length = put_input(input.as_slice(), &mut out);
+    rt.write_all(&out[..length])
 }

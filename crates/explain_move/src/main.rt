@@ -13,13 +13,14 @@ ghost use Rattle.explain_move.specs.Said.{move_in, tolerance_in, explained_text,
 use book_layout::{BOOK_MOST, NUMBERS_MOST};
 use book_reader::calls::read_book;
 use grounds::calls::explain_collision;
-use libc::{STDIN_FILENO, STDOUT_FILENO};
 use lines::put_number;
 use number_bytes::{float_of, number8};
 use plane::Point;
 use refusals::RINGS_MOST;
 use refusals::answer::Count;
 use say::put_explained;
+use std::io;
+use std::io::Read;
 
 // Bytes of the three words before the book.
 const WORDS_BYTES: usize = 24;
@@ -118,10 +119,11 @@ fn put_input(input: &[u8], out: &mut [u8]) -> usize
 }
 
 // One byte more than the words and the longest book is read, so that what is too long is refused like any other wrong length.
-fn main() {
-    let mut input = [0u8; WORDS_BYTES + BOOK_MOST + 1];
+fn main(rt: HostRuntime) -> io::Result<()> {
+    let mut input = Vec::new(rt.alloc());
+    let most = WORDS_BYTES + BOOK_MOST + 1;
+    rt.reader().take(most as u64).read_to_end(&mut input)?;
     let mut out = [0u8; 120];
-    let n = io::read_full(STDIN_FILENO, &mut input);
-    let length = put_input(&input[..n], &mut out);
-    io::write_all(STDOUT_FILENO, &out[..length]);
+    let length = put_input(input.as_slice(), &mut out);
+    rt.write_all(&out[..length])
 }

@@ -4,8 +4,9 @@
 ghost use Rattle.std.specs.Prelude.{◌≤◌, ◌<◌, length};
 ghost use Rattle.replay.specs.Tally.{Counted};
 
-use libc::{STDIN_FILENO, STDOUT_FILENO};
 use number_bytes::{bits_of, float_of, number8};
+use std::io;
+use std::io::Read;
 
 // The little-endian word at a byte of a list, 0 where the list ends before its end.
 pub fn word(bytes: &[u8], at: usize) -> u64 {
@@ -26,11 +27,26 @@ pub fn list_length(header: &[u8], at: usize, most: usize) -> usize
     if n <= most as u64 { n as usize } else { most }
 }
 
-// Reads the next n bytes of standard input to the front of the room, as far as there are so many.
-pub fn read(room: &mut [u8], n: usize)
+// Reads until the room is full, the input ends or a read fails, and answers how many bytes stand at the front of the room then.
+pub fn read_full<R: Read>(input: &mut R, room: &mut [u8]) -> usize
+    ensures { result ≤ length room.new }
+{
+    let mut done = 0;
+    while done < room.len() {
+        match input.read(&mut room[done..]) {
+            Ok(0) => break,
+            Ok(n) => done += n,
+            Err(_) => break,
+        }
+    }
+    done
+}
+
+// Reads the next n bytes of the input to the front of the room, as far as there are so many.
+pub fn read<R: Read>(input: &mut R, room: &mut [u8], n: usize)
     requires { n ≤ length room.old }
 {
-    io::read_full(STDIN_FILENO, &mut room[..n]);
+    read_full(input, &mut room[..n]);
 }
 
 // The floats of the words from a byte on, at the front of the room.
@@ -184,15 +200,16 @@ pub fn begin() -> Tally
 }
 
 // Names the first record that differs.
-fn name_first(seen: u64, agreed: u64) {
-    if seen == agreed {
-        io::write_all(STDOUT_FILENO, b"first that differs: record ");
-        io::print_decimal(STDOUT_FILENO, seen);
-        io::write_all(STDOUT_FILENO, b"\n");
+pub fn name_first(rt: &impl Print, t: Tally, verdict: Verdict) -> io::Result<()> {
+    match verdict {
+        Verdict::Differs if t.seen == t.agreed => {
+            println!(rt; "first that differs: record {}", t.seen)
+        }
+        _ => Ok(()),
     }
 }
 
-// The tally after one more record. The first that differs is named, and at the end of the input none is left.
+// The tally after one more record. At the end of the input none is left.
 pub fn after(t: Tally, verdict: Verdict) -> Tally
     requires { Counted t × (0 < t.left) }
     ensures { Counted result × (result.left < t.left) }
@@ -208,21 +225,15 @@ pub fn after(t: Tally, verdict: Verdict) -> Tally
             agreed: t.agreed + 1,
             left: t.left - 1,
         },
-        Verdict::Differs => {
-            name_first(t.seen, t.agreed);
-            Tally {
-                seen: t.seen + 1,
-                agreed: t.agreed,
-                left: t.left - 1,
-            }
-        }
+        Verdict::Differs => Tally {
+            seen: t.seen + 1,
+            agreed: t.agreed,
+            left: t.left - 1,
+        },
     }
 }
 
 // The last line: how many records were read and how many agreed.
-pub fn report(t: Tally) {
-    io::print_decimal(STDOUT_FILENO, t.agreed);
-    io::write_all(STDOUT_FILENO, b" of ");
-    io::print_decimal(STDOUT_FILENO, t.seen);
-    io::write_all(STDOUT_FILENO, b" agree\n");
+pub fn report(rt: &impl Print, t: Tally) -> io::Result<()> {
+    println!(rt; "{} of {} agree", t.agreed, t.seen)
 }

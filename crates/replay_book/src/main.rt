@@ -4,42 +4,43 @@
 
 ghost use Rattle.std.specs.Prelude.{◌≡◌, ◌≤◌, length};
 
-use libc::STDIN_FILENO;
 use refusals::answer::Count;
 use replay::{
-    Verdict, after, begin, list_length, load, load_counts, read, report, same_bytes, same_counts,
-    same_floats, word,
+    Verdict, after, begin, list_length, load, load_counts, name_first, read, read_full, report,
+    same_bytes, same_counts, same_floats, word,
 };
+use std::io;
+use std::io::{BufReader, Read};
 
 // The next n words of the input as floats, as counts, and the next n bytes, which fill whole words.
-fn floats(n: usize) -> [f64; 4200]
+fn floats<R: Read>(input: &mut R, n: usize) -> [f64; 4200]
     requires { n ≤ 4200 }
     ensures { 4200 ≡ length result }
 {
     let mut words = [0u8; 33600];
     let mut list = [0.0; 4200];
-    read(&mut words, 8 * n);
+    read(input, &mut words, 8 * n);
     load(&words, n, &mut list);
     list
 }
 
-fn counts(n: usize) -> [u32; 16]
+fn counts<R: Read>(input: &mut R, n: usize) -> [u32; 16]
     requires { n ≤ 16 }
     ensures { 16 ≡ length result }
 {
     let mut words = [0u8; 128];
     let mut list = [0u32; 16];
-    read(&mut words, 8 * n);
+    read(input, &mut words, 8 * n);
     load_counts(&words, n, &mut list);
     list
 }
 
-fn bytes(n: usize) -> [u8; 33000]
+fn bytes<R: Read>(input: &mut R, n: usize) -> [u8; 33000]
     requires { n ≤ 33000 }
     ensures { 33000 ≡ length result }
 {
     let mut list = [0u8; 33000];
-    read(&mut list, (n + 7) / 8 * 8);
+    read(input, &mut list, (n + 7) / 8 * 8);
     list
 }
 
@@ -77,14 +78,21 @@ fn write(
     book_writer::calls::write_book(&xs[..an], &ns[..bn], &ps[..pn], &mut room[..rn])
 }
 
-fn write_agrees(header: &[u8; 96], an: usize, bn: usize, pn: usize, rn: usize) -> bool
+fn write_agrees<R: Read>(
+    input: &mut R,
+    header: &[u8; 96],
+    an: usize,
+    bn: usize,
+    pn: usize,
+    rn: usize,
+) -> bool
     requires { (an ≤ 4200) × (bn ≤ 16) × (pn ≤ 16) × (rn ≤ 33000) }
 {
-    let xs = floats(an);
-    let ns = counts(bn);
-    let ps = counts(pn);
-    let mut room = bytes(rn);
-    let left = bytes(rn);
+    let xs = floats(input, an);
+    let ns = counts(input, bn);
+    let ps = counts(input, pn);
+    let mut room = bytes(input, rn);
+    let left = bytes(input, rn);
     if told(write(&xs, an, &ns, bn, &ps, pn, &mut room, rn), header) {
         same_bytes(&room, &left, rn)
     } else {
@@ -109,7 +117,8 @@ fn read_rings(
 }
 
 // Whether the rooms are left as the record goes on to say.
-fn left_agrees(
+fn left_agrees<R: Read>(
+    input: &mut R,
     xs: &[f64; 4200],
     rn: usize,
     ns: &[u32; 16],
@@ -119,9 +128,9 @@ fn left_agrees(
 ) -> bool
     requires { (rn ≤ 4200) × (cn ≤ 16) × (pn ≤ 16) }
 {
-    let xs_left = floats(rn);
-    let ns_left = counts(cn);
-    let ps_left = counts(pn);
+    let xs_left = floats(input, rn);
+    let ns_left = counts(input, cn);
+    let ps_left = counts(input, pn);
     if !same_floats(xs, &xs_left, rn) {
         return false;
     }
@@ -132,15 +141,22 @@ fn left_agrees(
     }
 }
 
-fn read_agrees(header: &[u8; 96], an: usize, rn: usize, cn: usize, pn: usize) -> bool
+fn read_agrees<R: Read>(
+    input: &mut R,
+    header: &[u8; 96],
+    an: usize,
+    rn: usize,
+    cn: usize,
+    pn: usize,
+) -> bool
     requires { (an ≤ 33000) × (rn ≤ 4200) × (cn ≤ 16) × (pn ≤ 16) }
 {
-    let book = bytes(an);
-    let mut xs = floats(rn);
-    let mut ns = counts(cn);
-    let mut ps = counts(pn);
+    let book = bytes(input, an);
+    let mut xs = floats(input, rn);
+    let mut ns = counts(input, cn);
+    let mut ps = counts(input, pn);
     let answer = read_rings(&book, an, &mut xs, rn, &mut ns, cn, &mut ps, pn);
-    if left_agrees(&xs, rn, &ns, cn, &ps, pn) {
+    if left_agrees(input, &xs, rn, &ns, cn, &ps, pn) {
         told(answer, header)
     } else {
         false
@@ -148,40 +164,43 @@ fn read_agrees(header: &[u8; 96], an: usize, rn: usize, cn: usize, pn: usize) ->
 }
 
 // One record past its header.
-fn agrees(header: &[u8; 96]) -> bool {
+fn agrees<R: Read>(input: &mut R, header: &[u8; 96]) -> bool {
     if word(header, 0) == 0 {
         let an = list_length(header, 8, 4200);
         let bn = list_length(header, 16, 16);
         let rn = list_length(header, 24, 33000);
         let pn = list_length(header, 64, 16);
-        write_agrees(header, an, bn, pn, rn)
+        write_agrees(input, header, an, bn, pn, rn)
     } else {
         let an = list_length(header, 8, 33000);
         let rn = list_length(header, 24, 4200);
         let cn = list_length(header, 32, 16);
         let pn = list_length(header, 64, 16);
-        read_agrees(header, an, rn, cn, pn)
+        read_agrees(input, header, an, rn, cn, pn)
     }
 }
 
 // One record: read, worked out and compared.
-fn step() -> Verdict {
+fn step<R: Read>(input: &mut R) -> Verdict {
     let mut header = [0u8; 96];
-    let got = io::read_full(STDIN_FILENO, &mut header);
+    let got = read_full(input, &mut header);
     if got < 96 {
         return Verdict::End;
     }
-    if agrees(&header) {
+    if agrees(input, &header) {
         Verdict::Agrees
     } else {
         Verdict::Differs
     }
 }
 
-fn main() {
+fn main(rt: HostRuntime) -> io::Result<()> {
+    let mut input = BufReader::new(rt.alloc(), rt.reader())?;
     let mut tally = begin();
     while 0 < tally.left {
-        tally = after(tally, step());
+        let verdict = step(&mut input);
+        name_first(&rt, tally, verdict)?;
+        tally = after(tally, verdict);
     }
-    report(tally);
+    report(&rt, tally)
 }

@@ -3,20 +3,24 @@
 
 ghost use Rattle.std.specs.Prelude.{◌≡◌, ◌≤◌, length};
 
-use libc::STDIN_FILENO;
 use number_bytes::float_of;
 use plane::Point;
 use refusals::answer::Count;
-use replay::{Verdict, after, begin, list_length, load, read, report, same_floats, word};
+use replay::{
+    Verdict, after, begin, list_length, load, name_first, read, read_full, report, same_floats,
+    word,
+};
+use std::io;
+use std::io::{BufReader, Read};
 
 // The next n words of the input as floats.
-fn floats(n: usize) -> [f64; 600]
+fn floats<R: Read>(input: &mut R, n: usize) -> [f64; 600]
     requires { n ≤ 600 }
     ensures { 600 ≡ length result }
 {
     let mut words = [0u8; 4800];
     let mut list = [0.0; 600];
-    read(&mut words, 8 * n);
+    read(input, &mut words, 8 * n);
     load(&words, n, &mut list);
     list
 }
@@ -52,10 +56,10 @@ fn make(header: &[u8; 56], room: &mut [f64], rn: usize) -> Count
 }
 
 // One record past its header.
-fn agrees(header: &[u8; 56]) -> bool {
+fn agrees<R: Read>(input: &mut R, header: &[u8; 56]) -> bool {
     let rn = list_length(header, 8, 600);
-    let mut room = floats(rn);
-    let left = floats(rn);
+    let mut room = floats(input, rn);
+    let left = floats(input, rn);
     if told(make(header, &mut room, rn), header) {
         same_floats(&room, &left, rn)
     } else {
@@ -64,23 +68,26 @@ fn agrees(header: &[u8; 56]) -> bool {
 }
 
 // One record: read, worked out and compared.
-fn step() -> Verdict {
+fn step<R: Read>(input: &mut R) -> Verdict {
     let mut header = [0u8; 56];
-    let got = io::read_full(STDIN_FILENO, &mut header);
+    let got = read_full(input, &mut header);
     if got < 56 {
         return Verdict::End;
     }
-    if agrees(&header) {
+    if agrees(input, &header) {
         Verdict::Agrees
     } else {
         Verdict::Differs
     }
 }
 
-fn main() {
+fn main(rt: HostRuntime) -> io::Result<()> {
+    let mut input = BufReader::new(rt.alloc(), rt.reader())?;
     let mut tally = begin();
     while 0 < tally.left {
-        tally = after(tally, step());
+        let verdict = step(&mut input);
+        name_first(&rt, tally, verdict)?;
+        tally = after(tally, verdict);
     }
-    report(tally);
+    report(&rt, tally)
 }

@@ -8,44 +8,46 @@ ghost use Rattle.std.specs.Prelude.{◌≡◌, ◌≤◌, length};
 
 use clear_drawn::calls::{check_reason, clear_move};
 use clear_drawn_path::calls::clear_path;
-use libc::STDIN_FILENO;
 use number_bytes::float_of;
 use plane::Point;
 use replay::{
-    Verdict, after, begin, list_length, load, load_integers, read, report, same_integers, word,
+    Verdict, after, begin, list_length, load, load_integers, name_first, read, read_full, report,
+    same_integers, word,
 };
+use std::io;
+use std::io::{BufReader, Read};
 use told::Told;
 
 // The next n words of the input: a polygon, a room or a reason, a path.
-fn polygon(n: usize) -> [f64; 600]
+fn polygon<R: Read>(input: &mut R, n: usize) -> [f64; 600]
     requires { n ≤ 600 }
     ensures { 600 ≡ length result }
 {
     let mut words = [0u8; 4800];
     let mut list = [0.0; 600];
-    read(&mut words, 8 * n);
+    read(input, &mut words, 8 * n);
     load(&words, n, &mut list);
     list
 }
 
-fn lines(n: usize) -> [i32; 1100]
+fn lines<R: Read>(input: &mut R, n: usize) -> [i32; 1100]
     requires { n ≤ 1100 }
     ensures { 1100 ≡ length result }
 {
     let mut words = [0u8; 8800];
     let mut list = [0i32; 1100];
-    read(&mut words, 8 * n);
+    read(input, &mut words, 8 * n);
     load_integers(&words, n, &mut list);
     list
 }
 
-fn points(n: usize) -> [f64; 20100]
+fn points<R: Read>(input: &mut R, n: usize) -> [f64; 20100]
     requires { n ≤ 20100 }
     ensures { 20100 ≡ length result }
 {
     let mut words = [0u8; 160800];
     let mut list = [0.0; 20100];
-    read(&mut words, 8 * n);
+    read(input, &mut words, 8 * n);
     load(&words, n, &mut list);
     list
 }
@@ -134,12 +136,19 @@ fn legs(a: Asked, s: &[f64], sn: usize, o: &[f64], on: usize, path: &[f64], n: u
 }
 
 // Whether the search of a record is told so and leaves its room as the record says.
-fn searched(header: &[u8; 136], s: &[f64; 600], sn: usize, o: &[f64; 600], on: usize) -> bool
+fn searched<R: Read>(
+    input: &mut R,
+    header: &[u8; 136],
+    s: &[f64; 600],
+    sn: usize,
+    o: &[f64; 600],
+    on: usize,
+) -> bool
     requires { (sn ≤ 600) × (on ≤ 600) }
 {
     let rn = list_length(header, 24, 1100);
-    let mut room = lines(rn);
-    let left = lines(rn);
+    let mut room = lines(input, rn);
+    let left = lines(input, rn);
     if told_so(
         search(asked_in(header), s, sn, o, on, &mut room, rn),
         header,
@@ -151,54 +160,71 @@ fn searched(header: &[u8; 136], s: &[f64; 600], sn: usize, o: &[f64; 600], on: u
 }
 
 // Whether the check of a record's reason is told so.
-fn checked(header: &[u8; 136], s: &[f64; 600], sn: usize, o: &[f64; 600], on: usize) -> bool
+fn checked<R: Read>(
+    input: &mut R,
+    header: &[u8; 136],
+    s: &[f64; 600],
+    sn: usize,
+    o: &[f64; 600],
+    on: usize,
+) -> bool
     requires { (sn ≤ 600) × (on ≤ 600) }
 {
     let n = list_length(header, 24, 1100);
-    let reason = lines(n);
+    let reason = lines(input, n);
     told_so(check(asked_in(header), s, sn, o, on, &reason, n), header)
 }
 
 // Whether the path of a record is told so.
-fn gone(header: &[u8; 136], s: &[f64; 600], sn: usize, o: &[f64; 600], on: usize) -> bool
+fn gone<R: Read>(
+    input: &mut R,
+    header: &[u8; 136],
+    s: &[f64; 600],
+    sn: usize,
+    o: &[f64; 600],
+    on: usize,
+) -> bool
     requires { (sn ≤ 600) × (on ≤ 600) }
 {
     let n = list_length(header, 24, 20100);
-    let path = points(n);
+    let path = points(input, n);
     told_so(legs(asked_in(header), s, sn, o, on, &path, n), header)
 }
 
 // One record past its header.
-fn agrees(header: &[u8; 136]) -> bool {
+fn agrees<R: Read>(input: &mut R, header: &[u8; 136]) -> bool {
     let sn = list_length(header, 8, 600);
     let on = list_length(header, 16, 600);
-    let s = polygon(sn);
-    let o = polygon(on);
+    let s = polygon(input, sn);
+    let o = polygon(input, on);
     match word(header, 0) {
-        0 => searched(header, &s, sn, &o, on),
-        1 => checked(header, &s, sn, &o, on),
-        _ => gone(header, &s, sn, &o, on),
+        0 => searched(input, header, &s, sn, &o, on),
+        1 => checked(input, header, &s, sn, &o, on),
+        _ => gone(input, header, &s, sn, &o, on),
     }
 }
 
 // One record: read, worked out and compared.
-fn step() -> Verdict {
+fn step<R: Read>(input: &mut R) -> Verdict {
     let mut header = [0u8; 136];
-    let got = io::read_full(STDIN_FILENO, &mut header);
+    let got = read_full(input, &mut header);
     if got < 136 {
         return Verdict::End;
     }
-    if agrees(&header) {
+    if agrees(input, &header) {
         Verdict::Agrees
     } else {
         Verdict::Differs
     }
 }
 
-fn main() {
+fn main(rt: HostRuntime) -> io::Result<()> {
+    let mut input = BufReader::new(rt.alloc(), rt.reader())?;
     let mut tally = begin();
     while 0 < tally.left {
-        tally = after(tally, step());
+        let verdict = step(&mut input);
+        name_first(&rt, tally, verdict)?;
+        tally = after(tally, verdict);
     }
-    report(tally);
+    report(&rt, tally)
 }

@@ -3,55 +3,57 @@
 
 ghost use Rattle.std.specs.Prelude.{◌≡◌, ◌≤◌, length};
 
-use libc::STDIN_FILENO;
 use refusals::answer::Count;
 use replay::{
-    Verdict, after, begin, list_length, load, load_integers, read, report, same_integers, word,
+    Verdict, after, begin, list_length, load, load_integers, name_first, read, read_full, report,
+    same_integers, word,
 };
+use std::io;
+use std::io::{BufReader, Read};
 
 // The next n words of the input as floats: the points.
-fn floats(n: usize) -> [f64; 20100]
+fn floats<R: Read>(input: &mut R, n: usize) -> [f64; 20100]
     requires { n ≤ 20100 }
     ensures { 20100 ≡ length result }
 {
     let mut words = [0u8; 160800];
     let mut list = [0.0; 20100];
-    read(&mut words, 8 * n);
+    read(input, &mut words, 8 * n);
     load(&words, n, &mut list);
     list
 }
 
 // The next n words of the input as integers: a room.
-fn integers(n: usize) -> [i32; 20100]
+fn integers<R: Read>(input: &mut R, n: usize) -> [i32; 20100]
     requires { n ≤ 20100 }
     ensures { 20100 ≡ length result }
 {
     let mut words = [0u8; 160800];
     let mut list = [0i32; 20100];
-    read(&mut words, 8 * n);
+    read(input, &mut words, 8 * n);
     load_integers(&words, n, &mut list);
     list
 }
 
 // The same of a few words.
-fn few_floats(n: usize) -> [f64; 80]
+fn few_floats<R: Read>(input: &mut R, n: usize) -> [f64; 80]
     requires { n ≤ 80 }
     ensures { 80 ≡ length result }
 {
     let mut words = [0u8; 640];
     let mut list = [0.0; 80];
-    read(&mut words, 8 * n);
+    read(input, &mut words, 8 * n);
     load(&words, n, &mut list);
     list
 }
 
-fn few_integers(n: usize) -> [i32; 80]
+fn few_integers<R: Read>(input: &mut R, n: usize) -> [i32; 80]
     requires { n ≤ 80 }
     ensures { 80 ≡ length result }
 {
     let mut words = [0u8; 640];
     let mut list = [0i32; 80];
-    read(&mut words, 8 * n);
+    read(input, &mut words, 8 * n);
     load_integers(&words, n, &mut list);
     list
 }
@@ -83,12 +85,12 @@ fn put(header: &[u8; 48], list: &[f64], n: usize, room: &mut [i32], rn: usize) -
 }
 
 // A record of few numbers past its header, and one of any number: most are short, and arrays for the longest take their time.
-fn few_agree(header: &[u8; 48], n: usize, rn: usize) -> bool
+fn few_agree<R: Read>(input: &mut R, header: &[u8; 48], n: usize, rn: usize) -> bool
     requires { (n ≤ 80) × (rn ≤ 80) }
 {
-    let list = few_floats(n);
-    let mut room = few_integers(rn);
-    let left = few_integers(rn);
+    let list = few_floats(input, n);
+    let mut room = few_integers(input, rn);
+    let left = few_integers(input, rn);
     if told(put(header, &list, n, &mut room, rn), header) {
         same_integers(&room, &left, rn)
     } else {
@@ -96,12 +98,12 @@ fn few_agree(header: &[u8; 48], n: usize, rn: usize) -> bool
     }
 }
 
-fn agree(header: &[u8; 48], n: usize, rn: usize) -> bool
+fn agree<R: Read>(input: &mut R, header: &[u8; 48], n: usize, rn: usize) -> bool
     requires { (n ≤ 20100) × (rn ≤ 20100) }
 {
-    let list = floats(n);
-    let mut room = integers(rn);
-    let left = integers(rn);
+    let list = floats(input, n);
+    let mut room = integers(input, rn);
+    let left = integers(input, rn);
     if told(put(header, &list, n, &mut room, rn), header) {
         same_integers(&room, &left, rn)
     } else {
@@ -110,35 +112,38 @@ fn agree(header: &[u8; 48], n: usize, rn: usize) -> bool
 }
 
 // One record past its header.
-fn agrees(header: &[u8; 48]) -> bool {
+fn agrees<R: Read>(input: &mut R, header: &[u8; 48]) -> bool {
     let n = list_length(header, 0, 20100);
     let rn = list_length(header, 16, 20100);
     if n <= 80 {
         if rn <= 80 {
-            return few_agree(header, n, rn);
+            return few_agree(input, header, n, rn);
         }
     }
-    agree(header, n, rn)
+    agree(input, header, n, rn)
 }
 
 // One record: read, worked out and compared.
-fn step() -> Verdict {
+fn step<R: Read>(input: &mut R) -> Verdict {
     let mut header = [0u8; 48];
-    let got = io::read_full(STDIN_FILENO, &mut header);
+    let got = read_full(input, &mut header);
     if got < 48 {
         return Verdict::End;
     }
-    if agrees(&header) {
+    if agrees(input, &header) {
         Verdict::Agrees
     } else {
         Verdict::Differs
     }
 }
 
-fn main() {
+fn main(rt: HostRuntime) -> io::Result<()> {
+    let mut input = BufReader::new(rt.alloc(), rt.reader())?;
     let mut tally = begin();
     while 0 < tally.left {
-        tally = after(tally, step());
+        let verdict = step(&mut input);
+        name_first(&rt, tally, verdict)?;
+        tally = after(tally, verdict);
     }
-    report(tally);
+    report(&rt, tally)
 }

@@ -5,32 +5,33 @@ mod told;
 
 ghost use Rattle.std.specs.Prelude.{◌≡◌, ◌≤◌, length};
 
-use libc::STDIN_FILENO;
 use number_bytes::float_of;
 use path_check::calls::check_path;
 use refusals::Settings;
-use replay::{Verdict, after, begin, list_length, load, read, report, word};
+use replay::{Verdict, after, begin, list_length, load, name_first, read, read_full, report, word};
+use std::io;
+use std::io::{BufReader, Read};
 use told::Told;
 
 // The next n words of the input as floats: a polygon, a path.
-fn polygon(n: usize) -> [f64; 600]
+fn polygon<R: Read>(input: &mut R, n: usize) -> [f64; 600]
     requires { n ≤ 600 }
     ensures { 600 ≡ length result }
 {
     let mut words = [0u8; 4800];
     let mut list = [0.0; 600];
-    read(&mut words, 8 * n);
+    read(input, &mut words, 8 * n);
     load(&words, n, &mut list);
     list
 }
 
-fn points(n: usize) -> [f64; 20100]
+fn points<R: Read>(input: &mut R, n: usize) -> [f64; 20100]
     requires { n ≤ 20100 }
     ensures { 20100 ≡ length result }
 {
     let mut words = [0u8; 160800];
     let mut list = [0.0; 20100];
-    read(&mut words, 8 * n);
+    read(input, &mut words, 8 * n);
     load(&words, n, &mut list);
     list
 }
@@ -77,34 +78,37 @@ fn check_told(
 }
 
 // One record past its header.
-fn agrees(header: &[u8; 80]) -> bool {
+fn agrees<R: Read>(input: &mut R, header: &[u8; 80]) -> bool {
     let sn = list_length(header, 0, 600);
     let on = list_length(header, 8, 600);
     let pn = list_length(header, 16, 20100);
-    let s = polygon(sn);
-    let o = polygon(on);
-    let path = points(pn);
+    let s = polygon(input, sn);
+    let o = polygon(input, on);
+    let path = points(input, pn);
     check_told(header, &s, sn, &o, on, &path, pn)
 }
 
 // One record: read, worked out and compared.
-fn step() -> Verdict {
+fn step<R: Read>(input: &mut R) -> Verdict {
     let mut header = [0u8; 80];
-    let got = io::read_full(STDIN_FILENO, &mut header);
+    let got = read_full(input, &mut header);
     if got < 80 {
         return Verdict::End;
     }
-    if agrees(&header) {
+    if agrees(input, &header) {
         Verdict::Agrees
     } else {
         Verdict::Differs
     }
 }
 
-fn main() {
+fn main(rt: HostRuntime) -> io::Result<()> {
+    let mut input = BufReader::new(rt.alloc(), rt.reader())?;
     let mut tally = begin();
     while 0 < tally.left {
-        tally = after(tally, step());
+        let verdict = step(&mut input);
+        name_first(&rt, tally, verdict)?;
+        tally = after(tally, verdict);
     }
-    report(tally);
+    report(&rt, tally)
 }

@@ -4,17 +4,21 @@
 ghost use Rattle.std.specs.Prelude.{◌≡◌, ◌≤◌, length};
 
 use inspection::answer::Inspected;
-use libc::STDIN_FILENO;
-use replay::{Verdict, after, begin, list_length, load_words, read, report, same_words, word};
+use replay::{
+    Verdict, after, begin, list_length, load_words, name_first, read, read_full, report,
+    same_words, word,
+};
+use std::io;
+use std::io::{BufReader, Read};
 
 // The next n words of the input.
-fn words(n: usize) -> [u64; 80]
+fn words<R: Read>(input: &mut R, n: usize) -> [u64; 80]
     requires { n ≤ 80 }
     ensures { 80 ≡ length result }
 {
     let mut bytes = [0u8; 640];
     let mut list = [0u64; 80];
-    read(&mut bytes, 8 * n);
+    read(input, &mut bytes, 8 * n);
     load_words(&bytes, n, &mut list);
     list
 }
@@ -46,10 +50,10 @@ fn inspect(header: &[u8; 56], room: &mut [u64], rn: usize) -> Inspected
 }
 
 // One record past its header.
-fn agrees(header: &[u8; 56]) -> bool {
+fn agrees<R: Read>(input: &mut R, header: &[u8; 56]) -> bool {
     let rn = list_length(header, 24, 80);
-    let mut room = words(rn);
-    let left = words(rn);
+    let mut room = words(input, rn);
+    let left = words(input, rn);
     if told(inspect(header, &mut room, rn), header) {
         same_words(&room, &left, rn)
     } else {
@@ -58,23 +62,26 @@ fn agrees(header: &[u8; 56]) -> bool {
 }
 
 // One record: read, worked out and compared.
-fn step() -> Verdict {
+fn step<R: Read>(input: &mut R) -> Verdict {
     let mut header = [0u8; 56];
-    let got = io::read_full(STDIN_FILENO, &mut header);
+    let got = read_full(input, &mut header);
     if got < 56 {
         return Verdict::End;
     }
-    if agrees(&header) {
+    if agrees(input, &header) {
         Verdict::Agrees
     } else {
         Verdict::Differs
     }
 }
 
-fn main() {
+fn main(rt: HostRuntime) -> io::Result<()> {
+    let mut input = BufReader::new(rt.alloc(), rt.reader())?;
     let mut tally = begin();
     while 0 < tally.left {
-        tally = after(tally, step());
+        let verdict = step(&mut input);
+        name_first(&rt, tally, verdict)?;
+        tally = after(tally, verdict);
     }
-    report(tally);
+    report(&rt, tally)
 }

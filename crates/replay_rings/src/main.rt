@@ -6,13 +6,14 @@ mod told;
 
 ghost use Rattle.std.specs.Prelude.{◌≡◌, ◌≤◌, length};
 
-use libc::STDIN_FILENO;
 use mending::calls::mend_ring;
 use plane::Point;
 use replay::{
-    Verdict, after, begin, list_length, load, load_words, read, report, same_floats, same_words,
-    word,
+    Verdict, after, begin, list_length, load, load_words, name_first, read, read_full, report,
+    same_floats, same_words, word,
 };
+use std::io;
+use std::io::{BufReader, Read};
 use told::Told;
 
 // What a call on single points answers.
@@ -69,13 +70,13 @@ fn takes_rings(call: u64) -> bool {
 }
 
 // n words of the list, as floats.
-fn floats(n: usize) -> [f64; 600]
+fn floats<R: Read>(input: &mut R, n: usize) -> [f64; 600]
     requires { n ≤ 600 }
     ensures { 600 ≡ length result }
 {
     let mut bytes = [0u8; 4800];
     let mut list = [0.0; 600];
-    read(&mut bytes, 8 * n);
+    read(input, &mut bytes, 8 * n);
     load(&bytes, n, &mut list);
     list
 }
@@ -97,14 +98,14 @@ fn agrees(told: Told, header: &[u8; 56], room: &[f64; 600], left: &[f64; 600], n
 }
 
 // One record past its header: the lists are read, the call is made and compared.
-fn record(header: &[u8; 56], an: usize, bn: usize, rn: usize) -> bool
+fn record<R: Read>(input: &mut R, header: &[u8; 56], an: usize, bn: usize, rn: usize) -> bool
     requires { (an ≤ 600) × (bn ≤ 600) × (rn ≤ 600) }
 {
     let call = word(header, 0);
-    let a = floats(an);
-    let b = floats(bn);
-    let mut room = floats(rn);
-    let left = floats(rn);
+    let a = floats(input, an);
+    let b = floats(input, bn);
+    let mut room = floats(input, rn);
+    let left = floats(input, rn);
     if takes_rings(call) {
         let told = on_parts(call, &a, an, &b, bn, &mut room, rn);
         agrees(told, header, &room, &left, rn)
@@ -114,23 +115,23 @@ fn record(header: &[u8; 56], an: usize, bn: usize, rn: usize) -> bool
 }
 
 // n words of the list.
-fn words(n: usize) -> [u64; 600]
+fn words<R: Read>(input: &mut R, n: usize) -> [u64; 600]
     requires { n ≤ 600 }
     ensures { 600 ≡ length result }
 {
     let mut bytes = [0u8; 4800];
     let mut list = [0u64; 600];
-    read(&mut bytes, 8 * n);
+    read(input, &mut bytes, 8 * n);
     load_words(&bytes, n, &mut list);
     list
 }
 
 // The length of a room of words, which stands before it.
-fn words_length() -> usize
+fn words_length<R: Read>(input: &mut R) -> usize
     ensures { result ≤ 600 }
 {
     let mut bytes = [0u8; 8];
-    read(&mut bytes, 8);
+    read(input, &mut bytes, 8);
     list_length(&bytes, 0, 600)
 }
 
@@ -157,17 +158,17 @@ fn mend(
 
 // One record of mending past its header: the second list is the room of points, whose numbers at exit follow those of the ring's room, and then the room of
 // indices and whys, its length before it.
-fn mend_record(header: &[u8; 56], n: usize, pn: usize, rn: usize) -> bool
+fn mend_record<R: Read>(input: &mut R, header: &[u8; 56], n: usize, pn: usize, rn: usize) -> bool
     requires { (n ≤ 600) × (pn ≤ 600) × (rn ≤ 600) }
 {
-    let ring = floats(n);
-    let mut points = floats(pn);
-    let mut room = floats(rn);
-    let left = floats(rn);
-    let points_left = floats(pn);
-    let dn = words_length();
-    let mut dropped = words(dn);
-    let dropped_left = words(dn);
+    let ring = floats(input, n);
+    let mut points = floats(input, pn);
+    let mut room = floats(input, rn);
+    let left = floats(input, rn);
+    let points_left = floats(input, pn);
+    let dn = words_length(input);
+    let mut dropped = words(input, dn);
+    let dropped_left = words(input, dn);
     let told = mend(&ring, n, &mut room, rn, &mut dropped, dn, &mut points, pn);
     if !same_words(&dropped, &dropped_left, dn) {
         return false;
@@ -179,37 +180,40 @@ fn mend_record(header: &[u8; 56], n: usize, pn: usize, rn: usize) -> bool
 }
 
 // One record past its header, of mending or of another call.
-fn any_record(header: &[u8; 56], an: usize, bn: usize, rn: usize) -> bool
+fn any_record<R: Read>(input: &mut R, header: &[u8; 56], an: usize, bn: usize, rn: usize) -> bool
     requires { (an ≤ 600) × (bn ≤ 600) × (rn ≤ 600) }
 {
     if word(header, 0) == 14 {
-        mend_record(header, an, bn, rn)
+        mend_record(input, header, an, bn, rn)
     } else {
-        record(header, an, bn, rn)
+        record(input, header, an, bn, rn)
     }
 }
 
 // One record: read, worked out and compared.
-fn step() -> Verdict {
+fn step<R: Read>(input: &mut R) -> Verdict {
     let mut header = [0u8; 56];
-    let got = io::read_full(STDIN_FILENO, &mut header);
+    let got = read_full(input, &mut header);
     if got < 56 {
         return Verdict::End;
     }
     let an = list_length(&header, 8, 600);
     let bn = list_length(&header, 16, 600);
     let rn = list_length(&header, 24, 600);
-    if any_record(&header, an, bn, rn) {
+    if any_record(input, &header, an, bn, rn) {
         Verdict::Agrees
     } else {
         Verdict::Differs
     }
 }
 
-fn main() {
+fn main(rt: HostRuntime) -> io::Result<()> {
+    let mut input = BufReader::new(rt.alloc(), rt.reader())?;
     let mut tally = begin();
     while 0 < tally.left {
-        tally = after(tally, step());
+        let verdict = step(&mut input);
+        name_first(&rt, tally, verdict)?;
+        tally = after(tally, verdict);
     }
-    report(tally);
+    report(&rt, tally)
 }

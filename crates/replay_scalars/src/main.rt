@@ -1,9 +1,10 @@
 // Replays the oracle's answers for the scalars: records of five words, the operation, three operands and the answer, from standard input.
 #![tactic(auto)]
 
-use libc::STDIN_FILENO;
 use number_bytes::{bits_of, float_of};
-use replay::{Verdict, after, begin, report, word};
+use replay::{Verdict, after, begin, name_first, read_full, report, word};
+use std::io;
+use std::io::{BufReader, Read};
 
 // What the library answers: 0 abs, 1 smaller, 2 larger, 3 clamp, 4 sqrt.
 fn answer(op: u64, x: f64, y: f64, z: f64) -> f64 {
@@ -26,9 +27,9 @@ fn agrees(record: &[u8; 40]) -> bool {
 }
 
 // One record: read, worked out and compared.
-fn step() -> Verdict {
+fn step<R: Read>(input: &mut R) -> Verdict {
     let mut record = [0u8; 40];
-    let got = io::read_full(STDIN_FILENO, &mut record);
+    let got = read_full(input, &mut record);
     if got < 40 {
         return Verdict::End;
     }
@@ -39,10 +40,13 @@ fn step() -> Verdict {
     }
 }
 
-fn main() {
+fn main(rt: HostRuntime) -> io::Result<()> {
+    let mut input = BufReader::new(rt.alloc(), rt.reader())?;
     let mut tally = begin();
     while 0 < tally.left {
-        tally = after(tally, step());
+        let verdict = step(&mut input);
+        name_first(&rt, tally, verdict)?;
+        tally = after(tally, verdict);
     }
-    report(tally);
+    report(&rt, tally)
 }

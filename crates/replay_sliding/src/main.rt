@@ -6,57 +6,58 @@ mod told;
 
 ghost use Rattle.std.specs.Prelude.{◌≡◌, ◌≤◌, length};
 
-use libc::STDIN_FILENO;
 use plane::Point;
 use replay::{
-    Verdict, after, begin, list_length, load, load_words, read, report, same_floats, same_words,
-    word,
+    Verdict, after, begin, list_length, load, load_words, name_first, read, read_full, report,
+    same_floats, same_words, word,
 };
 use selection::Previous;
+use std::io;
+use std::io::{BufReader, Read};
 use told::Told;
 
 // The next n words of the input as floats: a polygon or a room, a long list, the extra numbers.
-fn floats(n: usize) -> [f64; 4096]
+fn floats<R: Read>(input: &mut R, n: usize) -> [f64; 4096]
     requires { n ≤ 4096 }
     ensures { 4096 ≡ length result }
 {
     let mut words = [0u8; 32768];
     let mut list = [0.0; 4096];
-    read(&mut words, 8 * n);
+    read(input, &mut words, 8 * n);
     load(&words, n, &mut list);
     list
 }
 
-fn long_list(n: usize) -> [f64; 20100]
+fn long_list<R: Read>(input: &mut R, n: usize) -> [f64; 20100]
     requires { n ≤ 20100 }
     ensures { 20100 ≡ length result }
 {
     let mut words = [0u8; 160800];
     let mut list = [0.0; 20100];
-    read(&mut words, 8 * n);
+    read(input, &mut words, 8 * n);
     load(&words, n, &mut list);
     list
 }
 
-fn extras(n: usize) -> [f64; 8]
+fn extras<R: Read>(input: &mut R, n: usize) -> [f64; 8]
     requires { n ≤ 8 }
     ensures { 8 ≡ length result }
 {
     let mut words = [0u8; 64];
     let mut list = [0.0; 8];
-    read(&mut words, 8 * n);
+    read(input, &mut words, 8 * n);
     load(&words, n, &mut list);
     list
 }
 
 // The next n words as they are.
-fn words(n: usize) -> [u64; 4096]
+fn words<R: Read>(input: &mut R, n: usize) -> [u64; 4096]
     requires { n ≤ 4096 }
     ensures { 4096 ≡ length result }
 {
     let mut bytes = [0u8; 32768];
     let mut list = [0u64; 4096];
-    read(&mut bytes, 8 * n);
+    read(input, &mut bytes, 8 * n);
     load_words(&bytes, n, &mut list);
     list
 }
@@ -221,7 +222,8 @@ fn left_so(numbers: &[u64], nl: &[u64], nn: usize, room: &[f64], rl: &[f64], rn:
 }
 
 // A record of contacts, whose first room is the one of numbers.
-fn contacts_agree(
+fn contacts_agree<R: Read>(
+    input: &mut R,
     header: &[u8; 144],
     s: &[f64],
     sn: usize,
@@ -235,10 +237,10 @@ fn contacts_agree(
 ) -> bool
     requires { (sn ≤ length s.now) × (on ≤ length o.now) × (vn ≤ length v.now) × (rn ≤ 4096) × (nn ≤ 4096) }
 {
-    let mut numbers = words(nn);
-    let mut room = floats(rn);
-    let nl = words(nn);
-    let rl = floats(rn);
+    let mut numbers = words(input, nn);
+    let mut room = floats(input, rn);
+    let nl = words(input, nn);
+    let rl = floats(input, rn);
     if rooms_told(
         header,
         s,
@@ -260,7 +262,8 @@ fn contacts_agree(
 }
 
 // A record whose first room is the one of floats.
-fn rooms_agree(
+fn rooms_agree<R: Read>(
+    input: &mut R,
     header: &[u8; 144],
     s: &[f64],
     sn: usize,
@@ -274,10 +277,10 @@ fn rooms_agree(
 ) -> bool
     requires { (sn ≤ length s.now) × (on ≤ length o.now) × (vn ≤ length v.now) × (rn ≤ 4096) × (nn ≤ 4096) }
 {
-    let mut room = floats(rn);
-    let mut numbers = words(nn);
-    let rl = floats(rn);
-    let nl = words(nn);
+    let mut room = floats(input, rn);
+    let mut numbers = words(input, nn);
+    let rl = floats(input, rn);
+    let nl = words(input, nn);
     if rooms_told(
         header,
         s,
@@ -299,42 +302,45 @@ fn rooms_agree(
 }
 
 // One record past its header.
-fn agrees(header: &[u8; 144]) -> bool {
+fn agrees<R: Read>(input: &mut R, header: &[u8; 144]) -> bool {
     let sn = list_length(header, 8, 4096);
     let on = list_length(header, 16, 4096);
     let vn = list_length(header, 24, 20100);
     let xn = list_length(header, 32, 8);
     let r1 = list_length(header, 40, 4096);
     let r2 = list_length(header, 48, 4096);
-    let s = floats(sn);
-    let o = floats(on);
-    let v = long_list(vn);
-    let x = extras(xn);
+    let s = floats(input, sn);
+    let o = floats(input, on);
+    let v = long_list(input, vn);
+    let x = extras(input, xn);
     match word(header, 0) {
-        0 => contacts_agree(header, &s, sn, &o, on, &v, vn, &x, r1, r2),
-        1 | 2 | 10 => rooms_agree(header, &s, sn, &o, on, &v, vn, &x, r1, r2),
+        0 => contacts_agree(input, header, &s, sn, &o, on, &v, vn, &x, r1, r2),
+        1 | 2 | 10 => rooms_agree(input, header, &s, sn, &o, on, &v, vn, &x, r1, r2),
         _ => polygons_agree(header, &s, sn, &o, on, &v, vn, &x),
     }
 }
 
 // One record: read, worked out and compared.
-fn step() -> Verdict {
+fn step<R: Read>(input: &mut R) -> Verdict {
     let mut header = [0u8; 144];
-    let got = io::read_full(STDIN_FILENO, &mut header);
+    let got = read_full(input, &mut header);
     if got < 144 {
         return Verdict::End;
     }
-    if agrees(&header) {
+    if agrees(input, &header) {
         Verdict::Agrees
     } else {
         Verdict::Differs
     }
 }
 
-fn main() {
+fn main(rt: HostRuntime) -> io::Result<()> {
+    let mut input = BufReader::new(rt.alloc(), rt.reader())?;
     let mut tally = begin();
     while 0 < tally.left {
-        tally = after(tally, step());
+        let verdict = step(&mut input);
+        name_first(&rt, tally, verdict)?;
+        tally = after(tally, verdict);
     }
-    report(tally);
+    report(&rt, tally)
 }

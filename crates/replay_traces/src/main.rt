@@ -5,32 +5,36 @@ mod told;
 
 ghost use Rattle.std.specs.Prelude.{◌≡◌, ◌≤◌, length};
 
-use libc::STDIN_FILENO;
 use nfp_sliding::calls::compute_nfp_sliding;
 use number_bytes::float_of;
 use refusals::Settings;
-use replay::{Verdict, after, begin, list_length, load, read, report, same_floats, word};
+use replay::{
+    Verdict, after, begin, list_length, load, name_first, read, read_full, report, same_floats,
+    word,
+};
+use std::io;
+use std::io::{BufReader, Read};
 use told::Told;
 
 // The next n words of the input as floats: a polygon, a room.
-fn polygon(n: usize) -> [f64; 600]
+fn polygon<R: Read>(input: &mut R, n: usize) -> [f64; 600]
     requires { n ≤ 600 }
     ensures { 600 ≡ length result }
 {
     let mut words = [0u8; 4800];
     let mut list = [0.0; 600];
-    read(&mut words, 8 * n);
+    read(input, &mut words, 8 * n);
     load(&words, n, &mut list);
     list
 }
 
-fn room(n: usize) -> [f64; 20100]
+fn room<R: Read>(input: &mut R, n: usize) -> [f64; 20100]
     requires { n ≤ 20100 }
     ensures { 20100 ≡ length result }
 {
     let mut words = [0u8; 160800];
     let mut list = [0.0; 20100];
-    read(&mut words, 8 * n);
+    read(input, &mut words, 8 * n);
     load(&words, n, &mut list);
     list
 }
@@ -91,17 +95,17 @@ fn trace_told(
 }
 
 // One record past its header: the answer and both rooms.
-fn agrees(header: &[u8; 128]) -> bool {
+fn agrees<R: Read>(input: &mut R, header: &[u8; 128]) -> bool {
     let sn = list_length(header, 0, 600);
     let on = list_length(header, 8, 600);
     let wn = list_length(header, 16, 20100);
     let rn = list_length(header, 24, 20100);
-    let s = polygon(sn);
-    let o = polygon(on);
-    let mut work = room(wn);
-    let mut result = room(rn);
-    let work_left = room(wn);
-    let result_left = room(rn);
+    let s = polygon(input, sn);
+    let o = polygon(input, on);
+    let mut work = room(input, wn);
+    let mut result = room(input, rn);
+    let work_left = room(input, wn);
+    let result_left = room(input, rn);
     if !trace_told(header, &s, sn, &o, on, &mut work, wn, &mut result, rn) {
         return false;
     }
@@ -112,23 +116,26 @@ fn agrees(header: &[u8; 128]) -> bool {
 }
 
 // One record: read, worked out and compared.
-fn step() -> Verdict {
+fn step<R: Read>(input: &mut R) -> Verdict {
     let mut header = [0u8; 128];
-    let got = io::read_full(STDIN_FILENO, &mut header);
+    let got = read_full(input, &mut header);
     if got < 128 {
         return Verdict::End;
     }
-    if agrees(&header) {
+    if agrees(input, &header) {
         Verdict::Agrees
     } else {
         Verdict::Differs
     }
 }
 
-fn main() {
+fn main(rt: HostRuntime) -> io::Result<()> {
+    let mut input = BufReader::new(rt.alloc(), rt.reader())?;
     let mut tally = begin();
     while 0 < tally.left {
-        tally = after(tally, step());
+        let verdict = step(&mut input);
+        name_first(&rt, tally, verdict)?;
+        tally = after(tally, verdict);
     }
-    report(tally);
+    report(&rt, tally)
 }

@@ -7,8 +7,11 @@ mod words;
 
 ghost use Rattle.std.specs.Prelude.{◌≡◌, ◌≤◌, length};
 
-use libc::STDIN_FILENO;
-use replay::{Verdict, after, begin, list_length, load_integers, read, report, word};
+use replay::{
+    Verdict, after, begin, list_length, load_integers, name_first, read, read_full, report, word,
+};
+use std::io;
+use std::io::{BufReader, Read};
 use told::Told;
 
 // What a call on single points answers.
@@ -39,13 +42,13 @@ fn on_part(call: u64, list: &[i32], n: usize) -> Told
 }
 
 // n words of the list, as integers.
-fn integers(n: usize) -> [i32; 600]
+fn integers<R: Read>(input: &mut R, n: usize) -> [i32; 600]
     requires { n ≤ 600 }
     ensures { 600 ≡ length result }
 {
     let mut bytes = [0u8; 4800];
     let mut list = [0i32; 600];
-    read(&mut bytes, 8 * n);
+    read(input, &mut bytes, 8 * n);
     load_integers(&bytes, n, &mut list);
     list
 }
@@ -62,11 +65,11 @@ fn agrees(told: Told, header: &[u8; 40]) -> bool {
 }
 
 // One record past its header: the list is read, the call is made and compared.
-fn record(header: &[u8; 40], n: usize) -> bool
+fn record<R: Read>(input: &mut R, header: &[u8; 40], n: usize) -> bool
     requires { n ≤ 600 }
 {
     let call = word(header, 0);
-    let list = integers(n);
+    let list = integers(input, n);
     if call < 4 {
         agrees(on_points(call, &list), header)
     } else {
@@ -75,24 +78,27 @@ fn record(header: &[u8; 40], n: usize) -> bool
 }
 
 // One record: read, worked out and compared.
-fn step() -> Verdict {
+fn step<R: Read>(input: &mut R) -> Verdict {
     let mut header = [0u8; 40];
-    let got = io::read_full(STDIN_FILENO, &mut header);
+    let got = read_full(input, &mut header);
     if got < 40 {
         return Verdict::End;
     }
     let n = list_length(&header, 8, 600);
-    if record(&header, n) {
+    if record(input, &header, n) {
         Verdict::Agrees
     } else {
         Verdict::Differs
     }
 }
 
-fn main() {
+fn main(rt: HostRuntime) -> io::Result<()> {
+    let mut input = BufReader::new(rt.alloc(), rt.reader())?;
     let mut tally = begin();
     while 0 < tally.left {
-        tally = after(tally, step());
+        let verdict = step(&mut input);
+        name_first(&rt, tally, verdict)?;
+        tally = after(tally, verdict);
     }
-    report(tally);
+    report(&rt, tally)
 }

@@ -4,30 +4,32 @@
 
 ghost use Rattle.std.specs.Prelude.{◌≡◌, ◌≤◌, length};
 
-use libc::STDIN_FILENO;
 use refusals::answer::Count;
 use replay::{
-    Verdict, after, begin, list_length, load, read, report, same_bytes, same_floats, word,
+    Verdict, after, begin, list_length, load, name_first, read, read_full, report, same_bytes,
+    same_floats, word,
 };
+use std::io;
+use std::io::{BufReader, Read};
 
 // The next n words of the input as floats, and the next n bytes, which fill whole words.
-fn floats(n: usize) -> [f64; 600]
+fn floats<R: Read>(input: &mut R, n: usize) -> [f64; 600]
     requires { n ≤ 600 }
     ensures { 600 ≡ length result }
 {
     let mut words = [0u8; 4800];
     let mut list = [0.0; 600];
-    read(&mut words, 8 * n);
+    read(input, &mut words, 8 * n);
     load(&words, n, &mut list);
     list
 }
 
-fn bytes(n: usize) -> [u8; 4200]
+fn bytes<R: Read>(input: &mut R, n: usize) -> [u8; 4200]
     requires { n ≤ 4200 }
     ensures { 4200 ≡ length result }
 {
     let mut list = [0u8; 4200];
-    read(&mut list, (n + 7) / 8 * 8);
+    read(input, &mut list, (n + 7) / 8 * 8);
     list
 }
 
@@ -56,12 +58,12 @@ fn write(ring: &[f64], an: usize, room: &mut [u8], rn: usize) -> Count
     wkb_writer::calls::write_wkb(&ring[..an], &mut room[..rn])
 }
 
-fn write_agrees(header: &[u8; 48], an: usize, rn: usize) -> bool
+fn write_agrees<R: Read>(input: &mut R, header: &[u8; 48], an: usize, rn: usize) -> bool
     requires { (an ≤ 600) × (rn ≤ 4200) }
 {
-    let ring = floats(an);
-    let mut room = bytes(rn);
-    let left = bytes(rn);
+    let ring = floats(input, an);
+    let mut room = bytes(input, rn);
+    let left = bytes(input, rn);
     if told(write(&ring, an, &mut room, rn), header) {
         same_bytes(&room, &left, rn)
     } else {
@@ -76,12 +78,12 @@ fn read_ring(wkb: &[u8], an: usize, room: &mut [f64], rn: usize) -> Count
     wkb_reader::calls::read_wkb(&wkb[..an], &mut room[..rn])
 }
 
-fn read_agrees(header: &[u8; 48], an: usize, rn: usize) -> bool
+fn read_agrees<R: Read>(input: &mut R, header: &[u8; 48], an: usize, rn: usize) -> bool
     requires { (an ≤ 4200) × (rn ≤ 600) }
 {
-    let wkb = bytes(an);
-    let mut room = floats(rn);
-    let left = floats(rn);
+    let wkb = bytes(input, an);
+    let mut room = floats(input, rn);
+    let left = floats(input, rn);
     if told(read_ring(&wkb, an, &mut room, rn), header) {
         same_floats(&room, &left, rn)
     } else {
@@ -90,36 +92,39 @@ fn read_agrees(header: &[u8; 48], an: usize, rn: usize) -> bool
 }
 
 // One record past its header.
-fn agrees(header: &[u8; 48]) -> bool {
+fn agrees<R: Read>(input: &mut R, header: &[u8; 48]) -> bool {
     if word(header, 0) == 0 {
         let an = list_length(header, 8, 600);
         let rn = list_length(header, 16, 4200);
-        write_agrees(header, an, rn)
+        write_agrees(input, header, an, rn)
     } else {
         let an = list_length(header, 8, 4200);
         let rn = list_length(header, 16, 600);
-        read_agrees(header, an, rn)
+        read_agrees(input, header, an, rn)
     }
 }
 
 // One record: read, worked out and compared.
-fn step() -> Verdict {
+fn step<R: Read>(input: &mut R) -> Verdict {
     let mut header = [0u8; 48];
-    let got = io::read_full(STDIN_FILENO, &mut header);
+    let got = read_full(input, &mut header);
     if got < 48 {
         return Verdict::End;
     }
-    if agrees(&header) {
+    if agrees(input, &header) {
         Verdict::Agrees
     } else {
         Verdict::Differs
     }
 }
 
-fn main() {
+fn main(rt: HostRuntime) -> io::Result<()> {
+    let mut input = BufReader::new(rt.alloc(), rt.reader())?;
     let mut tally = begin();
     while 0 < tally.left {
-        tally = after(tally, step());
+        let verdict = step(&mut input);
+        name_first(&rt, tally, verdict)?;
+        tally = after(tally, verdict);
     }
-    report(tally);
+    report(&rt, tally)
 }

@@ -8,11 +8,12 @@ ghost use Rattle.ring_printer.specs.Said.{rings_line, ring_line, ring_text, ring
 
 use book_layout::{BOOK_MOST, NUMBERS_MOST};
 use book_reader::calls::read_book;
-use libc::{STDIN_FILENO, STDOUT_FILENO};
 use lines::{put_points, put_refusal};
 use print::{put_decimal, put_text};
 use refusals::RINGS_MOST;
 use refusals::answer::Count;
+use std::io;
+use std::io::Read;
 
 // The first line: how many rings there are.
 fn put_heading(rings: usize, out: &mut [u8]) -> usize
@@ -93,10 +94,11 @@ fn put_book(book: &[u8], out: &mut [u8]) -> usize
 }
 
 // One byte more than the longest book is read, so that what is too long is refused like any other wrong length.
-fn main() {
-    let mut book = [0u8; BOOK_MOST + 1];
+fn main(rt: HostRuntime) -> io::Result<()> {
+    let mut book = Vec::new(rt.alloc());
+    let most = BOOK_MOST + 1;
+    rt.reader().take(most as u64).read_to_end(&mut book)?;
     let mut out = [0u8; 73000];
-    let n = io::read_full(STDIN_FILENO, &mut book);
-    let length = put_book(&book[..n], &mut out);
-    io::write_all(STDOUT_FILENO, &out[..length]);
+    let length = put_book(book.as_slice(), &mut out);
+    rt.write_all(&out[..length])
 }

@@ -12,13 +12,14 @@ ghost use Rattle.slide_trace.specs.Said.{settings_in, trace_text, traced_book_te
 
 use book_layout::{BOOK_MOST, NUMBERS_MOST};
 use book_reader::calls::read_book;
-use libc::{STDIN_FILENO, STDOUT_FILENO};
 use lines::put_refusal;
 use nfp_sliding::calls::compute_nfp_sliding;
 use number_bytes::{float_of, number8};
 use refusals::answer::Count;
 use refusals::{RINGS_MOST, Refusal, Settings};
 use say::put_answer;
+use std::io;
+use std::io::Read;
 
 // Bytes of the settings, three words.
 const SETTINGS_BYTES: usize = 24;
@@ -88,10 +89,11 @@ fn put_input(input: &[u8], out: &mut [u8]) -> usize
 }
 
 // One byte more than the settings and the longest book is read, so that what is too long is refused like any other wrong length.
-fn main() {
-    let mut input = [0u8; SETTINGS_BYTES + BOOK_MOST + 1];
+fn main(rt: HostRuntime) -> io::Result<()> {
+    let mut input = Vec::new(rt.alloc());
+    let most = SETTINGS_BYTES + BOOK_MOST + 1;
+    rt.reader().take(most as u64).read_to_end(&mut input)?;
     let mut out = [0u8; 340200];
-    let n = io::read_full(STDIN_FILENO, &mut input);
-    let length = put_input(&input[..n], &mut out);
-    io::write_all(STDOUT_FILENO, &out[..length]);
+    let length = put_input(input.as_slice(), &mut out);
+    rt.write_all(&out[..length])
 }

@@ -47,7 +47,7 @@ returns-else-passed c =
     c.passed.ensures c.if-passed.false
 
 pub returns-in-Edge : goal.returns-in-Edge
-returns-in-Edge c = handed_edge _ _ _ _ (sym (ap ground c.in-Edge.is) ∙ found c.before.before.before.before)
+returns-in-Edge c = handed_edge _ _ _ _ (sym (ap ground c.in-Edge.is) ∙ found c.before.before)
 
 pub returns-in-Enclosed : goal.returns-in-Enclosed
-returns-in-Enclosed c = handed_enclosed _ _ _ _ (sym (ap ground c.in-Enclosed.is) ∙ found c.before.before.before)
+returns-in-Enclosed c = handed_enclosed _ _ _ _ (sym (ap ground c.in-Enclosed.is) ∙ found c.before.before)

@@ -34,12 +34,8 @@ pub returns : goal.returns
 returns c =
     let st = c.args.stationary.now in
     let orb = c.args.orbiting.now in
-    record { result_value = (let moved = moved_front orb _ _ _ c.lift_moved.ensures
+    let moved = moved_front orb _ _ _ c.lift_moved.ensures
     ∙ as_lent (λ (x y : ℤ). moved_up orb x y) c.ranges.dx c.ranges.dy in
     let a = lifted_front st _ c.lift.ensures in
     let b = lifted_front orb _ c.lift-2.ensures in
-    (search_is st orb _ _ a b moved c.search.ensures.result_value, room_is st orb _ _ a b moved _ c.search.ensures.lines_after)).0; lines_after = (let moved = moved_front orb _ _ _ c.lift_moved.ensures
-    ∙ as_lent (λ (x y : ℤ). moved_up orb x y) c.ranges.dx c.ranges.dy in
-    let a = lifted_front st _ c.lift.ensures in
-    let b = lifted_front orb _ c.lift-2.ensures in
-    (search_is st orb _ _ a b moved c.search.ensures.result_value, room_is st orb _ _ a b moved _ c.search.ensures.lines_after)).1 }
+    record { result_value = search_is st orb _ _ a b moved c.search.ensures.result_value; lines_after = room_is st orb _ _ a b moved _ c.search.ensures.lines_after }

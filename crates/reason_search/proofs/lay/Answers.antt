@@ -34,15 +34,11 @@ shape_of-flags-then-not-k c =
 pub returns-then-not-k : goal.returns-then-not-k
 returns-then-not-k c =
     let st = c.args.st.now in
-    record { value = (let e = stop st _ _ _ c.loop-j.invariant.0 c.loop-j-test.true
+    let e = stop st _ _ _ c.loop-j.invariant.0 c.loop-j-test.true
     (first_end st _ c.loop-j-test.true c.spot_at-s.ensures)
     (second_end st _ c.next.ensures.0 c.spot_at-t.ensures)
-    c.take-k.ensures.line_value c.take-k.ensures.parted_value (not-true _ (ap not c.if-not-k.true)) in
-    (e, room_is _ _ _ _ c.loop-j.invariant.0 e)).0; lines_after = (let e = stop st _ _ _ c.loop-j.invariant.0 c.loop-j-test.true
-    (first_end st _ c.loop-j-test.true c.spot_at-s.ensures)
-    (second_end st _ c.next.ensures.0 c.spot_at-t.ensures)
-    c.take-k.ensures.line_value c.take-k.ensures.parted_value (not-true _ (ap not c.if-not-k.true)) in
-    (e, room_is _ _ _ _ c.loop-j.invariant.0 e)).1 }
+    c.take-k.ensures.line_value c.take-k.ensures.parted_value (not-true _ c.if-not-k.true) in
+    record { value = e; lines_after = room_is _ _ _ _ c.loop-j.invariant.0 e }
 
 pub put-requires : goal.put-requires
 put-requires c =
@@ -61,7 +57,7 @@ loop-j-preserved c =
           c.take-k.ensures.line_value c.take-k.ensures.parted_value c.requires.0
           (small_at st c.requires.0.ring_small _ c.loop-j-test.true c.spot_at-s.ensures)
           (small_at st c.requires.0.ring_small _ c.next.ensures.1 c.spot_at-t.ensures)
-          (not-false _ (ap not c.if-not-k.false)) c.put.ensures,
+          (not-false _ c.if-not-k.false) c.put.ensures,
       c.take-k.ensures.ready,
       c.take-k.auto.flags ∙ c.loop-j.invariant.2,
     )

@@ -12,13 +12,9 @@ first_side-c-requires c =
 pub returns-then-c-lt4 : goal.returns-then-c-lt4
 returns-then-c-lt4 c =
     let p = c.requires in
-    record { line_value = (let r = anew_side c.args.a.now c.args.b.now _ _ p.1.0 p.1.1 c.first_side-c.ensures.0
+    let r = anew_side c.args.a.now c.args.b.now _ _ p.1.0 p.1.1 c.first_side-c.ensures.0
     c.if-c-lt4.true c.side.ensures in
-    (r.0, (r.1, p.0))).0; parted_value = (let r = anew_side c.args.a.now c.args.b.now _ _ p.1.0 p.1.1 c.first_side-c.ensures.0
-    c.if-c-lt4.true c.side.ensures in
-    (r.0, (r.1, p.0))).1.0; ready = (let r = anew_side c.args.a.now c.args.b.now _ _ p.1.0 p.1.1 c.first_side-c.ensures.0
-    c.if-c-lt4.true c.side.ensures in
-    (r.0, (r.1, p.0))).1.1 }
+    record { line_value = r.0; parted_value = r.1; ready = p.0 }
 
 pub way_line-requires : goal.way_line-requires
 way_line-requires c =
@@ -26,13 +22,10 @@ way_line-requires c =
     (p.0.moved, c.if-i-a.true)
 
 pub returns-then-i-a : goal.returns-then-i-a
-returns-then-i-a c = record { line_value = (let r = anew_way c.args.a.now c.args.b.now _ _ c.requires.1.0 c.requires.1.1 c.first_side-c.ensures.0 c.if-c-lt4.false
+returns-then-i-a c =
+    let r = anew_way c.args.a.now c.args.b.now _ _ c.requires.1.0 c.requires.1.1 c.first_side-c.ensures.0 c.if-c-lt4.false
     c.first_helping-i.ensures.value.0 c.if-i-a.true c.way_line.ensures.0 in
-    (r.0, (r.1, c.first_helping-i.ensures.ready))).0; parted_value = (let r = anew_way c.args.a.now c.args.b.now _ _ c.requires.1.0 c.requires.1.1 c.first_side-c.ensures.0 c.if-c-lt4.false
-    c.first_helping-i.ensures.value.0 c.if-i-a.true c.way_line.ensures.0 in
-    (r.0, (r.1, c.first_helping-i.ensures.ready))).1.0; ready = (let r = anew_way c.args.a.now c.args.b.now _ _ c.requires.1.0 c.requires.1.1 c.first_side-c.ensures.0 c.if-c-lt4.false
-    c.first_helping-i.ensures.value.0 c.if-i-a.true c.way_line.ensures.0 in
-    (r.0, (r.1, c.first_helping-i.ensures.ready))).1.1 }
+    record { line_value = r.0; parted_value = r.1; ready = c.first_helping-i.ensures.ready }
 
 pub parts-requires : goal.parts-requires
 parts-requires c =
@@ -40,13 +33,10 @@ parts-requires c =
     (p.0.moved, p.2, p.3, p.2, p.3)
 
 pub returns-then-parts : goal.returns-then-parts
-returns-then-parts c = record { line_value = (let r = anew_own c.args.a.now c.args.b.now _ _ c.requires.1.0 c.requires.1.1 c.first_side-c.ensures.0 c.if-c-lt4.false
+returns-then-parts c =
+    let r = anew_own c.args.a.now c.args.b.now _ _ c.requires.1.0 c.requires.1.1 c.first_side-c.ensures.0 c.if-c-lt4.false
     c.first_helping-i.ensures.value.0 c.if-i-a.false c.parts.ensures c.if-parts.true in
-    (r.0, (r.1, c.first_helping-i.ensures.ready))).0; parted_value = (let r = anew_own c.args.a.now c.args.b.now _ _ c.requires.1.0 c.requires.1.1 c.first_side-c.ensures.0 c.if-c-lt4.false
-    c.first_helping-i.ensures.value.0 c.if-i-a.false c.parts.ensures c.if-parts.true in
-    (r.0, (r.1, c.first_helping-i.ensures.ready))).1.0; ready = (let r = anew_own c.args.a.now c.args.b.now _ _ c.requires.1.0 c.requires.1.1 c.first_side-c.ensures.0 c.if-c-lt4.false
-    c.first_helping-i.ensures.value.0 c.if-i-a.false c.parts.ensures c.if-parts.true in
-    (r.0, (r.1, c.first_helping-i.ensures.ready))).1.1 }
+    record { line_value = r.0; parted_value = r.1; ready = c.first_helping-i.ensures.ready }
 
 pub parts-requires-2 : goal.parts-requires-2
 parts-requires-2 c =
@@ -54,10 +44,7 @@ parts-requires-2 c =
     (p.0.moved, p.2, p.3, p.3, p.2)
 
 pub returns : goal.returns
-returns c = record { line_value = (let r = anew_last c.args.a.now c.args.b.now _ _ c.requires.1.0 c.requires.1.1 c.first_side-c.ensures.0 c.if-c-lt4.false
+returns c =
+    let r = anew_last c.args.a.now c.args.b.now _ _ c.requires.1.0 c.requires.1.1 c.first_side-c.ensures.0 c.if-c-lt4.false
     c.first_helping-i.ensures.value.0 c.if-i-a.false c.parts.ensures c.if-parts.false in
-    (r, (c.parts-2.ensures, c.first_helping-i.ensures.ready))).0; parted_value = (let r = anew_last c.args.a.now c.args.b.now _ _ c.requires.1.0 c.requires.1.1 c.first_side-c.ensures.0 c.if-c-lt4.false
-    c.first_helping-i.ensures.value.0 c.if-i-a.false c.parts.ensures c.if-parts.false in
-    (r, (c.parts-2.ensures, c.first_helping-i.ensures.ready))).1.0; ready = (let r = anew_last c.args.a.now c.args.b.now _ _ c.requires.1.0 c.requires.1.1 c.first_side-c.ensures.0 c.if-c-lt4.false
-    c.first_helping-i.ensures.value.0 c.if-i-a.false c.parts.ensures c.if-parts.false in
-    (r, (c.parts-2.ensures, c.first_helping-i.ensures.ready))).1.1 }
+    record { line_value = r; parted_value = c.parts-2.ensures; ready = c.first_helping-i.ensures.ready }

@@ -17,16 +17,12 @@ use Rattle.whole_moves.proofs.are_moved_within.Goals.{After-is_moved_within}
 
 -- the test of number i
 is : (c : After-is_moved_within)
-    → (c.is_moved_within.result ≡ in_bounds (get_or c.args.list.now c.loop-i.i (pos 0) +ℤ to_z w32 c.loop-i.d))
+    → (c.is_moved_within.result ≡ in_bounds (get_or c.args.list.now c.loop-i.i (pos 0) +ℤ to_z w32 c.loop-i.d-bits))
 is c =
     let z = get_or c.args.list.now c.loop-i.i (pos 0) in
     c.is_moved_within.ensures
-    ∙ ap (λ (y : ℤ). in_bounds (y +ℤ to_z w32 c.loop-i.d))
+    ∙ ap (λ (y : ℤ). in_bounds (y +ℤ to_z w32 c.loop-i.d-bits))
     (to_z-of_z w32 z (record { sfits = c.is_moved_within-arg-1.given }))
-
-shared-slice-copy-out-is-moved-within :
-    tie.Need-shared-slice-copy-out-is-moved-within invariant-loop decreases-loop
-shared-slice-copy-out-is-moved-within c = omega arith
 
 pub loop-i-init : goal.loop-i-init
 loop-i-init c = rest_start _ _ _

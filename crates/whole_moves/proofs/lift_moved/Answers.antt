@@ -20,7 +20,7 @@ loop-i-preserved c =
     let z = get_or c.args.list.now c.loop-i.i (pos 0) in
     lift_turn _ _ _ _ c.requires c.loop-i-test.true
     (c.up_moved.ensures
-    ∙ ap (λ (y : ℤ). up_of (y +ℤ to_z w32 c.loop-i.d)) (to_z-of_z w32 z (record { sfits = c.up_moved-arg-1.given })))
+    ∙ ap (λ (y : ℤ). up_of (y +ℤ to_z w32 c.loop-i.d-bits)) (to_z-of_z w32 z (record { sfits = c.up_moved-arg-1.given })))
     c.loop-i.invariant
 
 pub returns : goal.returns

@@ -13,9 +13,6 @@ use Rattle.whole_moves.proofs.Sums.{stands}
 use Rattle.whole_moves.proofs.up_moved.Goals as goal
 use Rattle.whole_moves.proofs.up_moved.Goals.{After-moved-s, Else-s-gt1000000}
 
-pub overflow_add-result : goal.overflow_add-result
-overflow_add-result c = subst (SFits w64) (sym (summed c)) (record { sfits = omega (arith, bound (asked c)) })
-
 plain : (c : After-moved-s) → to_z w64 (of_z w64 c.moved-s.result) ≡ c.args.z +ℤ c.args.d
 plain c = stands c.ranges.z c.ranges.d c.moved-s.ensures
 
@@ -29,6 +26,9 @@ unfolding asked
 summed c =
     let p = plain c.before.before in
     ap (λ (z : ℤ). z +ℤ pos 1000000) p ∙ sum _ (rw p at c.if-s-ltminus1000000.false) (rw p at c.if-s-gt1000000.false)
+
+pub overflow_add-result : goal.overflow_add-result
+overflow_add-result c = subst (SFits w64) (sym (summed c)) (record { sfits = omega (arith, bound (asked c)) })
 
 back : (c : Else-s-gt1000000)
     → to_z w64 (of_z w64 (to_z w64 (of_z w64 c.moved-s.result) +ℤ pos 1000000)) ≡ pos (up_of (asked c))

@@ -83,7 +83,7 @@ loop-i-init c =
 
 pub is_least_at-requires : goal.is_least_at-requires
 is_least_at-requires c =
-    let s = (l c).before.before.before in record { n_in_bounds = ((omega (arith, is_n c, left c)), (omega (arith, is_n c, (entry c).0)), (omega (arith, is_n c, (entry c).1)), s.pre.0.2); coords_check = ap (λ (j : ℕ). passed (coords_check (2 * j) (at c) (drop (at c) (f c)))) (is_n c) ∙ (coords c).0 }
+    record { n_in_bounds = ((omega (arith, is_n c, left c)), (omega (arith, is_n c, (entry c).0)), (omega (arith, is_n c, (entry c).1)), (l c).requires.tail_bytes_value.2); coords_check = ap (λ (j : ℕ). passed (coords_check (2 * j) (at c) (drop (at c) (f c)))) (is_n c) ∙ (coords c).0 }
 
 pub returns-then-not-is_least_at : goal.returns-then-not-is_least_at
 returns-then-not-is_least_at c =

@@ -22,13 +22,13 @@ module _ (c : After-load) where
   r = c.load.new.room
 
   long : length (take (2 * s.args.n) r) ≡ 2 * s.args.n
-  long = loaded_length s.args.f.now (λ i. omega (arith, c.type_inv.f.given i)) s.args.at s.args.n s.requires.n_in_bounds.0 s.requires.n_in_bounds.2 s.requires.coords_check (replicate 512 (of_bits binary64 0)) r refl c.load.ensures
+  long = loaded_length s.args.f.now (λ i. omega (arith, c.type_inv.f i)) s.args.at s.args.n s.requires.n_in_bounds.0 s.requires.n_in_bounds.2 s.requires.coords_check (replicate 512 (of_bits binary64 0)) r refl c.load.ensures
 
   lent : Lent (take (2 * s.args.n) r)
-  lent = loaded_lent s.args.f.now (λ i. omega (arith, c.type_inv.f.given i)) s.args.at s.args.n s.requires.n_in_bounds.0 s.requires.n_in_bounds.2 s.requires.coords_check (replicate 512 (of_bits binary64 0)) r refl c.load.ensures
+  lent = loaded_lent s.args.f.now (λ i. omega (arith, c.type_inv.f i)) s.args.at s.args.n s.requires.n_in_bounds.0 s.requires.n_in_bounds.2 s.requires.coords_check (replicate 512 (of_bits binary64 0)) r refl c.load.ensures
 
   ring : ring_of (take (2 * s.args.n) r) ≡ vertices (coords_in (2 * s.args.n) (drop s.args.at s.args.f.now))
-  ring = loaded_ring s.args.f.now (λ i. omega (arith, c.type_inv.f.given i)) s.args.at s.args.n s.requires.n_in_bounds.0 s.requires.n_in_bounds.2 s.requires.coords_check (replicate 512 (of_bits binary64 0)) r refl c.load.ensures
+  ring = loaded_ring s.args.f.now (λ i. omega (arith, c.type_inv.f i)) s.args.at s.args.n s.requires.n_in_bounds.0 s.requires.n_in_bounds.2 s.requires.coords_check (replicate 512 (of_bits binary64 0)) r refl c.load.ensures
 
 pub slice_bounds-is_least-end : goal.slice_bounds-is_least-end
 slice_bounds-is_least-end c = sym (long (up-After-load _ _ _ _ c.before.before.before))

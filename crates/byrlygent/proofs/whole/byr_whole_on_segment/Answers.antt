@@ -6,12 +6,9 @@ use Rattle.whole_engine.proofs.Read.{six_read}
 use Rattle.byrlygent.proofs.whole.byr_whole_on_segment.Goals as goal
 
 pub returns : goal.returns
-returns c = record { value = (let e =
+returns c =
+    let e =
     c.on_segment.ensures
     ∙ six_read whole_on_segment_call _ _ _ _ _ _ c.ranges.ax c.ranges.ay c.ranges.bx c.ranges.by c.ranges.px c.ranges.py in
     let h = c.hand_truth-no.ensures in
-    (number_told e h.0 refl, rw (← e) h.1)).0; on_after = (let e =
-    c.on_segment.ensures
-    ∙ six_read whole_on_segment_call _ _ _ _ _ _ c.ranges.ax c.ranges.ay c.ranges.bx c.ranges.by c.ranges.px c.ranges.py in
-    let h = c.hand_truth-no.ensures in
-    (number_told e h.0 refl, rw (← e) h.1)).1 }
+    record { value = number_told e h.0 refl; on_after = rw (← e) h.1 }

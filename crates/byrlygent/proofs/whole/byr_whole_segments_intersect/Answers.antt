@@ -6,12 +6,9 @@ use Rattle.whole_engine.proofs.Read.{eight_read}
 use Rattle.byrlygent.proofs.whole.byr_whole_segments_intersect.Goals as goal
 
 pub returns : goal.returns
-returns c = record { value = (let e =
+returns c =
+    let e =
     c.segments_intersect.ensures
     ∙ eight_read whole_intersect_call _ _ _ _ _ _ _ _ c.ranges.x1 c.ranges.y1 c.ranges.x2 c.ranges.y2 c.ranges.x3 c.ranges.y3 c.ranges.x4 c.ranges.y4 in
     let h = c.hand_truth-no.ensures in
-    (number_told e h.0 refl, rw (← e) h.1)).0; meet_after = (let e =
-    c.segments_intersect.ensures
-    ∙ eight_read whole_intersect_call _ _ _ _ _ _ _ _ c.ranges.x1 c.ranges.y1 c.ranges.x2 c.ranges.y2 c.ranges.x3 c.ranges.y3 c.ranges.x4 c.ranges.y4 in
-    let h = c.hand_truth-no.ensures in
-    (number_told e h.0 refl, rw (← e) h.1)).1 }
+    record { value = number_told e h.0 refl; meet_after = rw (← e) h.1 }

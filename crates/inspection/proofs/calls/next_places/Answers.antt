@@ -24,8 +24,9 @@ returns-then-passed c =
     let n = refusal (up-After-first-no _ _ _ _ c.before.before.before.before.before.before.before) in
     let p = c.passed.ensures in
     let m = c.per_shift-m.ensures in
-    let w = (rw m at c.lay-following.ensures.value, rw m at c.lay-following.ensures.room_after) in
-    record { result_value = goes _ n p _ c.if-passed.true (shift_is m w.0); room_after = wrote _ n p _ _ c.if-passed.true w.1 }
+    let v = rw m at c.lay-following.ensures.value in
+    let w = rw m at c.lay-following.ensures.room_after in
+    record { result_value = goes _ n p _ c.if-passed.true (shift_is m v); room_after = wrote _ n p _ _ c.if-passed.true w }
 
 pub returns-else-passed : goal.returns-else-passed
 returns-else-passed c =

@@ -21,9 +21,6 @@ returns-then-room-len-lt2 c =
     let h = after_full _ _ _ c.pass.ensures c.in-Store.is c.if-room-len-lt2.true in
     (sym (ap (λ (d : Afterwards). d.answer) h), sym (ap (λ (d : Afterwards). d.room) h), tt)
 
-pub overflow_add-more : goal.overflow_add-more
-overflow_add-more c = omega (arith, (overflow_mul-len c.before.before.before.before.before.before.before.before).fits)
-
 pub returns-in-Stop : goal.returns-in-Stop
 returns-in-Stop c =
     let h = after_stop _ _ _ c.pass.ensures c.in-Stop.is in

@@ -26,14 +26,10 @@ shape_of-moved-in-Halt c =
 
 pub returns-in-Halt : goal.returns-in-Halt
 returns-in-Halt c =
-    let t = c.one_pass in
-    record { value = (let h =
+    let h =
     c.loop-passes.invariant.3
-    ∙ run_stop _ _ _ _ _ _ _ c.loop-passes-test.true t.ensures.0 t.ensures.1 _ c.in-Halt.is in
-    (sym (ap (λ (d : Done). d.end) h), sym (ap (λ (d : Done). d.room) h))).0; room_after = (let h =
-    c.loop-passes.invariant.3
-    ∙ run_stop _ _ _ _ _ _ _ c.loop-passes-test.true t.ensures.0 t.ensures.1 _ c.in-Halt.is in
-    (sym (ap (λ (d : Done). d.end) h), sym (ap (λ (d : Done). d.room) h))).1 }
+    ∙ run_stop _ _ _ _ _ _ _ c.loop-passes-test.true c.one_pass.ensures.0 c.one_pass.ensures.1 _ c.in-Halt.is in
+    record { value = sym (ap (λ (d : Done). d.end) h); room_after = sym (ap (λ (d : Done). d.room) h) }
 
 pub shape_of-room-in-Full : goal.shape_of-room-in-Full
 shape_of-room-in-Full c = omega (arith, c.one_pass.auto.room)
@@ -44,14 +40,10 @@ shape_of-moved-in-Full c =
 
 pub returns-in-Full : goal.returns-in-Full
 returns-in-Full c =
-    let t = c.one_pass in
-    record { value = (let h =
+    let h =
     c.loop-passes.invariant.3
-    ∙ run_full _ _ _ _ _ _ _ c.loop-passes-test.true t.ensures.0 t.ensures.1 c.in-Full.is in
-    (sym (ap (λ (d : Done). d.end) h), sym (ap (λ (d : Done). d.room) h))).0; room_after = (let h =
-    c.loop-passes.invariant.3
-    ∙ run_full _ _ _ _ _ _ _ c.loop-passes-test.true t.ensures.0 t.ensures.1 c.in-Full.is in
-    (sym (ap (λ (d : Done). d.end) h), sym (ap (λ (d : Done). d.room) h))).1 }
+    ∙ run_full _ _ _ _ _ _ _ c.loop-passes-test.true c.one_pass.ensures.0 c.one_pass.ensures.1 c.in-Full.is in
+    record { value = sym (ap (λ (d : Done). d.end) h); room_after = sym (ap (λ (d : Done). d.room) h) }
 
 pub shape_of-room-then-is_still : goal.shape_of-room-then-is_still
 shape_of-room-then-is_still c = omega (arith, c.one_pass.auto.room)
@@ -62,27 +54,22 @@ shape_of-moved-then-is_still c =
 
 pub returns-then-is_still : goal.returns-then-is_still
 returns-then-is_still c =
-    let t = c.one_pass in
-    record { value = (let h =
+    let h =
     c.loop-passes.invariant.3
-    ∙ run_stays _ _ _ _ _ _ _ _ (omega (arith, c.loop-passes-test.true)) t.ensures.0 t.ensures.1 c.in-Go.is (c.is_still.ensures c.if-is_still.true) in
-    (sym (ap (λ (d : Done). d.end) h), sym (ap (λ (d : Done). d.room) h))).0; room_after = (let h =
-    c.loop-passes.invariant.3
-    ∙ run_stays _ _ _ _ _ _ _ _ (omega (arith, c.loop-passes-test.true)) t.ensures.0 t.ensures.1 c.in-Go.is (c.is_still.ensures c.if-is_still.true) in
-    (sym (ap (λ (d : Done). d.end) h), sym (ap (λ (d : Done). d.room) h))).1 }
+    ∙ run_stays _ _ _ _ _ _ _ _ (omega (arith, c.loop-passes-test.true)) c.one_pass.ensures.0 c.one_pass.ensures.1 c.in-Go.is (c.is_still.ensures c.if-is_still.true) in
+    record { value = sym (ap (λ (d : Done). d.end) h); room_after = sym (ap (λ (d : Done). d.room) h) }
 
 pub overflow_add-passes : goal.overflow_add-passes
 overflow_add-passes c = omega (arith, c.requires.limit_bound)
 
 pub loop-passes-preserved : goal.loop-passes-preserved
 loop-passes-preserved c =
-    let t = c.one_pass in
     let q = c.in-Go.is in (
       omega arith,
-      omega (arith, t.auto.1.1.1.1.1.1.1.1.0),
-      omega (arith, rw q at t.ensures.2, t.auto.1.1.1.1.1.1.1.1.0),
-      c.loop-passes.invariant.3 ∙ run_go _ _ _ _ _ _ _ c.loop-passes-test.true t.ensures.0 t.ensures.1 _ q,
-      omega (arith, c.loop-passes.invariant.4, t.auto.1.1.1.1.1.1.1.1.1.0),
+      omega (arith, c.one_pass.auto.room),
+      omega (arith, rw q at c.one_pass.ensures.2, c.one_pass.auto.room),
+      c.loop-passes.invariant.3 ∙ run_go _ _ _ _ _ _ _ c.loop-passes-test.true c.one_pass.ensures.0 c.one_pass.ensures.1 _ q,
+      omega (arith, c.loop-passes.invariant.4, c.one_pass.auto.moved),
     )
 
 pub returns : goal.returns

@@ -1,2 +1,0 @@
--- What the proofs of replay_whole share.
-pub mod Signs
