@@ -4,7 +4,7 @@
 pub mod book;
 pub mod clear;
 pub mod disc;
-pub mod drawn;
+pub mod drawing;
 pub mod grid;
 pub mod path;
 pub mod places;

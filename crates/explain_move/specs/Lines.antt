@@ -22,7 +22,7 @@ hit_line v others =
 
 -- "clear " and the ground's number
 unfoldable pub clear_line : ℕ → List ℕ
-clear_line ground = (99 ∷ 108 ∷ 101 ∷ 97 ∷ 114 ∷ 32 ∷ []) ++ (decimal ground ++ newline)
+clear_line g = (99 ∷ 108 ∷ 101 ∷ 97 ∷ 114 ∷ 32 ∷ []) ++ (decimal g ++ newline)
 
 -- a hit, or why there is none
 abbrev pub found_line : Option Values → Account → List ℕ

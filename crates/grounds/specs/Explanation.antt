@@ -33,9 +33,9 @@ tally_of st orb move tol =
 
 -- the ground by the counts
 abbrev pub explanation_by : Tally → Explanation
-explanation_by t = record { ground = ground_by t.near t.between t.far; tally = t }
+explanation_by t = record { «ground» = ground_by t.near t.between t.far; tally = t }
 
 -- `explain_collision`: of a move shorter than the tolerance no pair is scanned
 unfoldable pub explanation_of : List Float → List Float → Point → Float → Explanation
 explanation_of st orb move tol =
-    cond (lt (length_of move) tol) (record { ground = Short; tally = no_tally }) (explanation_by (tally_of st orb move tol))
+    cond (lt (length_of move) tol) (record { «ground» = Short; tally = no_tally }) (explanation_by (tally_of st orb move tol))

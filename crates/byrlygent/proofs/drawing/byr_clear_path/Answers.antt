@@ -1,6 +1,6 @@
--- `byrlygent::drawn::byr_clear_path` meets its contract: the call's answer, handed over. Assumes nothing.
+-- `byrlygent::drawing::byr_clear_path` meets its contract: the call's answer, handed over. Assumes nothing.
 use Rattle.handed.proofs.Told.{number_told, place_told}
-use Rattle.byrlygent.proofs.drawn.byr_clear_path.Goals as goal
+use Rattle.byrlygent.proofs.drawing.byr_clear_path.Goals as goal
 
 pub returns : goal.returns
 returns c =
