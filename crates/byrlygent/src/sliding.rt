@@ -502,19 +502,19 @@ pub extern "C" fn byr_compute_nfp_sliding(
     place: &mut u64,
 ) -> u32
     ensures value { result ≡ (refusal_of
-        (trace_call stationary.now orbiting.now (settings_of tolerance smallest limit) (length work.entry.now) (length res.old))
+        (trace_call stationary.now orbiting.now (settings_of tolerance smallest limit) (length work.old) (length res.old))
         ).number }
     ensures points_after { points.new ≡ points_told
-        (trace_call stationary.now orbiting.now (settings_of tolerance smallest limit) (length work.entry.now) (length res.old))
+        (trace_call stationary.now orbiting.now (settings_of tolerance smallest limit) (length work.old) (length res.old))
         points.old }
     ensures stored_after { stored.new ≡ stored_told
-        (trace_call stationary.now orbiting.now (settings_of tolerance smallest limit) (length work.entry.now) (length res.old))
+        (trace_call stationary.now orbiting.now (settings_of tolerance smallest limit) (length work.old) (length res.old))
         stored.old }
     ensures passes_after { passes.new ≡ passes_told
-        (trace_call stationary.now orbiting.now (settings_of tolerance smallest limit) (length work.entry.now) (length res.old))
+        (trace_call stationary.now orbiting.now (settings_of tolerance smallest limit) (length work.old) (length res.old))
         passes.old }
     ensures stop_after { stop.new ≡ stop_told
-        (trace_call stationary.now orbiting.now (settings_of tolerance smallest limit) (length work.entry.now) (length res.old))
+        (trace_call stationary.now orbiting.now (settings_of tolerance smallest limit) (length work.old) (length res.old))
         stop.old }
     ensures place_after { place.new ≡ place_of
         (refusal_of (trace_call stationary.now orbiting.now (settings_of tolerance smallest limit)
