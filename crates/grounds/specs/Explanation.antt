@@ -9,6 +9,7 @@ use Rattle.collision.specs.declared.Collision.TheVariants.{Nothing, Hit}
 use Rattle.grounds.specs.Classes.{too_near, in_between, too_far, how_many}
 use Rattle.grounds.specs.Grounds.{ground_by}
 use Rattle.grounds.specs.Scan.{no_tally}
+use Rattle.grounds.specs.declared.Ground.{Ground}
 use Rattle.grounds.specs.declared.Ground.TheVariants.{Short}
 use Rattle.grounds.specs.declared.Tally.{Tally}
 use Rattle.grounds.specs.declared.Explanation.{Explanation}
@@ -33,9 +34,9 @@ tally_of st orb move tol =
 
 -- the ground by the counts
 abbrev pub explanation_by : Tally → Explanation
-explanation_by t = record { «ground» = ground_by t.near t.between t.far; tally = t }
+explanation_by t = let ground : Ground = ground_by t.near t.between t.far in record { ground = ground; tally = t }
 
 -- `explain_collision`: of a move shorter than the tolerance no pair is scanned
 unfoldable pub explanation_of : List Float → List Float → Point → Float → Explanation
 explanation_of st orb move tol =
-    cond (lt (length_of move) tol) (record { «ground» = Short; tally = no_tally }) (explanation_by (tally_of st orb move tol))
+    cond (lt (length_of move) tol) (record { ground = Short; tally = no_tally }) (explanation_by (tally_of st orb move tol))
