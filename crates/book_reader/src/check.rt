@@ -70,8 +70,7 @@ fn check_entries(f: &[u8], from: usize, k: usize) -> Refusal
     ensures { result ≡ list_check f.now from k }
 {
     let mut before: usize = 0;
-    let mut i = 0;
-    while i < k {
+    for i in 0..k {
         let at = from + ENTRY_BYTES * i;
         let offset = number4(f, at) as usize;
         if !is_right(0, offset, before) {
@@ -82,7 +81,6 @@ fn check_entries(f: &[u8], from: usize, k: usize) -> Refusal
             return fault(at + FIELD_BYTES);
         }
         before += VERTEX_BYTES * n;
-        i += 1;
     }
     if before != from {
         return fault(f.len() - FIELD_BYTES);
@@ -95,13 +93,11 @@ fn check_coords(f: &[u8], m: usize) -> Refusal
     requires { (coordinate_bytes * m ≤ length f.now) × (length f.now ≤ book_most) }
     ensures { result ≡ coords_check m 0 f.now }
 {
-    let mut j = 0;
-    while j < m {
+    for j in 0..m {
         let at = COORDINATE_BYTES * j;
         if !are_coordinate_bits(number8(f, at)) {
             return fault(at);
         }
-        j += 1;
     }
     Refusal::none()
 }
@@ -125,14 +121,12 @@ fn check_rings(f: &[u8], from: usize, k: usize) -> Refusal
     ensures { result ≡ least_check (counts_in k (drop from f.now)) 0 f.now }
 {
     let mut at: usize = 0;
-    let mut i = 0;
-    while i < k {
+    for i in 0..k {
         let n = number4(f, from + ENTRY_BYTES * i + FIELD_BYTES) as usize;
         if !is_least_at(f, at, n) {
             return fault(at);
         }
         at += VERTEX_BYTES * n;
-        i += 1;
     }
     Refusal::none()
 }

@@ -74,13 +74,11 @@ fn chain_of(edges: &[f64], dir: Point, from: usize, to: usize) -> Chain
     let mut p = point_at(edges, from);
     let mut frame = frame_at(p);
     let mut far = 0.0;
-    let mut e = from;
-    while e < to {
+    for e in from..to {
         let q = point_at(edges, next(e, n));
         frame = with_point(frame, p);
         far = higher(far, width(dir, p, q));
         p = q;
-        e += 1;
     }
     bounds(frame, dir, far)
 }

@@ -33,10 +33,8 @@ pub fn lift_drawn(list: &[f64], units: u32, room: &mut [u64])
     requires list_in_bounds { length list.now ≤ length room.old }
     ensures { room.new ≡ laid (ring_up units list.now) room.old }
 {
-    let mut i = 0;
-    while i < list.len() {
+    for i in 0..list.len() {
         room[i] = up(on_grid(list[i], units));
-        i += 1;
     }
 }
 

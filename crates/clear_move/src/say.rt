@@ -92,10 +92,8 @@ fn put_lines(owners: &[usize], ls: &[i32], m: usize, out: &mut [u8], at: usize) 
     ensures { Put out.old at (shared_lines (first owners.now) ls.now m m) out.new result }
 {
     let mut next = at;
-    let mut j = 0;
-    while j < m {
+    for j in 0..m {
         next = put_first(owners, ls, m, j, out, next);
-        j += 1;
     }
     next
 }

@@ -22,11 +22,8 @@ fn are_placed(orbiting: &[i32], path: &[i32]) -> bool
     ensures { result ≡ each (is_placed orbiting.now path.now) 0 (length path.now / 2) }
 {
     let n = path.len() / 2;
-    let mut i = 0;
-    while i < n {
-        if are_moved_within(orbiting, path[2 * i], path[2 * i + 1]) {
-            i += 1;
-        } else {
+    for i in 0..n {
+        if !are_moved_within(orbiting, path[2 * i], path[2 * i + 1]) {
             return false;
         }
     }

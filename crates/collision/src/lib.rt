@@ -245,11 +245,9 @@ fn rows_by(
 {
     let n = vertices.len() / 2;
     let mut best = before;
-    let mut v = 0;
-    while v < n {
+    for v in 0..n {
         let origin = point_at(vertices, v);
         best = chained_row(origin, edges, table, sweep, kind, v, best);
-        v += 1;
     }
     best
 }
@@ -283,11 +281,9 @@ fn plain_scan(
     let n = vertices.len() / 2;
     let m = edges.len() / 2;
     let mut best = before;
-    let mut v = 0;
-    while v < n {
+    for v in 0..n {
         let origin = point_at(vertices, v);
         best = row(origin, edges, sweep, kind, v, best, 0, m);
-        v += 1;
     }
     best
 }

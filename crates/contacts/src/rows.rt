@@ -29,14 +29,12 @@ fn near_edge(p: Point, ring: &[f64], from: usize, tol: f64) -> usize
 {
     let n = ring.len() / 2;
     let mut a = point_at(ring, from);
-    let mut i = from;
-    while i < n {
+    for i in from..n {
         let b = point_at(ring, next(i, n));
         if is_on(p, a, b, tol) {
             return i;
         }
         a = b;
-        i += 1;
     }
     n
 }
@@ -76,8 +74,7 @@ fn edge_along(a: Point, b: Point, ring: &[f64], from: usize, tol: f64) -> usize
     let n = ring.len() / 2;
     let mut c = point_at(ring, from);
     let mut starts = is_on(c, a, b, tol);
-    let mut i = from;
-    while i < n {
+    for i in from..n {
         let d = point_at(ring, next(i, n));
         let ends = is_on(d, a, b, tol);
         if aligned(starts, ends, a, b, c, d) {
@@ -85,7 +82,6 @@ fn edge_along(a: Point, b: Point, ring: &[f64], from: usize, tol: f64) -> usize
         }
         c = d;
         starts = ends;
-        i += 1;
     }
     n
 }

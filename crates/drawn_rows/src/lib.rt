@@ -31,13 +31,10 @@ fn is_placed(orbiting: &[f64], path: &[f64], units: u32) -> bool
     lay(orbiting, units, &mut disc);
     let m = orbiting.len();
     let n = path.len() / 2;
-    let mut i = 0;
-    while i < n {
+    for i in 0..n {
         let x = on_grid(path[2 * i], units);
         let y = on_grid(path[2 * i + 1], units);
-        if are_moved_within(&disc[..m], x, y) {
-            i += 1;
-        } else {
+        if !are_moved_within(&disc[..m], x, y) {
             return false;
         }
     }

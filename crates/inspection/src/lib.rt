@@ -31,11 +31,9 @@ fn lay(n: u64, start: u64, m: usize, room: &mut [u64]) -> u64
     ensures room_after { room.new ≡ laid (places_from n start m) room.old }
 {
     let mut place = start;
-    let mut i = 0;
-    while i < m {
+    for i in 0..m {
         room[i] = place;
         place = next_place(n, place);
-        i += 1;
     }
     place
 }

@@ -51,11 +51,9 @@ pub fn put_points(xs: &[f64], n: usize, out: &mut [u8], at: usize) -> usize
     ensures value { result ≡ at + 34 * n }
 {
     let mut next = at;
-    let mut i = 0;
-    while i < n {
+    for i in 0..n {
         let p = point_at(xs, i);
         next = put_pair(out, next, bits_of(p.x), bits_of(p.y));
-        i += 1;
     }
     next
 }

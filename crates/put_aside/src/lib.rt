@@ -94,12 +94,10 @@ fn middle_of(axis: u32, list: &[u64], from: Spot, to: Spot) -> u64
     let n = list.len() / 2;
     let mut low = level(axis, from, to, spot_at(list, 0));
     let mut high = low;
-    let mut i = 0;
-    while i < n {
+    for i in 0..n {
         let k = level(axis, from, to, spot_at(list, i));
         low = smaller(low, k);
         high = larger(high, k);
-        i += 1;
     }
     (low + high) / 2
 }
@@ -249,12 +247,10 @@ fn stay_by(list: &[u64], r: Rule) -> bool
     ensures { result ≡ stay_by list.now r }
 {
     let n = list.len() / 2;
-    let mut i = 0;
-    while i < n {
+    for i in 0..n {
         if !on_grid(corner_by(r, spot_at(list, i))) {
             return false;
         }
-        i += 1;
     }
     true
 }
@@ -274,10 +270,8 @@ fn lay(list: &[u64], r: Rule, room: &mut [u64])
     ensures { room.new ≡ laid (aside_by list.now r) room.old }
 {
     let n = list.len() / 2;
-    let mut i = 0;
-    while i < n {
+    for i in 0..n {
         put(room, i, corner_by(r, spot_at(list, i)));
-        i += 1;
     }
 }
 

@@ -74,11 +74,9 @@ fn box_of(a: &[u64], b: &[u64]) -> Span
     let n = a.len() / 2;
     let mut low = spot_at(a, 0);
     let mut high = spot_at(a, 0);
-    let mut i = 0;
-    while i < n {
+    for i in 0..n {
         low = low_of(low_of(low, spot_at(a, i)), spot_at(b, i));
         high = high_of(high_of(high, spot_at(a, i)), spot_at(b, i));
-        i += 1;
     }
     Span {
         low: low,
@@ -113,13 +111,11 @@ fn first_side(x: Span, s: Spot, t: Spot) -> usize
     requires { Small x.low × Small x.high × Small s × Small t }
     ensures { (result ≡ first_side x.low x.high s t) × (result ≤ 4) }
 {
-    let mut c = 0;
-    while c < 4 {
+    for c in 0..4 {
         let k = side(c, x);
         if edge_right(k.p, k.q, s, t) {
             return c;
         }
-        c += 1;
     }
     c
 }
@@ -179,10 +175,8 @@ fn note(a: &[u64], b: &[u64], flags: &mut [u8])
     ensures { Noted a.now b.now flags.new (way_lines a.now) }
 {
     let most = 6 * (a.len() / 2);
-    let mut c = 0;
-    while c < most {
+    for c in 0..most {
         flags[c] = flag(is_useful(a, b, c));
-        c += 1;
     }
 }
 
@@ -218,12 +212,10 @@ fn first_of_way(a: &[u64], b: &[u64], flags: &[u8], s: Spot, t: Spot) -> usize
     ensures { (result ≡ first_of_way a.now b.now s t) × (result ≤ way_lines a.now) }
 {
     let most = 6 * (a.len() / 2);
-    let mut c = 0;
-    while c < most {
+    for c in 0..most {
         if helps(a, b, flags, s, t, c) {
             return c;
         }
-        c += 1;
     }
     c
 }
@@ -243,12 +235,10 @@ fn first_unnoted(a: &[u64], b: &[u64], s: Spot, t: Spot) -> usize
     ensures { (result ≡ first_of_way a.now b.now s t) × (result ≤ way_lines a.now) }
 {
     let most = 6 * (a.len() / 2);
-    let mut c = 0;
-    while c < most {
+    for c in 0..most {
         if helps_unnoted(a, b, s, t, c) {
             return c;
         }
-        c += 1;
     }
     c
 }
@@ -338,8 +328,7 @@ fn lay(st: &[u64], a: &[u64], b: &[u64], x: Span, flags: &mut [u8], lines: &mut 
 {
     let m = st.len() / 2;
     let mut l = side(0, x);
-    let mut j = 0;
-    while j < m {
+    for j in 0..m {
         let s = spot_at(st, j);
         let t = spot_at(st, next(j, m));
         let k = take(a, b, x, flags, l, s, t);
@@ -348,7 +337,6 @@ fn lay(st: &[u64], a: &[u64], b: &[u64], x: Span, flags: &mut [u8], lines: &mut 
         }
         l = k.line;
         put(lines, j, l);
-        j += 1;
     }
     j
 }

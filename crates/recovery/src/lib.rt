@@ -53,10 +53,8 @@ fn row(best: Closest, v: Point, ring: &[f64]) -> Closest
 {
     let n = ring.len() / 2;
     let mut near = best;
-    let mut i = 0;
-    while i < n {
+    for i in 0..n {
         near = keep(near, foot(v, ring, i));
-        i += 1;
     }
     near
 }
@@ -70,10 +68,8 @@ fn scan(stationary: &[f64], orbiting: &[f64]) -> Closest
         distance: 1.0 / 0.0,
         target: Found::Nothing,
     };
-    let mut i = 0;
-    while i < n {
+    for i in 0..n {
         near = row(near, point_at(orbiting, i), stationary);
-        i += 1;
     }
     near
 }

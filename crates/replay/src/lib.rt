@@ -53,10 +53,8 @@ pub fn read<R: Read>(input: &mut R, room: &mut [u8], n: usize)
 pub fn load(bytes: &[u8], n: usize, room: &mut [f64])
     requires { n ≤ length room.old }
 {
-    let mut i = 0;
-    while i < n {
+    for i in 0..n {
         room[i] = float_of(word(bytes, 8 * i));
-        i += 1;
     }
 }
 
@@ -64,10 +62,8 @@ pub fn load(bytes: &[u8], n: usize, room: &mut [f64])
 pub fn load_words(bytes: &[u8], n: usize, room: &mut [u64])
     requires { n ≤ length room.old }
 {
-    let mut i = 0;
-    while i < n {
+    for i in 0..n {
         room[i] = word(bytes, 8 * i);
-        i += 1;
     }
 }
 
@@ -75,10 +71,8 @@ pub fn load_words(bytes: &[u8], n: usize, room: &mut [u64])
 pub fn load_counts(bytes: &[u8], n: usize, room: &mut [u32])
     requires { n ≤ length room.old }
 {
-    let mut i = 0;
-    while i < n {
+    for i in 0..n {
         room[i] = (word(bytes, 8 * i) % 4294967296) as u32;
-        i += 1;
     }
 }
 
@@ -95,10 +89,8 @@ pub fn integer(word: u64) -> i32 {
 pub fn load_integers(bytes: &[u8], n: usize, room: &mut [i32])
     requires { n ≤ length room.old }
 {
-    let mut i = 0;
-    while i < n {
+    for i in 0..n {
         room[i] = integer(word(bytes, 8 * i));
-        i += 1;
     }
 }
 
@@ -106,12 +98,10 @@ pub fn load_integers(bytes: &[u8], n: usize, room: &mut [i32])
 pub fn same_floats(a: &[f64], b: &[f64], n: usize) -> bool
     requires { (n ≤ length a.now) × (n ≤ length b.now) }
 {
-    let mut i = 0;
-    while i < n {
+    for i in 0..n {
         if bits_of(a[i]) != bits_of(b[i]) {
             return false;
         }
-        i += 1;
     }
     true
 }
@@ -120,12 +110,10 @@ pub fn same_floats(a: &[f64], b: &[f64], n: usize) -> bool
 pub fn same_counts(a: &[u32], b: &[u32], n: usize) -> bool
     requires { (n ≤ length a.now) × (n ≤ length b.now) }
 {
-    let mut i = 0;
-    while i < n {
+    for i in 0..n {
         if a[i] != b[i] {
             return false;
         }
-        i += 1;
     }
     true
 }
@@ -134,12 +122,10 @@ pub fn same_counts(a: &[u32], b: &[u32], n: usize) -> bool
 pub fn same_integers(a: &[i32], b: &[i32], n: usize) -> bool
     requires { (n ≤ length a.now) × (n ≤ length b.now) }
 {
-    let mut i = 0;
-    while i < n {
+    for i in 0..n {
         if a[i] != b[i] {
             return false;
         }
-        i += 1;
     }
     true
 }
@@ -148,12 +134,10 @@ pub fn same_integers(a: &[i32], b: &[i32], n: usize) -> bool
 pub fn same_words(a: &[u64], b: &[u64], n: usize) -> bool
     requires { (n ≤ length a.now) × (n ≤ length b.now) }
 {
-    let mut i = 0;
-    while i < n {
+    for i in 0..n {
         if a[i] != b[i] {
             return false;
         }
-        i += 1;
     }
     true
 }
@@ -162,12 +146,10 @@ pub fn same_words(a: &[u64], b: &[u64], n: usize) -> bool
 pub fn same_bytes(a: &[u8], b: &[u8], n: usize) -> bool
     requires { (n ≤ length a.now) × (n ≤ length b.now) }
 {
-    let mut i = 0;
-    while i < n {
+    for i in 0..n {
         if a[i] != b[i] {
             return false;
         }
-        i += 1;
     }
     true
 }

@@ -18,9 +18,7 @@ pub fn copy(list: &[f64], len: usize, room: &mut [f64])
     requires { (len ≤ length list.now) × (len ≤ length room.old) }
     ensures { room.new ≡ laid (take len list.now) room.old }
 {
-    let mut i = 0;
-    while i < len {
+    for i in 0..len {
         room[i] = list[i];
-        i += 1;
     }
 }

@@ -29,13 +29,11 @@ fn bounds_of(ring: &[f64], from: usize, to: usize) -> Bounds
     let mut a = point_at(ring, from);
     let mut starts = frame_at(a);
     let mut ways = frame_at(Point { x: 0.0, y: 0.0 });
-    let mut e = from;
-    while e < to {
+    for e in from..to {
         let b = point_at(ring, next(e, n));
         starts = with_point(starts, a);
         ways = with_point(ways, minus(b, a));
         a = b;
-        e += 1;
     }
     Bounds { starts, ways }
 }

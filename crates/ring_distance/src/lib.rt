@@ -86,12 +86,10 @@ fn to_edges(p: Point, ring: &[f64], from: usize, to: usize, before: f64) -> f64
     let n = ring.len() / 2;
     let mut least = before;
     let mut a = point_at(ring, from);
-    let mut e = from;
-    while e < to {
+    for e in from..to {
         let b = point_at(ring, next(e, n));
         least = to_edge(p, a, b, least);
         a = b;
-        e += 1;
     }
     least
 }
@@ -142,10 +140,8 @@ fn plain_way(points: &[f64], ring: &[f64], before: f64) -> f64
 {
     let n = points.len() / 2;
     let mut least = before;
-    let mut i = 0;
-    while i < n {
+    for i in 0..n {
         least = to_ring(point_at(points, i), ring, least);
-        i += 1;
     }
     least
 }
@@ -157,10 +153,8 @@ fn way_by(points: &[f64], ring: &[f64], table: &[f64], before: f64) -> f64
 {
     let n = points.len() / 2;
     let mut least = before;
-    let mut i = 0;
-    while i < n {
+    for i in 0..n {
         least = to_chains(point_at(points, i), ring, table, least);
-        i += 1;
     }
     least
 }

@@ -58,13 +58,11 @@ fn put_rings(xs: &[f64], counts: &[u32], parts: &[u32], out: &mut [u8], from: us
 {
     let mut next = from;
     let mut at = 0;
-    let mut i = 0;
-    while i < counts.len() {
+    for i in 0..counts.len() {
         let n = counts[i] as usize;
         let end = at + 2 * n;
         next = put_ring(&xs[at..end], i, n, parts[i], out, next);
         at = end;
-        i += 1;
     }
     next
 }

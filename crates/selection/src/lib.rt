@@ -94,11 +94,9 @@ pub fn select(vectors: &[f64], previous: Previous, ccw: Point) -> usize
 {
     let n = vectors.len() / 3;
     let mut best = start();
-    let mut i = 0;
-    while i < n {
+    for i in 0..n {
         let s = score(vector_at(vectors, i), previous, ccw);
         best = keep(best, Scored { index: i, score: s });
-        i += 1;
     }
     best.index
 }

@@ -56,10 +56,8 @@ fn vertex(top: bool, ring: &[f64]) -> Point
 {
     let n = ring.len() / 2;
     let mut best = point_at(ring, 0);
-    let mut i = 0;
-    while i < n {
+    for i in 0..n {
         best = keep(top, best, point_at(ring, i));
-        i += 1;
     }
     best
 }

@@ -85,11 +85,8 @@ pub fn are_within(list: &[f64], units: u32) -> bool
     ensures { result ≡ every (fits_grid units) list.now }
 {
     let most = most(units);
-    let mut i = 0;
-    while i < list.len() {
-        if is_within(list[i], most) {
-            i += 1;
-        } else {
+    for i in 0..list.len() {
+        if !is_within(list[i], most) {
             return false;
         }
     }
@@ -102,9 +99,7 @@ pub fn lay(list: &[f64], units: u32, room: &mut [i32])
     requires list_in_bounds { length list.now ≤ length room.old }
     ensures { room.new ≡ laid (map (nearest units) list.now) room.old }
 {
-    let mut i = 0;
-    while i < list.len() {
+    for i in 0..list.len() {
         room[i] = on_grid(list[i], units);
-        i += 1;
     }
 }

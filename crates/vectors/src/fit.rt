@@ -18,12 +18,10 @@ pub fn is_visited(position: Point, visited: &[f64], tol: f64) -> bool
 {
     let n = visited.len() / 2;
     let near = tol * 10.0;
-    let mut i = 0;
-    while i < n {
+    for i in 0..n {
         if is_near(position, point_at(visited, i), near) {
             return true;
         }
-        i += 1;
     }
     false
 }

@@ -177,14 +177,12 @@ fn clear_row(list: &[u64], i: usize) -> bool
     let a2 = spot_at(list, next(i, n));
     let mut b1 = a2;
     let mut d3 = turn(a1, a2, b1);
-    let mut j = i + 1;
-    while j < n {
+    for j in i + 1..n {
         let b2 = spot_at(list, next(j, n));
         let d4 = turn(a1, a2, b2);
         if clear_pair(adjacent(i, j, n), a1, a2, b1, b2, d3, d4) {
             b1 = b2;
             d3 = d4;
-            j += 1;
         } else {
             return false;
         }
@@ -201,11 +199,8 @@ fn is_simple(list: &[u64]) -> bool
     if n < 3 {
         return false;
     }
-    let mut i = 0;
-    while i < n {
-        if clear_row(list, i) {
-            i += 1;
-        } else {
+    for i in 0..n {
+        if !clear_row(list, i) {
             return false;
         }
     }
@@ -238,13 +233,11 @@ fn area2(list: &[u64]) -> i64
     let n = list.len() / 2;
     let mut left = 0;
     let mut right = 0;
-    let mut i = 0;
-    while i < n {
+    for i in 0..n {
         let p = spot_at(list, i);
         let q = spot_at(list, next(i, n));
         left += p.x * q.y;
         right += q.x * p.y;
-        i += 1;
     }
     difference(left, right)
 }

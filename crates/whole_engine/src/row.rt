@@ -12,11 +12,8 @@ use shifted::is_within;
 fn are_within(list: &[i32]) -> bool
     ensures { result ≡ all_in_bounds list.now }
 {
-    let mut i = 0;
-    while i < list.len() {
-        if is_within(list[i]) {
-            i += 1;
-        } else {
+    for i in 0..list.len() {
+        if !is_within(list[i]) {
             return false;
         }
     }

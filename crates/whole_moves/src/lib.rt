@@ -43,13 +43,11 @@ pub fn lift_moved(list: &[i32], dx: i32, dy: i32, room: &mut [u64])
 {
     let mut d = dx;
     let mut e = dy;
-    let mut i = 0;
-    while i < list.len() {
+    for i in 0..list.len() {
         room[i] = up_moved(list[i], d);
         let f = d;
         d = e;
         e = f;
-        i += 1;
     }
 }
 
@@ -59,15 +57,13 @@ pub fn are_moved_within(list: &[i32], dx: i32, dy: i32) -> bool
 {
     let mut d = dx;
     let mut e = dy;
-    let mut i = 0;
-    while i < list.len() {
+    for i in 0..list.len() {
         if !is_moved_within(list[i], d) {
             return false;
         }
         let f = d;
         d = e;
         e = f;
-        i += 1;
     }
     true
 }
@@ -86,9 +82,7 @@ pub fn lower(list: &[u64], n: usize, room: &mut [i32])
     requires by_index { (i : ℕ) → i < n → get_or list.now i 0 ≤ 2000000 }
     ensures { room.new ≡ laid (map down_of (take n list.now)) room.old }
 {
-    let mut i = 0;
-    while i < n {
+    for i in 0..n {
         room[i] = down(list[i]);
-        i += 1;
     }
 }

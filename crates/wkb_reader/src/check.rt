@@ -92,13 +92,11 @@ fn numbers(f: &[u8], m: usize) -> Refusal
     requires { (head_bytes + number_bytes * m ≤ length f.now) × (m ≤ 2 * points_most) }
     ensures { result ≡ numbers_check (order_in f.now) m head_bytes (drop head_bytes f.now) }
 {
-    let mut j = 0;
-    while j < m {
+    for j in 0..m {
         let at = HEAD_BYTES + NUMBER_BYTES * j;
         if !is_coordinate(number(f, at)) {
             return Refusal::new(REFUSED_WKB, at as u64);
         }
-        j += 1;
     }
     Refusal::none()
 }
