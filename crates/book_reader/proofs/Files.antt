@@ -11,7 +11,7 @@ use borrow.Author.Tests.{le-leb, lt-leb, leb-true, eqb-true}
 use Rattle.refusals.specs.Refusals.{none, passed, first}
 use Rattle.refusals.specs.Screens.{wrong_book_rooms}
 use Rattle.refusals.specs.Answers.{counted}
-use Rattle.refusals.specs.declared.Refusal.{Refusal}
+use Rattle.refusals.specs.Refusals.{Told}
 use Rattle.refusals.specs.declared.answer.Count.{Count}
 use Rattle.refusals.proofs.First.{first_assoc}
 use Rattle.refusals.specs.Rings.{rings_most, within, total}
@@ -78,10 +78,10 @@ tail_passed f h =
 
 -- ---- the checks in order, in the four parts that `check_book` makes
 
-abbrev pub after_list : List ℕ → Refusal
+abbrev pub after_list : List ℕ → Told
 after_list f = first (coords_check (entry_offset f / coordinate_bytes) 0 f) (least_check (counts_in (ring_count f) (drop (entry_offset f) f)) 0 f)
 
-abbrev pub after_tail : List ℕ → Refusal
+abbrev pub after_tail : List ℕ → Told
 after_tail f = first (list_check f (entry_offset f) (ring_count f)) (after_list f)
 
 pub book_is : (f : List ℕ) → book_check f ≡ first (tail_check f) (after_tail f)
@@ -97,7 +97,7 @@ book_is f =
     let v6 = first (coords_check (e / coordinate_bytes) 0 f) (least_check (counts_in k (drop e f)) 0 f) in
     sym
     (first_assoc t1 (first t2 t3) (first (first v4 t5) v6)
-    ∙ ap (first t1) (first_assoc t2 t3 (first (first v4 t5) v6) ∙ ap (λ (v : Refusal). first t2 (first t3 v)) (first_assoc v4 t5 v6)))
+    ∙ ap (first t1) (first_assoc t2 t3 (first (first v4 t5) v6) ∙ ap (λ (v : Told). first t2 (first t3 v)) (first_assoc v4 t5 v6)))
 
 -- ---- the refusal
 
@@ -107,7 +107,7 @@ module _ (f : List ℕ) (room counts parts : ℕ) where
   at_fault h = rw h
 
   module _ (ok : book_check f passes) where
-    pub rooms_read : {n k : ℕ} {r : Refusal} → n ≡ entry_offset f → k ≡ ring_count f → r ≡ wrong_book_rooms (n / coordinate_bytes) room k counts parts
+    pub rooms_read : {n k : ℕ} {r : Told} → n ≡ entry_offset f → k ≡ ring_count f → r ≡ wrong_book_rooms (n / coordinate_bytes) room k counts parts
         → r ≡ read_refusal f room counts parts
     unfolding read_refusal
     rooms_read a b e = rw (ok, length_numbers f, length_counts f, ← a, ← b) e

@@ -9,7 +9,7 @@ use lib.Ieee.{Float}
 use Rattle.ring.specs.Room.{laid}
 use Rattle.refusals.specs.Refusals.{passed}
 use Rattle.refusals.specs.Answers.{Outcome, answers, refuses, counted}
-use Rattle.refusals.specs.declared.Refusal.{Refusal}
+use Rattle.refusals.specs.Refusals.{Told}
 use Rattle.refusals.specs.declared.answer.Count.{Count}
 use Rattle.refusals.specs.declared.answer.Count.TheVariants.{Is, Refused}
 use Rattle.number_bytes.proofs.Bytes.{each_byte}
@@ -22,17 +22,17 @@ use Rattle.book_layout.proofs.Lent.{read_held}
 use Rattle.book_layout.proofs.Theorems.{enough}
 use Rattle.book_reader.proofs.Files.{Promised, reads, at_fault}
 
-answered : (r : Refusal) (t : Bool) (a b : ℕ) → passed r ≡ t → answers a ≡ cond t (answers b) (refuses r) → (r passes) × (a ≡ b)
+answered : (r : Told) (t : Bool) (a b : ℕ) → passed r ≡ t → answers a ≡ cond t (answers b) (refuses r) → (r passes) × (a ≡ b)
 answered r true a b e q = (e, (cc))
 answered r false a b e q = absurd (let z : ◌≡◌ {A = ℕ} 0 1 = cc in omega arith)
 
-refused : (r s : Refusal) (t : Bool) (b : ℕ) → passed r ≡ t → ◌≡◌ {A = Outcome ℕ} (refuses s) (cond t (answers b) (refuses r)) → (passed r ≡ false) × (s ≡ r)
+refused : (r s : Told) (t : Bool) (b : ℕ) → passed r ≡ t → ◌≡◌ {A = Outcome ℕ} (refuses s) (cond t (answers b) (refuses r)) → (passed r ≡ false) × (s ≡ r)
 refused r s true b e q = absurd (let z : ◌≡◌ {A = ℕ} 0 1 = cc in omega arith)
 refused r s false b e q = (e, (cc))
 
 -- a file, the rooms before and after, and what was answered
 module _ (f : List ℕ) (bytes : (i : ℕ) → get_or f i 0 < 256) (room x : List Float) (counts n parts q : List ℕ) (r : Count) (p : Promised f room counts parts r x n q) where
-  abbrev refusal : Refusal
+  abbrev refusal : Told
   refusal = read_refusal f (length room) (length counts) (length parts)
 
   module _ (k : ℕ) (e : r ≡ Is k) where
@@ -58,7 +58,7 @@ module _ (f : List ℕ) (bytes : (i : ℕ) → get_or f i 0 < 256) (room x : Lis
     parts_are = p.3 ∙ (rw taken.0)
 
   -- rooms for every book
-  module _ (numbers_fit : numbers_most ≤ length room) (counts-fit : rings_most ≤ length counts) (parts_fit : rings_most ≤ length parts) (told : Refusal) (e : r ≡ Refused told) where
+  module _ (numbers_fit : numbers_most ≤ length room) (counts-fit : rings_most ≤ length counts) (parts_fit : rings_most ≤ length parts) (told : Told) (e : r ≡ Refused told) where
     not_read : (passed refusal ≡ false) × (told ≡ refusal)
     not_read = refused refusal told (passed refusal) (length (counts_of f)) refl (ap counted (sym e) ∙ p.0)
 

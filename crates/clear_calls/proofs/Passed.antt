@@ -9,7 +9,7 @@ use mir.Val.{to_z, of_z, SFits}
 use mir.ValLaws.{to_z-of_z}
 use Rattle.refusals.specs.Refusals.{refused_number, passed, first}
 use Rattle.refusals.specs.Lists.{list_fault}
-use Rattle.refusals.specs.declared.Refusal.{Refusal}
+use Rattle.refusals.specs.Refusals.{Told}
 use Rattle.refusals.proofs.Sized.{row_parts, holds, Fine, fine}
 use Rattle.whole_engine.specs.Rows.{all_in_bounds, wrong_whole}
 use Rattle.whole_moves.specs.Moved.{moved_by}
@@ -77,7 +77,7 @@ module _ (st orb : List ℤ) (dx dy : ℤ) where
         }
 
 -- the same of what the code answers
-module _ {n : Refusal} {p : Bool} (h : p ≡ passed n) (t : p ≡ true) where
+module _ {n : Told} {p : Bool} (h : p ≡ passed n) (t : p ≡ true) where
   pub move_lent : (st orb : List ℤ) (dx dy : ℤ) → n ≡ of_whole_move st orb dx dy → WholeMove st orb dx dy
   move_lent st orb dx dy e = move_passed st orb dx dy (rw (← e, ← h) t)
 

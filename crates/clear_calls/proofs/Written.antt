@@ -13,7 +13,7 @@ use Rattle.ring.specs.Room.{laid}
 use Rattle.refusals.specs.Refusals.{refused_fit, passed}
 use Rattle.refusals.specs.Screens.{wrong_fit}
 use Rattle.refusals.specs.Answers.{Outcome, answers, refuses, outcome, left}
-use Rattle.refusals.specs.declared.Refusal.{Refusal}
+use Rattle.refusals.specs.Refusals.{Told}
 use Rattle.refusals.proofs.Sized.{holds}
 use Rattle.refusals.proofs.Calls.{goes, stops, wrote, kept, refuses_first, answers_second, leaves_second}
 use Rattle.shifted.specs.Shifted.{up_of}
@@ -48,7 +48,7 @@ module _ (st orb : List ℤ) (dx dy : ℤ) (d : List ℕ) {room : List ℕ}
 -- ---- a room
 
 -- the room is long enough
-pub fits : (needed size : ℕ) {n : Refusal} {p : Bool} → n ≡ wrong_fit needed size → p ≡ passed n → p ≡ true → needed ≤ size
+pub fits : (needed size : ℕ) {n : Told} {p : Bool} → n ≡ wrong_fit needed size → p ≡ passed n → p ≡ true → needed ≤ size
 fits needed size e h t = leb-true _ _ (holds (leb needed size) refused_fit 0 refl (rw (← e, ← h) t))
 
 -- ---- by what is found, the answer and the room
@@ -66,8 +66,8 @@ module _ (g : Ground) (needed : ℕ) (ls held : List ℤ) where
   unfolding short_for written_for
   handed_enclosed e = rw (← e) (refl, refl)
 
-  module _ (c : clear ≡ g) {n : Refusal} {p : Bool} (e : n ≡ wrong_fit needed (length held)) (h : p ≡ passed n) where
-    abbrev fit : Refusal
+  module _ (c : clear ≡ g) {n : Told} {p : Bool} (e : n ≡ wrong_fit needed (length held)) (h : p ≡ passed n) where
+    abbrev fit : Told
     fit = wrong_fit needed (length held)
 
     pub handed_clear : {out : List ℤ} → p ≡ true → out ≡ laid ls held → Handed (answers clear) out
@@ -80,9 +80,9 @@ module _ (g : Ground) (needed : ℕ) (ls held : List ℤ) where
 
 -- ---- the call: the tests, and then the room
 
-module _ (st orb : List ℤ) (dx dy : ℤ) (held : List ℤ) {n : Refusal} {p : Bool}
+module _ (st orb : List ℤ) (dx dy : ℤ) (held : List ℤ) {n : Told} {p : Bool}
     (e : n ≡ of_whole_move st orb dx dy) (h : p ≡ passed n) where
-  abbrev short : Refusal
+  abbrev short : Told
   short = short_room st orb dx dy (length held)
 
   pub call_goes : {o : Outcome Ground} {out : List ℤ} → p ≡ true

@@ -1,4 +1,6 @@
 // The public calls: clear_move, check_reason.
+#![tactic(auto, using(refusals::proofs::Tests::refused))]
+
 ghost use Rattle.std.specs.Prelude.{◌≡◌, length};
 ghost use Rattle.clear_calls.specs.Calls.{judged, clear_move_call, clear_move_room, check_reason_call};
 
@@ -17,12 +19,8 @@ pub fn clear_move(
     ensures { (judged result ≡ clear_move_call stationary.now orbiting.now dx dy (length reason.old))
         × (reason.new ≡ clear_move_room stationary.now orbiting.now dx dy reason.old) }
 {
-    let no = row::whole_move(stationary, orbiting, dx, dy);
-    if no.passed() {
-        judge(stationary, orbiting, dx, dy, reason)
-    } else {
-        Judged::Refused(no)
-    }
+    row::whole_move(stationary, orbiting, dx, dy)?;
+    judge(stationary, orbiting, dx, dy, reason)
 }
 
 // Whether a reason that is lent holds.
@@ -35,10 +33,6 @@ pub fn check_reason(
 ) -> Judged
     ensures { judged result ≡ check_reason_call stationary.now orbiting.now dx dy reason.now }
 {
-    let no = row::reason(stationary, orbiting, dx, dy, reason);
-    if no.passed() {
-        Judged::Is(check(stationary, orbiting, dx, dy, reason))
-    } else {
-        Judged::Refused(no)
-    }
+    row::reason(stationary, orbiting, dx, dy, reason)?;
+    Ok(check(stationary, orbiting, dx, dy, reason))
 }

@@ -48,12 +48,8 @@ fn move_numbers(stationary: &[i32], orbiting: &[i32], dx: i32, dy: i32) -> Refus
 pub fn whole_move(stationary: &[i32], orbiting: &[i32], dx: i32, dy: i32) -> Refusal
     ensures { result ≡ of_whole_move stationary.now orbiting.now dx dy }
 {
-    let no = lengths(stationary, orbiting);
-    if no.passed() {
-        move_numbers(stationary, orbiting, dx, dy)
-    } else {
-        no
-    }
+    lengths(stationary, orbiting)?;
+    move_numbers(stationary, orbiting, dx, dy)
 }
 
 // The lengths of two polygons and of a reason, which has four numbers for each edge of the stationary one.
@@ -86,10 +82,6 @@ fn reason_numbers(stationary: &[i32], orbiting: &[i32], dx: i32, dy: i32, reason
 pub fn reason(stationary: &[i32], orbiting: &[i32], dx: i32, dy: i32, reason: &[i32]) -> Refusal
     ensures { result ≡ of_reason stationary.now orbiting.now dx dy reason.now }
 {
-    let no = reason_lengths(stationary, orbiting, reason);
-    if no.passed() {
-        reason_numbers(stationary, orbiting, dx, dy, reason)
-    } else {
-        no
-    }
+    reason_lengths(stationary, orbiting, reason)?;
+    reason_numbers(stationary, orbiting, dx, dy, reason)
 }

@@ -12,7 +12,7 @@ use Rattle.ring.specs.Room.{laid}
 use Rattle.refusals.specs.Refusals.{passed}
 use Rattle.refusals.specs.Screens.{wrong_fit}
 use Rattle.refusals.specs.Answers.{Outcome, answers, refuses, outcome, left}
-use Rattle.refusals.specs.declared.Refusal.{Refusal}
+use Rattle.refusals.specs.Refusals.{Told}
 use Rattle.refusals.proofs.Calls.{goes, stops, wrote, kept, refuses_first, answers_second, leaves_second}
 use Rattle.drawn_aside.specs.Found.{Least, clear_by, edge_first, enclosed_by}
 use Rattle.drawn_rows.specs.Rows.{of_drawn_move, of_drawn_reason}
@@ -22,10 +22,10 @@ use Rattle.clear_drawn.specs.Calls.{move_of, move_least, move_reason, short_for,
 use Rattle.clear_drawn.specs.Calls.{clear_move_room}
 
 module _ (xs ys path : List Float) (n : ℕ) where
-  pub move_tested : {no : Refusal} {p : Bool} → no ≡ of_drawn_move xs ys path n → p ≡ passed no → p ≡ true → DrawnLent xs ys path n
+  pub move_tested : {no : Told} {p : Bool} → no ≡ of_drawn_move xs ys path n → p ≡ passed no → p ≡ true → DrawnLent xs ys path n
   move_tested e h t = move_passed xs ys path n (rw (← e, ← h) t)
 
-  pub reason_tested : (how : ℕ) (ls : List ℤ) {no : Refusal} {p : Bool} → no ≡ of_drawn_reason xs ys path n how ls → p ≡ passed no
+  pub reason_tested : (how : ℕ) (ls : List ℤ) {no : Told} {p : Bool} → no ≡ of_drawn_reason xs ys path n how ls → p ≡ passed no
       → p ≡ true → DrawnLent xs ys path n × LinesLent xs ls × (how ≤ 20)
   reason_tested how ls e h t = reason_passed xs ys path n how ls (rw (← e, ← h) t)
 
@@ -43,9 +43,9 @@ module _ (xs ys path : List Float) (n : ℕ) where
     unfolding short_for written_for
     handed_enclosed e = rw (← e) (refl, refl)
 
-    module _ {how : ℕ} (c : clear_by how ≡ l) {no : Refusal} {p : Bool} (e : no ≡ wrong_fit (4 * (length xs / 2)) (length held))
+    module _ {how : ℕ} (c : clear_by how ≡ l) {no : Told} {p : Bool} (e : no ≡ wrong_fit (4 * (length xs / 2)) (length held))
         (h : p ≡ passed no) where
-      abbrev fit : Refusal
+      abbrev fit : Told
       fit = wrong_fit (4 * (length xs / 2)) (length held)
 
       pub handed_clear : {out : List ℤ} → p ≡ true → out ≡ laid (move_reason xs ys path n how) held → Handed (answers (clear_by how)) out
@@ -60,12 +60,12 @@ module _ (xs ys path : List Float) (n : ℕ) where
 
 -- ---- the call: the tests, and then the room
 
-module _ (xs ys : List Float) (from to : Point) (n : ℕ) (held : List ℤ) {no : Refusal} {p : Bool}
+module _ (xs ys : List Float) (from to : Point) (n : ℕ) (held : List ℤ) {no : Told} {p : Bool}
     (e : no ≡ of_drawn_move xs ys (move_of from to) n) (h : p ≡ passed no) where
   abbrev path : List Float
   path = move_of from to
 
-  abbrev short : Refusal
+  abbrev short : Told
   short = short_for xs ys path n (move_least xs ys path n) (length held)
 
   abbrev written : List ℤ

@@ -5,7 +5,7 @@ use Rattle.ring.specs.Room.{laid}
 use Rattle.refusals.specs.Refusals.{none, first_of}
 use Rattle.refusals.specs.Screens.{wrong_fit}
 use Rattle.refusals.specs.Answers.{Outcome, answers, refuses, outcome, left}
-use Rattle.refusals.specs.declared.Refusal.{Refusal}
+use Rattle.refusals.specs.Refusals.{Told}
 use Rattle.shifted.specs.Shifted.{up_of}
 use Rattle.whole_moves.specs.Moved.{down_of}
 use Rattle.reasons.specs.Check.{Ground, clear, edge, enclosed}
@@ -42,12 +42,12 @@ module _ (xs ys path : List Float) (n : ℕ) where
   move_reason how = map down_of (leg_lines (ring_up n xs) (grid_of n ys) (grid_of n path) 0 1 how)
 
   -- 5: it is clear, and a room of so many numbers is too short for the lines
-  unfoldable pub short_for : Least → ℕ → Refusal
+  unfoldable pub short_for : Least → ℕ → Told
   short_for (clear_by how) size = wrong_fit (4 * (length xs / 2)) size
   short_for (edge_first j) size = none
   short_for (enclosed_by how) size = none
 
-  abbrev pub of_clear_move : ℕ → Refusal
+  abbrev pub of_clear_move : ℕ → Told
   of_clear_move size = first_of (of_drawn_move xs ys path n ∷ short_for move_least size ∷ [])
 
   -- the reason at the front of the room where it is clear, and else what the room held

@@ -1,4 +1,6 @@
 // The public calls: clear_move, check_reason.
+#![tactic(auto, using(refusals::proofs::Tests::refused))]
+
 ghost use Rattle.std.specs.Prelude.{◌≡◌, length};
 ghost use Rattle.clear_drawn.specs.Calls.{judged, clear_move_call, clear_move_room, check_reason_call};
 
@@ -23,12 +25,8 @@ pub fn clear_move(
         reason.old }
 {
     let path = [from.x, from.y, to.x, to.y];
-    let no = drawn_move(stationary, orbiting, &path, units);
-    if no.passed() {
-        judge(stationary, orbiting, &path, units, reason)
-    } else {
-        Judged::Refused(no)
-    }
+    drawn_move(stationary, orbiting, &path, units)?;
+    judge(stationary, orbiting, &path, units, reason)
 }
 
 // Whether a reason that is lent holds for the disc put by `how`.
@@ -45,10 +43,6 @@ pub fn check_reason(
         reason.now }
 {
     let path = [from.x, from.y, to.x, to.y];
-    let no = drawn_reason(stationary, orbiting, &path, units, how, reason);
-    if no.passed() {
-        Judged::Is(check_move(stationary, orbiting, &path, units, how, reason))
-    } else {
-        Judged::Refused(no)
-    }
+    drawn_reason(stationary, orbiting, &path, units, how, reason)?;
+    Ok(check_move(stationary, orbiting, &path, units, how, reason))
 }

@@ -1,4 +1,6 @@
 // The public call: clear_path.
+#![tactic(auto, using(refusals::proofs::Tests::refused))]
+
 ghost use Rattle.std.specs.Prelude.{◌≡◌};
 ghost use Rattle.clear_drawn_path.specs.Calls.{path_judged, clear_path_call};
 
@@ -17,10 +19,6 @@ pub fn clear_path(
 ) -> PathJudged
     ensures { path_judged result ≡ clear_path_call stationary.now orbiting.now path.now closed units }
 {
-    let no = drawn_path(stationary, orbiting, path, units);
-    if no.passed() {
-        PathJudged::Is(path_found(stationary, orbiting, path, closed, units))
-    } else {
-        PathJudged::Refused(no)
-    }
+    drawn_path(stationary, orbiting, path, units)?;
+    Ok(path_found(stationary, orbiting, path, closed, units))
 }

@@ -18,7 +18,6 @@ use book_layout::{BOOK_MOST, NUMBERS_MOST};
 use book_reader::calls::read_book;
 use clear_calls::calls::clear_move;
 use lines::put_refusal;
-use refusals::answer::Count;
 use refusals::{REFUSED_BOOK, REFUSED_FEW, REFUSED_NUMBER, RINGS_MOST, Refusal};
 use say::put_judged;
 use std::io;
@@ -108,7 +107,7 @@ fn put_book(book: &[u8], dx: i32, dy: i32, out: &mut [u8]) -> usize
     let mut counts = [0u32; RINGS_MOST];
     let mut parts = [0u32; RINGS_MOST];
     match read_book(book, &mut room, &mut counts, &mut parts) {
-        Count::Is(rings) => put_rings(
+        Ok(rings) => put_rings(
             rings,
             &room,
             counts[0] as usize,
@@ -117,7 +116,7 @@ fn put_book(book: &[u8], dx: i32, dy: i32, out: &mut [u8]) -> usize
             dy,
             out,
         ),
-        Count::Refused(no) => put_refusal(no, out),
+        Err(no) => put_refusal(no, out),
     }
 }
 

@@ -1,4 +1,6 @@
 // The public call: clear_path.
+#![tactic(auto, using(refusals::proofs::Tests::refused))]
+
 ghost use Rattle.std.specs.Prelude.{◌≡◌};
 ghost use Rattle.clear_path.specs.Calls.{path_judged, clear_path_call};
 
@@ -10,10 +12,6 @@ use crate::{path_ground, row};
 pub fn clear_path(stationary: &[i32], orbiting: &[i32], path: &[i32]) -> PathJudged
     ensures { path_judged result ≡ clear_path_call stationary.now orbiting.now path.now }
 {
-    let no = row::whole_path(stationary, orbiting, path);
-    if no.passed() {
-        PathJudged::Is(path_ground(stationary, orbiting, path))
-    } else {
-        PathJudged::Refused(no)
-    }
+    row::whole_path(stationary, orbiting, path)?;
+    Ok(path_ground(stationary, orbiting, path))
 }

@@ -58,10 +58,6 @@ fn path_numbers(stationary: &[i32], orbiting: &[i32], path: &[i32]) -> Refusal
 pub fn whole_path(stationary: &[i32], orbiting: &[i32], path: &[i32]) -> Refusal
     ensures { result ≡ of_whole_path stationary.now orbiting.now path.now }
 {
-    let no = lengths(stationary, orbiting, path);
-    if no.passed() {
-        path_numbers(stationary, orbiting, path)
-    } else {
-        no
-    }
+    lengths(stationary, orbiting, path)?;
+    path_numbers(stationary, orbiting, path)
 }

@@ -1,4 +1,6 @@
 // The public call: check_translation_collision.
+#![tactic(auto, using(refusals::proofs::Tests::refused))]
+
 ghost use Rattle.std.specs.Prelude.{◌≡◌};
 ghost use Rattle.collision.specs.Calls.{checked, collision_call};
 
@@ -15,15 +17,11 @@ pub fn check_translation_collision(
 ) -> Checked
     ensures { checked result ≡ collision_call stationary.now orbiting.now translation tolerance }
 {
-    let no = row::moving(stationary, orbiting, translation, tolerance);
-    if no.passed() {
-        Checked::Is(crate::check_translation_collision(
-            stationary,
-            orbiting,
-            translation,
-            tolerance,
-        ))
-    } else {
-        Checked::Refused(no)
-    }
+    row::moving(stationary, orbiting, translation, tolerance)?;
+    Ok(crate::check_translation_collision(
+        stationary,
+        orbiting,
+        translation,
+        tolerance,
+    ))
 }

@@ -8,7 +8,7 @@ use lib.Ieee.{Float}
 use Rattle.ring.specs.Ring.{count}
 use Rattle.refusals.specs.Refusals.{passed, first}
 use Rattle.refusals.specs.Rows.{of_touching, of_rooms}
-use Rattle.refusals.specs.declared.Refusal.{Refusal}
+use Rattle.refusals.specs.Refusals.{Told}
 use Rattle.refusals.proofs.Sized.{Polygon, touching_polygons}
 use Rattle.pairs.specs.Pairs.{Sides}
 use Rattle.contacts_call.specs.Which.{entry}
@@ -24,7 +24,7 @@ sides st orb p q =
     }
 
 module _ (st orb : List Float) (tol : Float) where
-  pub lent_is : {n : Refusal} {p : Bool} → n ≡ of_touching st orb tol → p ≡ passed n → p ≡ true → Sides (count st) (count orb)
+  pub lent_is : {n : Told} {p : Bool} → n ≡ of_touching st orb tol → p ≡ passed n → p ≡ true → Sides (count st) (count orb)
   lent_is e h t = let p = touching_polygons st orb tol e h t in sides st orb p.0 p.1
 
   pub find_row : (which points : ℕ)

@@ -4,7 +4,7 @@ ghost use Rattle.ring.specs.Ring.{count};
 ghost use Rattle.ring.specs.Room.{laid};
 ghost use Rattle.pairs.specs.Pairs.{Sides, Within};
 ghost use Rattle.refusals.specs.Rows.{of_rooms};
-ghost use Rattle.refusals.specs.Answers.{counted, outcome, left};
+ghost use Rattle.refusals.specs.Answers.{answered, outcome, left};
 ghost use Rattle.contacts.specs.Touching.{point_by, contact_point};
 ghost use Rattle.contacts.specs.Contacts.{contacts_of, points_of};
 ghost use Rattle.projection.specs.Foot.{foot_code};
@@ -15,7 +15,7 @@ use contacts::{Edges, Next, edges_of, frames_of, next_within};
 use pairs::{Pair, pair_at};
 use plane::Point;
 use projection::foot::{Foot, foot_code, foot_of};
-use refusals::answer::Count;
+use refusals::Refusal;
 use refusals::row::rooms;
 
 // How many numbers a contact takes of those that say which it is: its kind, its stationary and its orbiting index, and its foot.
@@ -145,9 +145,9 @@ pub fn answer(
     tol: f64,
     which: &mut [u64],
     points: &mut [f64],
-) -> Count
+) -> Result<usize, Refusal>
     requires { Sides (count stationary.now) (count orbiting.now) }
-    ensures { (counted result ≡ outcome
+    ensures { (answered result ≡ outcome
         (of_rooms (entry * contact_count stationary.now orbiting.now tol) (length which.old)
         (2 * contact_count stationary.now orbiting.now tol) (length points.old))
         (contact_count stationary.now orbiting.now tol))
@@ -168,7 +168,7 @@ pub fn answer(
     let no = rooms(ENTRY * n, which.len(), 2 * n, points.len());
     if no.passed() {
         write_contacts(stationary, orbiting, tol, which, points);
-        return Count::Is(n);
+        return Ok(n);
     }
-    Count::Refused(no)
+    Err(no)
 }

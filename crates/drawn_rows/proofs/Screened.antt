@@ -8,7 +8,7 @@ use lib.Ieee.{Float, nan, inf, fin}
 use Rattle.laws.proofs.Both.{both}
 use Rattle.refusals.specs.Bounds.{finite, every, all_finite}
 use Rattle.refusals.specs.Refusals.{refused_setting, refused_grid, none, refuse, unless, passed, first}
-use Rattle.refusals.specs.declared.Refusal.{Refusal}
+use Rattle.refusals.specs.Refusals.{Told}
 use Rattle.refusals.proofs.Every.{every_at, every_of}
 use Rattle.refusals.proofs.First.{on, off, first_assoc}
 use Rattle.whole_engine.specs.Rows.{wrong_whole}
@@ -70,12 +70,12 @@ module _ (xs ys path : List Float) (n : ℕ) where
 
   -- ---- and with lines
 
-  module _ (how : ℕ) (ls : List ℤ) {no : Refusal} {p : Bool} (e : no ≡ first (wrong_floats xs ys path) (wrong_whole ls))
+  module _ (how : ℕ) (ls : List ℤ) {no : Told} {p : Bool} (e : no ≡ first (wrong_floats xs ys path) (wrong_whole ls))
       (h : p ≡ passed no) where
-    abbrev number : Refusal
+    abbrev number : Told
     number = first (wrong_floats xs ys path) (wrong_whole ls)
 
-    abbrev rest : Refusal
+    abbrev rest : Told
     rest = first (wrong_units n) (first (unless (how_ok how) refused_setting 0) (off_grid n xs ys path))
 
     in_order : first number rest ≡ reason_numbers xs ys path n how ls

@@ -153,24 +153,16 @@ fn reason_lengths(stationary: &[f64], orbiting: &[f64], lines: &[i32]) -> Refusa
 pub fn drawn_move(stationary: &[f64], orbiting: &[f64], path: &[f64], units: u32) -> Refusal
     ensures { result ≡ of_drawn_move stationary.now orbiting.now path.now units }
 {
-    let no = lengths(stationary, orbiting);
-    if no.passed() {
-        drawn_numbers(stationary, orbiting, path, units)
-    } else {
-        no
-    }
+    lengths(stationary, orbiting)?;
+    drawn_numbers(stationary, orbiting, path, units)
 }
 
 // Two polygons and a path.
 pub fn drawn_path(stationary: &[f64], orbiting: &[f64], path: &[f64], units: u32) -> Refusal
     ensures { result ≡ of_drawn_path stationary.now orbiting.now path.now units }
 {
-    let no = path_lengths(stationary, orbiting, path);
-    if no.passed() {
-        drawn_numbers(stationary, orbiting, path, units)
-    } else {
-        no
-    }
+    path_lengths(stationary, orbiting, path)?;
+    drawn_numbers(stationary, orbiting, path, units)
 }
 
 // Two polygons, a move, and lines for a disc put by `how`.
@@ -185,10 +177,6 @@ pub fn drawn_reason(
     ensures { result ≡ of_drawn_reason stationary.now orbiting.now path.now units how
         lines.now }
 {
-    let no = reason_lengths(stationary, orbiting, lines);
-    if no.passed() {
-        reason_numbers(stationary, orbiting, path, units, how, lines)
-    } else {
-        no
-    }
+    reason_lengths(stationary, orbiting, lines)?;
+    reason_numbers(stationary, orbiting, path, units, how, lines)
 }

@@ -1,4 +1,6 @@
 // The public call: explain_collision.
+#![tactic(auto, using(refusals::proofs::Tests::refused))]
+
 ghost use Rattle.std.specs.Prelude.{◌≡◌};
 ghost use Rattle.grounds.specs.Calls.{explained, explain_call};
 
@@ -15,10 +17,6 @@ pub fn explain_collision(
 ) -> Explained
     ensures { explained result ≡ explain_call stationary.now orbiting.now translation tolerance }
 {
-    let no = row::moving(stationary, orbiting, translation, tolerance);
-    if no.passed() {
-        Explained::Is(crate::explain_collision(stationary, orbiting, translation, tolerance))
-    } else {
-        Explained::Refused(no)
-    }
+    row::moving(stationary, orbiting, translation, tolerance)?;
+    Ok(crate::explain_collision(stationary, orbiting, translation, tolerance))
 }

@@ -6,10 +6,10 @@ use Rattle.projection.specs.Calls.{Projection}
 use Rattle.collision.specs.Calls.{Values}
 use Rattle.refusals.specs.Answers.{Outcome, answers, refuses}
 use Rattle.refusals.specs.Refusals as refusal
-use Rattle.refusals.specs.declared.Refusal.{Refusal}
+use Rattle.refusals.specs.Refusals.{Told}
 
 -- the refusal of a call: none where it answers
-unfoldable pub refusal_in : {A : Type 0} → Outcome A → Refusal
+unfoldable pub refusal_in : {A : Type 0} → Outcome A → Told
 refusal_in (answers a) = refusal.none
 refusal_in (refuses r) = r
 
@@ -18,7 +18,7 @@ abbrev pub returned : {A : Type 0} → Outcome A → ℕ
 returned o = (refusal_in o).number
 
 -- a cell for a place: that of a refusal that tells one, and else what the cell held
-unfoldable pub place_of : Refusal → ℕ → ℕ
+unfoldable pub place_of : Told → ℕ → ℕ
 place_of r held = cond (refusal.tells_place r.number) r.place held
 
 abbrev pub told_place : {A : Type 0} → Outcome A → ℕ → ℕ

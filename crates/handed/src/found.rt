@@ -2,14 +2,13 @@
 // or it returns the refusal and leaves the cells as they were.
 ghost use Rattle.std.specs.Prelude.{◌≡◌};
 ghost use Rattle.collision.specs.Calls.{checked};
-ghost use Rattle.refusals.specs.Answers.{position};
+ghost use Rattle.refusals.specs.Answers.{answered};
 ghost use Rattle.selection.specs.Calls.{selected};
 ghost use Rattle.handed.specs.Handed.{refusal_in, told, told_found, itself, is_found, x_of, y_of, hit_distance, hit_kind, hit_stationary, hit_orbiting};
 
 use collision::Collision;
 use collision::answer::Checked;
 use refusals::Refusal;
-use refusals::answer::{Found, Position};
 use selection::answer::Selected;
 
 // The index of a vector, or nothing.
@@ -40,7 +39,7 @@ pub fn hand_position(answer: Position, found: &mut u32, x: &mut f64, y: &mut f64
         × (y.new ≡ told_found y_of (position answer) y.old) }
 {
     match answer {
-        Position::Is(f) => match f {
+        Ok(f) => match f {
             Found::Nothing => {
                 *found = 0;
                 Refusal::none()
@@ -52,7 +51,7 @@ pub fn hand_position(answer: Position, found: &mut u32, x: &mut f64, y: &mut f64
                 Refusal::none()
             }
         },
-        Position::Refused(no) => no,
+        Err(no) => no,
     }
 }
 

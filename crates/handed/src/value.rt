@@ -1,7 +1,7 @@
 // Answers that are a value or a point. Each function writes the answer and returns no refusal, or returns the refusal and leaves the cells as they were.
 ghost use Rattle.std.specs.Prelude.{◌≡◌};
 ghost use Rattle.plane.specs.Orientation.{turn_number};
-ghost use Rattle.refusals.specs.Answers.{truth, turn, number, counted};
+ghost use Rattle.refusals.specs.Answers.{answered, turn};
 ghost use Rattle.projection.specs.Calls.{projected};
 ghost use Rattle.start_position.specs.Calls.{started};
 ghost use Rattle.handed.specs.Handed.{refusal_in, told, itself, flag, x_of, y_of, parameter_in, foot_in};
@@ -10,7 +10,6 @@ use plane::Orientation;
 use projection::answer::Projected;
 use projection::foot::foot_code;
 use refusals::Refusal;
-use refusals::answer::{Count, Number, Truth, Turn};
 use start_position::answer::Start;
 
 // Whether something holds, as 1 or 0.
@@ -18,11 +17,11 @@ pub fn hand_truth(answer: Truth, out: &mut u32) -> Refusal
     ensures { (result ≡ refusal_in (truth answer)) × (out.new ≡ told flag (truth answer) out.old) }
 {
     match answer {
-        Truth::Is(x) => {
+        Ok(x) => {
             *out = x as u32;
             Refusal::none()
         }
-        Truth::Refused(no) => no,
+        Err(no) => no,
     }
 }
 
@@ -42,11 +41,11 @@ pub fn hand_turn(answer: Turn, out: &mut i32) -> Refusal
     ensures { (result ≡ refusal_in (turn answer)) × (out.new ≡ told itself (turn answer) out.old) }
 {
     match answer {
-        Turn::Is(x) => {
+        Ok(x) => {
             *out = turn_number(x);
             Refusal::none()
         }
-        Turn::Refused(no) => no,
+        Err(no) => no,
     }
 }
 
@@ -55,11 +54,11 @@ pub fn hand_number(answer: Number, out: &mut f64) -> Refusal
     ensures { (result ≡ refusal_in (number answer)) × (out.new ≡ told itself (number answer) out.old) }
 {
     match answer {
-        Number::Is(x) => {
+        Ok(x) => {
             *out = x;
             Refusal::none()
         }
-        Number::Refused(no) => no,
+        Err(no) => no,
     }
 }
 
@@ -87,11 +86,11 @@ pub fn hand_count(answer: Count, out: &mut u64) -> Refusal
     ensures { (result ≡ refusal_in (counted answer)) × (out.new ≡ told itself (counted answer) out.old) }
 {
     match answer {
-        Count::Is(n) => {
+        Ok(n) => {
             *out = n as u64;
             Refusal::none()
         }
-        Count::Refused(no) => no,
+        Err(no) => no,
     }
 }
 

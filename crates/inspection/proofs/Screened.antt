@@ -6,14 +6,14 @@ use lib.Dec.{leb, ltb}
 use borrow.Author.Tests.{leb-true, ltb-true}
 use Rattle.refusals.specs.Refusals.{refused_inspection, refused_fit, passed, unless, first}
 use Rattle.refusals.specs.Screens.{wrong_fit}
-use Rattle.refusals.specs.declared.Refusal.{Refusal}
+use Rattle.refusals.specs.Refusals.{Told}
 use Rattle.refusals.proofs.Sized.{row_parts, holds}
 use Rattle.inspection.specs.Places.{per_shift}
 use Rattle.inspection.specs.Calls.{path_ok, shift_ok, of_shift, next_refusal, Shift}
 
 module _ (n k start size : ℕ) where
   -- the tests of the code are those of the definition
-  pub screened : {m : ℕ} {a b r : Refusal} → m ≡ per_shift n k → a ≡ of_shift n k start → b ≡ wrong_fit m size → r ≡ first a b
+  pub screened : {m : ℕ} {a b r : Told} → m ≡ per_shift n k → a ≡ of_shift n k start → b ≡ wrong_fit m size → r ≡ first a b
       → r ≡ next_refusal n k start size
   unfolding next_refusal
   screened q e f g = rw (g, e, f, q) refl
@@ -28,7 +28,7 @@ module _ (n k start size : ℕ) where
       let s = row_parts shift from (row_parts path (first shift from) p.0).1 in
       (ltb-true _ _ (holds (ltb start n) refused_inspection 0 refl s.1), leb-true _ _ (holds (leb (per_shift n k) size) refused_fit 0 refl p.1))
 
-  pub passing : {r : Refusal} {p : Bool} → r ≡ next_refusal n k start size → p ≡ passed r → p ≡ true → (start < n) × (per_shift n k ≤ size)
+  pub passing : {r : Told} {p : Bool} → r ≡ next_refusal n k start size → p ≡ passed r → p ≡ true → (start < n) × (per_shift n k ≤ size)
   passing e h t = through (rw (← e, ← h) t)
 
 -- a shift is its two numbers

@@ -4,7 +4,7 @@ use Rattle.ring.specs.Room.{laid}
 use Rattle.refusals.specs.Refusals.{refused_inspection, unless, first_of}
 use Rattle.refusals.specs.Screens.{wrong_fit}
 use Rattle.refusals.specs.Answers.{Outcome, answers, refuses, outcome, left}
-use Rattle.refusals.specs.declared.Refusal.{Refusal}
+use Rattle.refusals.specs.Refusals.{Told}
 use Rattle.inspection.specs.Places.{per_shift, shift_places, following_start}
 use Rattle.inspection.specs.declared.answer.Inspected.{Inspected}
 use Rattle.inspection.specs.declared.answer.Inspected.TheVariants as inspected-is
@@ -21,12 +21,12 @@ abbrev pub shift_ok : ℕ → Bool
 shift_ok k = one_to 64 k
 
 -- 13 for the path's places, the shift's or the start, in this order
-unfoldable pub of_shift : ℕ → ℕ → ℕ → Refusal
+unfoldable pub of_shift : ℕ → ℕ → ℕ → Told
 of_shift n k start =
     first_of (unless (path_ok n) refused_inspection 0 ∷ unless (shift_ok k) refused_inspection 0 ∷ unless (ltb start n) refused_inspection 0 ∷ [])
 
 -- then 5 where the places do not fit a room of so many
-unfoldable pub next_refusal : ℕ → ℕ → ℕ → ℕ → Refusal
+unfoldable pub next_refusal : ℕ → ℕ → ℕ → ℕ → Told
 next_refusal n k start size = first_of (of_shift n k start ∷ wrong_fit (per_shift n k) size ∷ [])
 
 -- what a shift answers: how many places were written, and the following start

@@ -1,4 +1,6 @@
 // The public call: next_places.
+#![tactic(auto, using(refusals::proofs::Tests::refused))]
+
 ghost use Rattle.std.specs.Prelude.{◌≡◌, length};
 ghost use Rattle.inspection.specs.Calls.{one_to, of_shift, inspected, next_places_call, next_places_room};
 
@@ -34,14 +36,10 @@ pub fn next_places(n: u64, k: u64, start: u64, room: &mut [u64]) -> Inspected
     ensures room_after { room.new ≡ next_places_room n k start room.old }
 {
     let m = crate::per_shift(n, k) as usize;
-    let no = screen::first(lent(n, k, start), screen::fit(m, room.len()));
-    if no.passed() {
-        let following = crate::lay(n, start, m, room);
-        Inspected::Is {
-            places: m,
-            following,
-        }
-    } else {
-        Inspected::Refused(no)
+    screen::first(lent(n, k, start), screen::fit(m, room.len()))?;
+    let following = crate::lay(n, start, m, room);
+    Inspected::Is {
+        places: m,
+        following,
     }
 }

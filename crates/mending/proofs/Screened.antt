@@ -14,7 +14,7 @@ use Rattle.refusals.specs.Bounds.{coordinates}
 use Rattle.refusals.specs.Lists.{list_fault}
 use Rattle.refusals.specs.Screens.{wrong_number, wrong_fit}
 use Rattle.refusals.specs.Rows.{of_rooms}
-use Rattle.refusals.specs.declared.Refusal.{Refusal}
+use Rattle.refusals.specs.Refusals.{Told}
 use Rattle.refusals.proofs.Sized.{row_parts, holds, Fine, fine, rooms_fit}
 use Rattle.refusals.proofs.Faults.{fault_none}
 use Rattle.mending.specs.Rows.{mendable_extent, of_mendable, wrong_remaining, of_mending}
@@ -44,7 +44,7 @@ module _ (r : List Float) where
       let f : Fine (mendable_extent r) = record { whole = omega (arith, m.even); enough = m.least; within = m.most } in
       rw (← fault_none (mendable_extent r) 0 f, m.bounded)
 
-  pub lent_is : {n : Refusal} {p : Bool} → n ≡ of_mendable r → p ≡ passed n → p ≡ true → Mendable r
+  pub lent_is : {n : Told} {p : Bool} → n ≡ of_mendable r → p ≡ passed n → p ≡ true → Mendable r
   lent_is e h t = is_mendable (rw (← e, ← h) t)
 
   pub mend_row : (room dropped points : ℕ) → mend_refusal r room dropped points ≡ first (of_mendable r) (fitting r room dropped points)
@@ -78,7 +78,7 @@ module _ (remaining gone room dropped points : ℕ) where
   fit_passes f =
       rw (le-leb 3 remaining f.three, le-leb (2 * remaining) room f.ring, le-leb (2 * gone) dropped f.whys, le-leb (2 * gone) points f.spots)
 
-  pub fit_is : {n : Refusal} {p : Bool} → n ≡ of_mending remaining gone room dropped points → p ≡ passed n → p ≡ true → Fits remaining gone room dropped points
+  pub fit_is : {n : Told} {p : Bool} → n ≡ of_mending remaining gone room dropped points → p ≡ passed n → p ≡ true → Fits remaining gone room dropped points
   fit_is e h t = all_fit (rw (← e, ← h) t)
 
 -- the tests of the code, with what it counted, are those of the definition
@@ -86,7 +86,7 @@ module _ (r : List Float) {s : ℕ} (e : s ≡ length (staying r)) where
   rest : count r - s ≡ length (going r)
   rest = omega (arith, all_parts r)
 
-  pub screened : (room dropped points : ℕ) {n : Refusal} → n ≡ of_mending s (count r - s) room dropped points → n ≡ fitting r room dropped points
+  pub screened : (room dropped points : ℕ) {n : Told} → n ≡ of_mending s (count r - s) room dropped points → n ≡ fitting r room dropped points
   screened room dropped points q = rw (q, rest, e)
 
   pub sizes : ◌≡◌ {A = Sizes} (record { vertices = s; dropped = count r - s }) (sizes_of r)

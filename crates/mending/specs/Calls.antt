@@ -3,7 +3,7 @@ use Rattle.std.specs.Prelude.{ℕ, List, [], ◌∷◌, length, Float}
 use Rattle.ring.specs.Room.{laid}
 use Rattle.refusals.specs.Refusals.{first_of}
 use Rattle.refusals.specs.Answers.{Outcome, answers, refuses, outcome, left}
-use Rattle.refusals.specs.declared.Refusal.{Refusal}
+use Rattle.refusals.specs.Refusals.{Told}
 use Rattle.mending.specs.Mending.{staying, going, mended_of, dropped_of, dropped_points}
 use Rattle.mending.specs.Rows.{of_mendable, of_mending}
 use Rattle.mending.specs.declared.answer.Sizes.{Sizes}
@@ -11,10 +11,10 @@ use Rattle.mending.specs.declared.answer.Mended.{Mended}
 use Rattle.mending.specs.declared.answer.Mended.TheVariants.{Is, Refused}
 
 -- 11 and 5 of a ring that is mended
-abbrev pub fitting : List Float → ℕ → ℕ → ℕ → Refusal
+abbrev pub fitting : List Float → ℕ → ℕ → ℕ → Told
 fitting r room dropped points = of_mending (length (staying r)) (length (going r)) room dropped points
 
-unfoldable pub mend_refusal : List Float → ℕ → ℕ → ℕ → Refusal
+unfoldable pub mend_refusal : List Float → ℕ → ℕ → ℕ → Told
 mend_refusal r room dropped points = first_of (of_mendable r ∷ fitting r room dropped points ∷ [])
 
 -- how many vertices the mended ring has, and how many were dropped

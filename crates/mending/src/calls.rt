@@ -1,4 +1,6 @@
 // The public call: mend_ring.
+#![tactic(auto, using(refusals::proofs::Tests::refused))]
+
 ghost use Rattle.std.specs.Prelude.{◌≡◌, length};
 ghost use Rattle.mending.specs.Calls.{mend_call, mend_room, mend_dropped, mend_points, mended};
 
@@ -14,10 +16,6 @@ pub fn mend_ring(ring: &[f64], room: &mut [f64], dropped: &mut [u64], points: &m
         × (dropped.new ≡ mend_dropped ring.now room.old dropped.old points.old)
         × (points.new ≡ mend_points ring.now room.old dropped.old points.old) }
 {
-    let no = row::mendable(ring);
-    if no.passed() {
-        answer(ring, room, dropped, points)
-    } else {
-        Mended::Refused(no)
-    }
+    row::mendable(ring)?;
+    answer(ring, room, dropped, points)
 }

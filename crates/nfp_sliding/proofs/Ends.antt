@@ -15,7 +15,7 @@ use Rattle.refusals.specs.Bounds.{coordinates as bounded-by, settings_ok, work_o
 use Rattle.refusals.specs.Lists.{Extent, list_fault, polygon_extent}
 use Rattle.refusals.specs.Screens.{wrong_number, wrong_settings, wrong_work}
 use Rattle.refusals.specs.Rows.{of_two_polygons, of_trace}
-use Rattle.refusals.specs.declared.Refusal.{Refusal}
+use Rattle.refusals.specs.Refusals.{Told}
 use Rattle.refusals.specs.declared.Settings.{Settings}
 use Rattle.ring.specs.Ring.{count}
 use Rattle.start_position.specs.Start.{start_of}
@@ -85,10 +85,10 @@ module _ (s : Scene) (room : ℕ) where
 -- ---- tests in a row
 
 -- a test that does not give refusal 5
-abbrev NotFive : Refusal → Type 0
+abbrev NotFive : Told → Type 0
 NotFive r = r.number ≡ 5 → ⊥
 
-either_not : (a b : Refusal) → NotFive a → NotFive b → NotFive (first a b)
+either_not : (a b : Told) → NotFive a → NotFive b → NotFive (first a b)
 either_not a b h k = by (passed a)
   where
     by : (t : Bool) → NotFive (cond t b a)

@@ -15,7 +15,7 @@ use Rattle.refusals.specs.Refusals.{passed, first}
 use Rattle.refusals.specs.Screens.{wrong_settings, wrong_work, wrong_result}
 use Rattle.refusals.specs.Rows.{of_two_polygons, of_trace}
 use Rattle.refusals.specs.Bounds.{tolerance_ok, smallest_ok, settings_ok, work_ok}
-use Rattle.refusals.specs.declared.Refusal.{Refusal}
+use Rattle.refusals.specs.Refusals.{Told}
 use Rattle.refusals.specs.declared.Settings.{Settings}
 use Rattle.refusals.proofs.Sized.{row_parts, holds, two_polygons}
 use Rattle.ring.specs.Ring.{count}
@@ -113,7 +113,7 @@ within s h =
     (both (smallest_ok s.min_translation) _ (both (tolerance_ok s.contact_tolerance) (smallest_ok s.min_translation && leb s.max_iterations 10000) h).1).1
 
 -- what the tests leave of what is lent
-pub lent_ready : (st orb : List Float) (s : Settings) (work result : ℕ) {n : Refusal} {p : Bool} → n ≡ of_trace st orb s work result → p ≡ passed n → p ≡ true
+pub lent_ready : (st orb : List Float) (s : Settings) (work result : ℕ) {n : Told} {p : Bool} → n ≡ of_trace st orb s work result → p ≡ passed n → p ≡ true
     → TraceReady st orb s work × (work ≤ result)
 unfolding of_trace
 lent_ready st orb s work result e h t =
@@ -137,7 +137,7 @@ lent_ready st orb s work result e h t =
     )
 
 -- what the call answers and leaves where no test refuses, and where one does
-module _ (st orb : List Float) (s : Settings) (work result : List Float) {n : Refusal} {p : Bool} (e : n ≡ of_trace st orb s (length work) (length result))
+module _ (st orb : List Float) (s : Settings) (work result : List Float) {n : Told} {p : Bool} (e : n ≡ of_trace st orb s (length work) (length result))
     (h : p ≡ passed n) where
   pub goes : {x : End} (r : Traced) {w o : List Float} → p ≡ true → x ≡ end_of (traced_of st orb s (length work)) → w ≡ laid (traced_of st orb s (length work)).path work
       → traced r ≡ came_to (ended x.full x.reason x.passes (take (2 * x.stored) w)) s.contact_tolerance

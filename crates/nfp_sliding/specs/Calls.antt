@@ -3,7 +3,7 @@ use Rattle.std.specs.Prelude.{ℕ, Bool, ◌||◌, cond, List, length, ltb, Floa
 use Rattle.refusals.specs.Refusals.{refused_fit, refused_short_path, none, refuse, passed}
 use Rattle.refusals.specs.Rows.{of_trace}
 use Rattle.refusals.specs.Answers.{left}
-use Rattle.refusals.specs.declared.Refusal.{Refusal}
+use Rattle.refusals.specs.Refusals.{Told}
 use Rattle.refusals.specs.declared.Settings.{Settings}
 use Rattle.ring.specs.Ring.{count}
 use Rattle.ring.specs.Room.{laid}
@@ -16,12 +16,12 @@ use Rattle.nfp_sliding.specs.declared.answer.Traced.TheVariants.{Is, Refused, Fu
 -- under three points, after so many passes and for that reason
 pub data Answer : Type 0 where
   traces : (points stored passes stop : ℕ) → Answer
-  denied : Refusal → Answer
+  denied : Told → Answer
   overfull : (passes : ℕ) → Answer
   too_short : (passes stop : ℕ) → Answer
 
 -- docs/SCOPE.md's number
-unfoldable pub refusal_of : Answer → Refusal
+unfoldable pub refusal_of : Answer → Told
 refusal_of (traces points stored passes stop) = none
 refusal_of (denied r) = r
 refusal_of (overfull passes) = refuse refused_fit 0

@@ -1,4 +1,6 @@
 // The public call: compute_nfp_sliding.
+#![tactic(auto, using(refusals::proofs::Tests::refused))]
+
 ghost use Rattle.std.specs.Prelude.{◌≡◌, length};
 ghost use Rattle.nfp_sliding.specs.Calls.{traced, trace_call, trace_work, trace_result};
 
@@ -22,11 +24,7 @@ pub fn compute_nfp_sliding(
         × (res.new ≡ trace_result stationary.now orbiting.now settings (length work.old)
         res.old) }
 {
-    let no = row::tracing(stationary, orbiting, settings, work.len(), res.len());
-    if no.passed() {
-        let end = trace(stationary, orbiting, settings, work);
-        finish(end, settings.contact_tolerance, work, res)
-    } else {
-        Traced::Refused(no)
-    }
+    row::tracing(stationary, orbiting, settings, work.len(), res.len())?;
+    let end = trace(stationary, orbiting, settings, work);
+    finish(end, settings.contact_tolerance, work, res)
 }

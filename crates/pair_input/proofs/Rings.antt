@@ -10,7 +10,7 @@ use lib.Seq.{take-append-le, drop-append-le}
 use lib.Ieee.{Float, binary64, of_bits}
 use Rattle.ring.specs.Room.{laid}
 use Rattle.refusals.specs.Refusals.{passed}
-use Rattle.refusals.specs.declared.Refusal.{Refusal}
+use Rattle.refusals.specs.Refusals.{Told}
 use Rattle.refusals.specs.declared.answer.Count.{Count}
 use Rattle.refusals.specs.declared.answer.Count.TheVariants.{Is, Refused}
 use Rattle.refusals.specs.Rings.{vertices_least, vertices_most, rings_most, within, total, sized_all}
@@ -121,7 +121,7 @@ module _ (f : List ℕ) (bytes : (i : ℕ) → get_or f i 0 < 256) (x : List Flo
       orbiting_is = orbiting;
     }
 
-  module _ (told : Refusal) (e : r ≡ Refused told) where
+  module _ (told : Told) (e : r ≡ Refused told) where
     pub fault_read : (passed (book_check f) ≡ false) × (told ≡ book_check f)
     fault_read =
         let l = length-replicate numbers_most (of_bits binary64 0) in
@@ -130,12 +130,12 @@ module _ (f : List ℕ) (bytes : (i : ℕ) → get_or f i 0 < 256) (x : List Flo
 
 -- ---- what is said of a book: its two polygons in one way, or its fault in another
 
-module _ (say : List Float → List Float → List ℕ) (fault : Refusal → List ℕ) (f : List ℕ) where
+module _ (say : List Float → List Float → List ℕ) (fault : Told → List ℕ) (f : List ℕ) where
   abbrev book_text : List ℕ
   book_text = cond (passed (book_check f)) (say (stationary_in f) (orbiting_in f)) (fault (book_check f))
 
   pub pair_said : {x : List Float} {n : List ℕ} → Pair f x n → say (first_part x (get_or n 0 0)) (second_part x (get_or n 0 0) (get_or n 1 0)) ≡ book_text
   pair_said p = rw p.book (ap₂ say p.stationary_is p.orbiting_is)
 
-  pub fault_said : {told : Refusal} → (passed (book_check f) ≡ false) × (told ≡ book_check f) → fault told ≡ book_text
+  pub fault_said : {told : Told} → (passed (book_check f) ≡ false) × (told ≡ book_check f) → fault told ≡ book_text
   fault_said b = rw b.0 (ap fault b.1)

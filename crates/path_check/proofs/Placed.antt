@@ -14,7 +14,7 @@ use Rattle.ring.proofs.Moved.{moved_front, moved_count}
 use Rattle.pairs.specs.Pairs.{Sides}
 use Rattle.refusals.specs.Refusals.{passed, first}
 use Rattle.refusals.specs.Lists.{list_fault, polygon_extent}
-use Rattle.refusals.specs.declared.Refusal.{Refusal}
+use Rattle.refusals.specs.Refusals.{Told}
 use Rattle.refusals.specs.declared.Settings.{Settings}
 use Rattle.refusals.proofs.Sized.{Polygon, row_parts, fine, is_polygon}
 use Rattle.path_check.specs.Rows.{path_extent, path_lengths, path_numbers, of_path}
@@ -37,7 +37,7 @@ lent_sides st orb p q =
     }
 
 -- polygons that are not refused
-module _ (st orb : List Float) (s : Settings) (path : List Float) {n : Refusal} {p : Bool} where
+module _ (st orb : List Float) (s : Settings) (path : List Float) {n : Told} {p : Bool} where
   pub polygons : n ≡ of_path st orb s path → p ≡ passed n → p ≡ true → Polygon st × Polygon orb
   unfolding of_path path_lengths
   polygons e h t =

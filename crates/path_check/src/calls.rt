@@ -1,4 +1,6 @@
 // The public call: check_path.
+#![tactic(auto, using(refusals::proofs::Tests::refused))]
+
 ghost use Rattle.std.specs.Prelude.{◌≡◌};
 ghost use Rattle.path_check.specs.Calls.{verdict, path_call};
 
@@ -10,10 +12,6 @@ use refusals::Settings;
 pub fn check_path(stationary: &[f64], orbiting: &[f64], settings: Settings, path: &[f64]) -> Verdict
     ensures { verdict result ≡ path_call stationary.now orbiting.now settings path.now }
 {
-    let no = row::checking(stationary, orbiting, settings, path);
-    if no.passed() {
-        Verdict::Is(path_fault(stationary, orbiting, settings.contact_tolerance, path))
-    } else {
-        Verdict::Refused(no)
-    }
+    row::checking(stationary, orbiting, settings, path)?;
+    Ok(path_fault(stationary, orbiting, settings.contact_tolerance, path))
 }

@@ -29,10 +29,6 @@ fn path_numbers(stationary: &[f64], orbiting: &[f64], s: Settings, path: &[f64])
 pub fn checking(stationary: &[f64], orbiting: &[f64], s: Settings, path: &[f64]) -> Refusal
     ensures { result ≡ of_path stationary.now orbiting.now s path.now }
 {
-    let no = path_lengths(stationary, orbiting, path);
-    if no.passed() {
-        path_numbers(stationary, orbiting, s, path)
-    } else {
-        no
-    }
+    path_lengths(stationary, orbiting, path)?;
+    path_numbers(stationary, orbiting, s, path)
 }

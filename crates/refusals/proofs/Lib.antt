@@ -3,6 +3,7 @@ pub mod Coordinate
 pub mod Finite
 pub mod Every
 pub mod First
+pub mod Tests
 pub mod Room
 pub mod Calls
 pub mod Sized

@@ -4,7 +4,7 @@
 
 ghost use Rattle.std.specs.Prelude.{◌≡◌, ◌≤◌, length};
 
-use refusals::answer::Count;
+use refusals::Refusal;
 use replay::{
     Verdict, after, begin, list_length, load, load_counts, name_first, read, read_full, report,
     same_bytes, same_counts, same_floats, word,
@@ -47,13 +47,13 @@ fn bytes<R: Read>(input: &mut R, n: usize) -> [u8; 33000]
 // Whether an answer is what the record says: the refusal's number, the value, the place.
 fn told(answer: Count, header: &[u8; 96]) -> bool {
     match answer {
-        Count::Is(n) => {
+        Ok(n) => {
             if word(header, 40) != 0 {
                 return false;
             }
             n as u64 == word(header, 48)
         }
-        Count::Refused(no) => {
+        Err(no) => {
             if no.number as u64 != word(header, 40) {
                 return false;
             }
@@ -72,7 +72,7 @@ fn write(
     pn: usize,
     room: &mut [u8],
     rn: usize,
-) -> Count
+) -> Result<usize, Refusal>
     requires { (an ≤ length xs.now) × (bn ≤ length ns.now) × (pn ≤ length ps.now) × (rn ≤ length room.old) }
 {
     book_writer::calls::write_book(&xs[..an], &ns[..bn], &ps[..pn], &mut room[..rn])
@@ -110,7 +110,7 @@ fn read_rings(
     cn: usize,
     ps: &mut [u32],
     pn: usize,
-) -> Count
+) -> Result<usize, Refusal>
     requires { (an ≤ length book.now) × (rn ≤ length xs.old) × (cn ≤ length ns.old) × (pn ≤ length ps.old) }
 {
     book_reader::calls::read_book(&book[..an], &mut xs[..rn], &mut ns[..cn], &mut ps[..pn])

@@ -5,7 +5,7 @@ ghost use Rattle.std.specs.Prelude.{◌≡◌, ◌≤◌, length};
 
 use number_bytes::float_of;
 use plane::Point;
-use refusals::answer::Count;
+use refusals::Refusal;
 use replay::{
     Verdict, after, begin, list_length, load, name_first, read, read_full, report, same_floats,
     word,
@@ -28,13 +28,13 @@ fn floats<R: Read>(input: &mut R, n: usize) -> [f64; 600]
 // Whether an answer is what the record says: the refusal's number, the vertices. No refusal of the call tells a place.
 fn told(answer: Count, header: &[u8; 56]) -> bool {
     match answer {
-        Count::Is(n) => {
+        Ok(n) => {
             if word(header, 16) != 0 {
                 return false;
             }
             n as u64 == word(header, 24)
         }
-        Count::Refused(no) => {
+        Err(no) => {
             if no.number as u64 != word(header, 16) {
                 return false;
             }
@@ -44,7 +44,7 @@ fn told(answer: Count, header: &[u8; 56]) -> bool {
 }
 
 // The call on the first numbers of the room.
-fn make(header: &[u8; 56], room: &mut [f64], rn: usize) -> Count
+fn make(header: &[u8; 56], room: &mut [f64], rn: usize) -> Result<usize, Refusal>
     requires { rn ≤ length room.old }
 {
     let centre = Point {

@@ -3,7 +3,7 @@
 
 ghost use Rattle.std.specs.Prelude.{◌≡◌, ◌≤◌, length};
 
-use refusals::answer::Count;
+use refusals::Refusal;
 use replay::{
     Verdict, after, begin, list_length, load, load_integers, name_first, read, read_full, report,
     same_integers, word,
@@ -61,13 +61,13 @@ fn few_integers<R: Read>(input: &mut R, n: usize) -> [i32; 80]
 // Whether an answer is what the record says: the refusal's number and its place, how many points were written.
 fn told(answer: Count, header: &[u8; 48]) -> bool {
     match answer {
-        Count::Is(points) => {
+        Ok(points) => {
             if word(header, 24) != 0 {
                 return false;
             }
             points as u64 == word(header, 40)
         }
-        Count::Refused(no) => {
+        Err(no) => {
             if no.number as u64 != word(header, 24) {
                 return false;
             }
@@ -77,7 +77,7 @@ fn told(answer: Count, header: &[u8; 48]) -> bool {
 }
 
 // The call of a record, with the first n points' numbers and the first rn words of the room.
-fn put(header: &[u8; 48], list: &[f64], n: usize, room: &mut [i32], rn: usize) -> Count
+fn put(header: &[u8; 48], list: &[f64], n: usize, room: &mut [i32], rn: usize) -> Result<usize, Refusal>
     requires { (n ≤ length list.now) × (rn ≤ length room.old) }
 {
     let units = (word(header, 8) % 4294967296) as u32;

@@ -5,7 +5,6 @@ use plane::Orientation;
 use projection::answer::Projected;
 use projection::foot::foot_code;
 use refusals::Refusal;
-use refusals::answer::{Count, Number, Truth, Turn};
 
 #[derive(Clone, Copy)]
 pub struct Told {
@@ -32,26 +31,26 @@ fn refused(r: Refusal) -> Told {
 
 pub fn truth(t: Truth) -> Told {
     match t {
-        Truth::Is(b) => { if b { answered(1) } else { answered(0) } }
-        Truth::Refused(r) => refused(r),
+        Ok(b) => { if b { answered(1) } else { answered(0) } }
+        Err(r) => refused(r),
     }
 }
 
 pub fn turn(t: Turn) -> Told {
     match t {
-        Turn::Is(o) => match o {
+        Ok(o) => match o {
             Orientation::CounterClockwise => answered(1),
             Orientation::Clockwise => answered(u64::MAX),
             Orientation::Collinear => answered(0),
         },
-        Turn::Refused(r) => refused(r),
+        Err(r) => refused(r),
     }
 }
 
 pub fn number(n: Number) -> Told {
     match n {
-        Number::Is(x) => answered(bits_of(x)),
-        Number::Refused(r) => refused(r),
+        Ok(x) => answered(bits_of(x)),
+        Err(r) => refused(r),
     }
 }
 
@@ -74,8 +73,8 @@ pub fn foot(p: Projected) -> Told {
 
 pub fn count(c: Count) -> Told {
     match c {
-        Count::Is(n) => answered(n as u64),
-        Count::Refused(r) => refused(r),
+        Ok(n) => answered(n as u64),
+        Err(r) => refused(r),
     }
 }
 

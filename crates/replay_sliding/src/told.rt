@@ -6,7 +6,6 @@ use grounds::Explanation;
 use grounds::answer::Explained;
 use number_bytes::bits_of;
 use refusals::Refusal;
-use refusals::answer::{Count, Found, Position, Truth};
 use selection::answer::Selected;
 use start_position::answer::Start;
 
@@ -59,21 +58,21 @@ fn refused(r: Refusal) -> Told {
 
 pub fn truth(t: Truth) -> Told {
     match t {
-        Truth::Is(b) => {
+        Ok(b) => {
             if b {
                 values(1, 0, 0, 0, 0)
             } else {
                 values(0, 0, 0, 0, 0)
             }
         }
-        Truth::Refused(r) => refused(r),
+        Err(r) => refused(r),
     }
 }
 
 pub fn count(c: Count) -> Told {
     match c {
-        Count::Is(n) => values(n as u64, 0, 0, 0, 0),
-        Count::Refused(r) => refused(r),
+        Ok(n) => values(n as u64, 0, 0, 0, 0),
+        Err(r) => refused(r),
     }
 }
 
@@ -86,8 +85,8 @@ fn found(f: Found) -> Told {
 
 pub fn position(p: Position) -> Told {
     match p {
-        Position::Is(f) => found(f),
-        Position::Refused(r) => refused(r),
+        Ok(f) => found(f),
+        Err(r) => refused(r),
     }
 }
 

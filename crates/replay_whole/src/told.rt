@@ -2,7 +2,6 @@
 use crate::words::word_of;
 use plane::Orientation;
 use refusals::Refusal;
-use refusals::answer::{Truth, Turn};
 use whole_engine::answer::Whole;
 
 #[derive(Clone, Copy)]
@@ -30,19 +29,19 @@ fn refused(r: Refusal) -> Told {
 
 pub fn truth(t: Truth) -> Told {
     match t {
-        Truth::Is(b) => { if b { answered(1) } else { answered(0) } }
-        Truth::Refused(r) => refused(r),
+        Ok(b) => { if b { answered(1) } else { answered(0) } }
+        Err(r) => refused(r),
     }
 }
 
 pub fn turn(t: Turn) -> Told {
     match t {
-        Turn::Is(o) => match o {
+        Ok(o) => match o {
             Orientation::CounterClockwise => answered(1),
             Orientation::Clockwise => answered(u64::MAX),
             Orientation::Collinear => answered(0),
         },
-        Turn::Refused(r) => refused(r),
+        Err(r) => refused(r),
     }
 }
 

@@ -4,7 +4,7 @@
 
 ghost use Rattle.std.specs.Prelude.{◌≡◌, ◌≤◌, length};
 
-use refusals::answer::Count;
+use refusals::Refusal;
 use replay::{
     Verdict, after, begin, list_length, load, name_first, read, read_full, report, same_bytes,
     same_floats, word,
@@ -36,13 +36,13 @@ fn bytes<R: Read>(input: &mut R, n: usize) -> [u8; 4200]
 // Whether an answer is what the record says: the refusal's number, the value, the place.
 fn told(answer: Count, header: &[u8; 48]) -> bool {
     match answer {
-        Count::Is(n) => {
+        Ok(n) => {
             if word(header, 24) != 0 {
                 return false;
             }
             n as u64 == word(header, 32)
         }
-        Count::Refused(no) => {
+        Err(no) => {
             if no.number as u64 != word(header, 24) {
                 return false;
             }
@@ -52,7 +52,7 @@ fn told(answer: Count, header: &[u8; 48]) -> bool {
 }
 
 // The writer on the first numbers of each list.
-fn write(ring: &[f64], an: usize, room: &mut [u8], rn: usize) -> Count
+fn write(ring: &[f64], an: usize, room: &mut [u8], rn: usize) -> Result<usize, Refusal>
     requires { (an ≤ length ring.now) × (rn ≤ length room.old) }
 {
     wkb_writer::calls::write_wkb(&ring[..an], &mut room[..rn])
@@ -72,7 +72,7 @@ fn write_agrees<R: Read>(input: &mut R, header: &[u8; 48], an: usize, rn: usize)
 }
 
 // The reader on the first numbers of each list.
-fn read_ring(wkb: &[u8], an: usize, room: &mut [f64], rn: usize) -> Count
+fn read_ring(wkb: &[u8], an: usize, room: &mut [f64], rn: usize) -> Result<usize, Refusal>
     requires { (an ≤ length wkb.now) × (rn ≤ length room.old) }
 {
     wkb_reader::calls::read_wkb(&wkb[..an], &mut room[..rn])

@@ -8,7 +8,7 @@ use lib.ListN.{length, get_or, take, drop, replicate, length-append, length-repl
 use lib.Seq.{take_at}
 use lib.Ieee.{Float, binary64, of_bits}
 use Rattle.lines.specs.Lines.{refusal_line}
-use Rattle.refusals.specs.declared.Refusal.{Refusal}
+use Rattle.refusals.specs.Refusals.{Told}
 use Rattle.refusals.specs.declared.answer.Count.{Count}
 use Rattle.refusals.specs.declared.answer.Count.TheVariants.{Is, Refused}
 use Rattle.refusals.specs.Rings.{rings_most, total, sized_all}
@@ -92,7 +92,7 @@ module _ (f : List ℕ) (bytes : (i : ℕ) → get_or f i 0 < 256) (x : List Flo
         rw (taken, parts_taken, room_holds, a_book f bytes room x counts n parts q r p k e)
         (ap (λ (t : List ℕ). rings_line (length ns) ++ t) (same_texts ns ps l (drop (length l) room) held.whole (length ns) (omega arith)))
 
-  module _ (no_one : Refusal) (e : r ≡ Refused no_one) where
+  module _ (no_one : Told) (e : r ≡ Refused no_one) where
     pub fault_told : refusal_line no_one ≡ book_text f
     unfolding book_text
     fault_told =

@@ -1,4 +1,6 @@
 // The public call: select_translation_vector.
+#![tactic(auto, using(refusals::proofs::Tests::refused))]
+
 ghost use Rattle.std.specs.Prelude.{◌≡◌};
 ghost use Rattle.selection.specs.Calls.{selected, select_call};
 
@@ -16,14 +18,10 @@ pub fn select_translation_vector(
 ) -> Selected
     ensures { selected result ≡ select_call vectors.now previous centroid position }
 {
-    let no = row::vectors(vectors);
-    if no.passed() {
-        if vectors.len() == 0 {
-            Selected::Nothing
-        } else {
-            Selected::Index(crate::select(vectors, previous, crate::preferred(centroid, position)))
-        }
+    row::vectors(vectors)?;
+    if vectors.len() == 0 {
+        Selected::Nothing
     } else {
-        Selected::Refused(no)
+        Selected::Index(crate::select(vectors, previous, crate::preferred(centroid, position)))
     }
 }

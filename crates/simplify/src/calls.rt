@@ -1,13 +1,14 @@
 // The public call: simplify_polygon.
+#![tactic(auto, using(refusals::proofs::Tests::refused))]
+
 ghost use Rattle.std.specs.Prelude.{◌≡◌, length};
 ghost use Rattle.ring.specs.Ring.{count};
 ghost use Rattle.refusals.specs.Refusals.{first};
 ghost use Rattle.refusals.specs.Screens.{wrong_room};
-ghost use Rattle.refusals.specs.Answers.{counted};
+ghost use Rattle.refusals.specs.Answers.{answered};
 ghost use Rattle.simplify.specs.Simplify.{simplified};
 ghost use Rattle.simplify.specs.Calls.{simplify_call, simplify_room};
 
-use refusals::answer::Count;
 use refusals::{Refusal, row, screen};
 
 // The room for the simplified list, where what is lent is not refused.
@@ -22,14 +23,10 @@ fn fits(lent: Refusal, list: &[f64], tolerance: f64, size: usize) -> Refusal
 }
 
 // The list without its collinear points, in the room: how many points were written.
-pub fn simplify_polygon(list: &[f64], tolerance: f64, room: &mut [f64]) -> Count
-    ensures result_value { counted result ≡ simplify_call list.now tolerance (length room.old) }
+pub fn simplify_polygon(list: &[f64], tolerance: f64, room: &mut [f64]) -> Result<usize, Refusal>
+    ensures result_value { answered result ≡ simplify_call list.now tolerance (length room.old) }
     ensures room_after { room.new ≡ simplify_room list.now tolerance room.old }
 {
-    let no = fits(row::list(list, tolerance), list, tolerance, room.len());
-    if no.passed() {
-        Count::Is(crate::simplify(list, tolerance, room))
-    } else {
-        Count::Refused(no)
-    }
+    fits(row::list(list, tolerance), list, tolerance, room.len())?;
+    Ok(crate::simplify(list, tolerance, room))
 }

@@ -11,7 +11,7 @@ use Rattle.ring.specs.Ring.{count, point_at}
 use Rattle.ring.specs.Room.{laid}
 use Rattle.print.specs.Text.{pair_line}
 use Rattle.refusals.specs.Refusals.{passed}
-use Rattle.refusals.specs.declared.Refusal.{Refusal}
+use Rattle.refusals.specs.Refusals.{Told}
 use Rattle.refusals.specs.declared.Settings.{Settings}
 use Rattle.simplify.specs.Simplify.{simplified}
 use Rattle.nfp_sliding.specs.Path.{traced_of}
@@ -53,7 +53,7 @@ points_of (too_short passes stop) = 0
 
 -- ---- the answer of a call, case by case: passed or not, the room full or not, the path short or not
 
-module _ (r : Refusal) (passes reason stored : ℕ) (result held : List Float) where
+module _ (r : Told) (passes reason stored : ℕ) (result held : List Float) where
   abbrev call : Bool → Bool → Bool → Answer
   call p f h = cond p (cond f (overfull passes) (cond h (too_short passes reason) (traces (count result) stored passes reason))) (denied r)
 

@@ -1,4 +1,6 @@
 // The public call: find_start_position.
+#![tactic(auto, using(refusals::proofs::Tests::refused))]
+
 ghost use Rattle.std.specs.Prelude.{◌≡◌};
 ghost use Rattle.start_position.specs.Calls.{started, start_call};
 
@@ -9,10 +11,6 @@ use refusals::row;
 pub fn find_start_position(stationary: &[f64], orbiting: &[f64]) -> Start
     ensures { started result ≡ start_call stationary.now orbiting.now }
 {
-    let no = row::two_polygons(stationary, orbiting);
-    if no.passed() {
-        Start::Is(crate::find_start_position(stationary, orbiting))
-    } else {
-        Start::Refused(no)
-    }
+    row::two_polygons(stationary, orbiting)?;
+    Ok(crate::find_start_position(stationary, orbiting))
 }

@@ -12,7 +12,7 @@ use Rattle.refusals.specs.Bounds.{coordinate, every, coordinates}
 use Rattle.refusals.specs.Lists.{list_fault, points_extent}
 use Rattle.refusals.specs.Refusals.{refused_setting, refused_fit, refused_grid, none, refuse, passed, first}
 use Rattle.refusals.specs.Screens.{wrong_number, wrong_fit}
-use Rattle.refusals.specs.declared.Refusal.{Refusal}
+use Rattle.refusals.specs.Refusals.{Told}
 use Rattle.refusals.proofs.Every.{every_at, every_of}
 use Rattle.refusals.proofs.First.{on, off}
 use Rattle.refusals.proofs.Sized.{row_parts, holds}
@@ -48,7 +48,7 @@ module _ (xs : List Float) (units : ℕ) where
 
   -- ---- and all that is lent
 
-  module _ {n : Refusal} {p : Bool} (e : n ≡ list_fault (points_extent xs) 0) (h : p ≡ passed n) where
+  module _ {n : Told} {p : Bool} (e : n ≡ list_fault (points_extent xs) 0) (h : p ≡ passed n) where
     pub lent_on : p ≡ true → grid_numbers xs units ≡ of_grid xs units
     unfolding of_grid
     lent_on t = sym (on (list_fault (points_extent xs) 0) (grid_numbers xs units) e h t)
@@ -57,7 +57,7 @@ module _ (xs : List Float) (units : ℕ) where
     unfolding of_grid
     lent_off t = sym (off (list_fault (points_extent xs) 0) (grid_numbers xs units) e h t)
 
-  pub screened : (size : ℕ) {a b n : Refusal} → a ≡ of_grid xs units → b ≡ wrong_fit (length xs) size → n ≡ first a b
+  pub screened : (size : ℕ) {a b n : Told} → a ≡ of_grid xs units → b ≡ wrong_fit (length xs) size → n ≡ first a b
       → n ≡ to_grid_refusal xs units size
   unfolding to_grid_refusal
   screened size e f q = rw (q, e, f) refl
@@ -75,6 +75,6 @@ module _ (xs : List Float) (units : ℕ) where
       let u = units_are units (holds (units_ok units) refused_setting 0 refl s.0) in
       (holds (every (fits_grid units) xs) refused_grid 0 refl s.1, u.0, u.1, leb-true _ _ (holds (leb (length xs) size) refused_fit 0 refl p.1))
 
-  pub passing : (size : ℕ) {n : Refusal} {p : Bool} → n ≡ to_grid_refusal xs units size → p ≡ passed n → p ≡ true
+  pub passing : (size : ℕ) {n : Told} {p : Bool} → n ≡ to_grid_refusal xs units size → p ≡ passed n → p ≡ true
       → ((every (fits_grid units) xs ≡ true) × (1 ≤ units) × (units ≤ 1000000)) × (length xs ≤ size)
   passing size e h t = let f = through size (rw (← e, ← h) t) in ((f.0, f.1, f.2), f.3)

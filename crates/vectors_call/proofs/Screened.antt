@@ -10,7 +10,7 @@ use Rattle.ring.specs.Ring.{count}
 use Rattle.ring.specs.Each.{each}
 use Rattle.refusals.specs.Refusals.{passed, first}
 use Rattle.refusals.specs.Rows.{of_touching, of_fit, of_rooms}
-use Rattle.refusals.specs.declared.Refusal.{Refusal}
+use Rattle.refusals.specs.Refusals.{Told}
 use Rattle.refusals.proofs.Sized.{fit_polygons}
 use Rattle.pairs.specs.Pairs.{Sides}
 use Rattle.contacts_call.proofs.Screened.{sides}
@@ -40,5 +40,5 @@ module _ (st orb : List Float) (tol : Float) where
     unfolding fit_refusal
     fit_row vectors sources = refl
 
-    pub lent_is : {n : Refusal} {p : Bool} → n ≡ of_fit st orb from visited tol → p ≡ passed n → p ≡ true → Sides (count st) (count orb)
+    pub lent_is : {n : Told} {p : Bool} → n ≡ of_fit st orb from visited tol → p ≡ passed n → p ≡ true → Sides (count st) (count orb)
     lent_is e h t = let p = fit_polygons st orb from visited tol e h t in sides st orb p.0 p.1

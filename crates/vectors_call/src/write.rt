@@ -4,12 +4,12 @@ ghost use Rattle.ring.specs.Ring.{count};
 ghost use Rattle.ring.specs.Room.{laid};
 ghost use Rattle.pairs.specs.Pairs.{Sides};
 ghost use Rattle.vectors.specs.Vectors.{vector_numbers, sources_of};
-ghost use Rattle.refusals.specs.Answers.{counted, outcome, left};
+ghost use Rattle.refusals.specs.Answers.{answered, outcome, left};
 ghost use Rattle.vectors.specs.Fit.{fit_of};
 ghost use Rattle.vectors_call.specs.Calls.{fit_count, fit_rooms};
 
 use plane::Point;
-use refusals::answer::Count;
+use refusals::Refusal;
 use refusals::row::rooms;
 use vectors::fit::next_kept;
 use vectors::{Place, Step, TranslationVector};
@@ -108,9 +108,9 @@ pub fn answer(
     tol: f64,
     vectors: &mut [f64],
     sources: &mut [u64],
-) -> Count
+) -> Result<usize, Refusal>
     requires { Sides (count stationary.now) (count orbiting.now) }
-    ensures { (counted result ≡ outcome
+    ensures { (answered result ≡ outcome
         (fit_rooms stationary.now orbiting.now from visited.now tol
         (length vectors.old) (length sources.old))
         (fit_count stationary.now orbiting.now from visited.now tol))
@@ -130,7 +130,7 @@ pub fn answer(
     let no = rooms(3 * n, vectors.len(), n, sources.len());
     if no.passed() {
         write_vectors(stationary, orbiting, from, visited, tol, vectors, sources);
-        return Count::Is(n);
+        return Ok(n);
     }
-    Count::Refused(no)
+    Err(no)
 }

@@ -15,7 +15,7 @@ use Rattle.scalar.specs.Float.{f0}
 use Rattle.refusals.specs.Answers.{outcome}
 use Rattle.refusals.specs.Refusals.{refused_number, passed, unless, first}
 use Rattle.refusals.specs.Rows.{of_points3, of_points4, of_ring}
-use Rattle.refusals.specs.declared.Refusal.{Refusal}
+use Rattle.refusals.specs.Refusals.{Told}
 use Rattle.segments.specs.Calls.{orientation_call, on_segment_call, intersect_call}
 use Rattle.simple_polygon.specs.Calls.{is_simple_call}
 use Rattle.signed_area.specs.Area.{area2_of}
@@ -36,8 +36,8 @@ use Rattle.whole_engine.proofs.Standing.{same_bounds, stands, same_length, same_
 use Rattle.whole_engine.proofs.Within.{within_at}
 
 -- the same refusal, and the same answer where there is none
-alike : {A : Type 0} (r s : Refusal) (a b : A) → r ≡ s → (passed s ≡ true → a ≡ b) → outcome r a ≡ outcome s b
-alike {A} r s a b e h = ap (λ (t : Refusal). outcome t a) e ∙ go (passed s) refl
+alike : {A : Type 0} (r s : Told) (a b : A) → r ≡ s → (passed s ≡ true → a ≡ b) → outcome r a ≡ outcome s b
+alike {A} r s a b e h = ap (λ (t : Told). outcome t a) e ∙ go (passed s) refl
   where
     go : (p : Bool) → passed s ≡ p → outcome s a ≡ outcome s b
     go true q = rw (h q)
@@ -158,7 +158,7 @@ module _ (r : List Float) (zs : List ℤ) (D : Drawn r zs) where
 
   pub area_agrees : SameNumber (area2_call r) (whole_area2_call zs)
   area_agrees =
-      subst (λ (s : Refusal). SameNumber (outcome s (area2_of r)) (whole_area2_call zs)) (sym same_row)
+      subst (λ (s : Told). SameNumber (outcome s (area2_of r)) (whole_area2_call zs)) (sym same_row)
       (go (passed (of_whole_ring zs)) refl)
     where
       go : (p : Bool) → passed (of_whole_ring zs) ≡ p → SameNumber (outcome (of_whole_ring zs) (area2_of r)) (whole_area2_call zs)

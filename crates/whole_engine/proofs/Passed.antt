@@ -9,7 +9,7 @@ use lib.Dec.{lit<}
 use lib.IntN.{ℤ}
 use Rattle.refusals.specs.Refusals.{refused_number, passed, unless}
 use Rattle.refusals.specs.Lists.{list_fault}
-use Rattle.refusals.specs.declared.Refusal.{Refusal}
+use Rattle.refusals.specs.Refusals.{Told}
 use Rattle.refusals.proofs.Sized.{fine}
 use Rattle.shifted.specs.Shifted.{spot_of, Small}
 use Rattle.shifted.specs.declared.Spot.{Spot}
@@ -17,7 +17,7 @@ use Rattle.whole_rules.specs.Segments.{whole_turn, whole_on_segment, whole_inter
 use Rattle.whole_engine.specs.Rows.{all_in_bounds, wrong_whole, whole_extent, of_whole_ring}
 use Rattle.whole_engine.proofs.Within.{small_in}
 
-module _ (zs : List ℤ) {n : Refusal} {p : Bool} where
+module _ (zs : List ℤ) {n : Told} {p : Bool} where
   pub all_within : n ≡ wrong_whole zs → p ≡ passed n → p ≡ true → all_in_bounds zs ≡ true
   all_within e h t = go (all_in_bounds zs) refl
     where

@@ -14,7 +14,7 @@ use lib.Ieee.{Float}
 use Rattle.plane.specs.declared.Point.{Point}
 use Rattle.refusals.specs.Answers.{Outcome, answers, refuses, outcome}
 use Rattle.refusals.specs.Refusals.{passed}
-use Rattle.refusals.specs.declared.Refusal.{Refusal}
+use Rattle.refusals.specs.Refusals.{Told}
 use Rattle.ring.specs.Ring.{next_of}
 use Rattle.segments.specs.Calls.{intersect_call}
 use Rattle.simple_polygon.specs.Calls.{is_simple_call}
@@ -34,7 +34,7 @@ use Rattle.whole_plane.proofs.Meeting.{intersect_exactly}
 use Rattle.whole_plane.proofs.Simple.{simple_exactly}
 
 -- where a call answers w, its tests pass and w is its value
-answered : {A : Type 0} (r : Refusal) (v w : A) → outcome r v ≡ answers w → (passed r ≡ true) × (v ≡ w)
+answered : {A : Type 0} (r : Told) (v w : A) → outcome r v ≡ answers w → (passed r ≡ true) × (v ≡ w)
 answered {A} r v w = go (passed r)
   where
     go : (p : Bool) → cond p (answers v) (refuses r) ≡ answers w → (p ≡ true) × (v ≡ w)

@@ -11,7 +11,7 @@ use borrow.Author.Tests.{le-leb, leb-true, eqb-true}
 use Rattle.refusals.specs.Refusals.{refused_room, refused_wkb, passed, first}
 use Rattle.refusals.specs.Rings.{within}
 use Rattle.refusals.specs.Screens.{short_room}
-use Rattle.refusals.specs.declared.Refusal.{Refusal}
+use Rattle.refusals.specs.Refusals.{Told}
 use Rattle.refusals.proofs.First.{first_assoc}
 use Rattle.refusals.proofs.Sized.{row_parts, holds}
 use Rattle.refusals.proofs.Counts.{is_within}
@@ -27,10 +27,10 @@ pub record Headed (f : List ℕ) : Type 0 where
   pub whole : length f ≡ head_bytes + point_bytes * code_in f points_at
 
 module _ (f : List ℕ) where
-  abbrev points : Refusal
+  abbrev points : Told
   points = wkb_fault (within points_least points_most (code_in f points_at)) points_at
 
-  abbrev size : Refusal
+  abbrev size : Told
   size = wkb_fault (eqb (length f) (head_bytes + point_bytes * code_in f points_at)) 0
 
   pub headed : passed (head_check f) ≡ true → Headed f
@@ -49,7 +49,7 @@ module _ (f : List ℕ) where
       record { least = w.0; most = w.1; whole = eqb-true (length f) (head_bytes + point_bytes * code_in f points_at) (holds (eqb (length f) (head_bytes + point_bytes * code_in f points_at)) refused_wkb 0 refl e.1) }
 
   -- the coordinates, and the closing point
-  abbrev pub rest : Refusal
+  abbrev pub rest : Told
   rest = first (numbers_check (order_in f) (2 * code_in f points_at) head_bytes (drop head_bytes f)) (wkb_fault (closes f) (closing_at f))
 
   pub check_is : wkb_check f ≡ first (head_check f) rest
@@ -62,7 +62,7 @@ two_tests true b at = refl
 two_tests false b at = refl
 
 -- the tests of the fields, put together
-pub head_is : (f : List ℕ) {order kind rings number whole : Refusal} → head_bytes ≤ length f
+pub head_is : (f : List ℕ) {order kind rings number whole : Told} → head_bytes ≤ length f
     → order ≡ wkb_fault (value_ok 0 (get_or f 0 0)) 0 → kind ≡ wkb_fault (value_ok 1 (code_in f type_at)) type_at
     → rings ≡ wkb_fault (value_ok 2 (code_in f rings_at)) rings_at → number ≡ wkb_fault (value_ok 3 (code_in f points_at)) points_at
     → whole ≡ wkb_fault (eqb (length f) (head_bytes + point_bytes * code_in f points_at)) 0

@@ -1,10 +1,11 @@
 // The public call: a ring's drawing in well-known binary.
+#![tactic(auto, using(refusals::proofs::Tests::refused))]
+
 ghost use Rattle.std.specs.Prelude.{◌≡◌, length};
-ghost use Rattle.refusals.specs.Answers.{counted};
+ghost use Rattle.refusals.specs.Answers.{answered};
 ghost use Rattle.wkb_layout.specs.Writer.{write_wkb_refusal, write_wkb_call, write_wkb_room};
 
 use crate::store::put_drawing;
-use refusals::answer::Count;
 use refusals::screen::short;
 use refusals::{Refusal, row};
 use wkb_layout::{HEAD_BYTES, POINT_BYTES};
@@ -22,14 +23,10 @@ fn refusal(ring: &[f64], size: usize) -> Refusal
 
 // Writes the drawing of a ring at the front of the room, little-endian and closed by its first vertex, and answers how many bytes it has:
 // refusal 1, 8, 9, 2 or 4 where a test fails, and then the room is unchanged.
-pub fn write_wkb(ring: &[f64], room: &mut [u8]) -> Count
-    ensures result_value { counted result ≡ write_wkb_call ring.now (length room.old) }
+pub fn write_wkb(ring: &[f64], room: &mut [u8]) -> Result<usize, Refusal>
+    ensures result_value { answered result ≡ write_wkb_call ring.now (length room.old) }
     ensures room_after { room.new ≡ write_wkb_room ring.now room.old }
 {
-    let no = refusal(ring, room.len());
-    if no.passed() {
-        Count::Is(put_drawing(ring, room))
-    } else {
-        Count::Refused(no)
-    }
+    refusal(ring, room.len())?;
+    Ok(put_drawing(ring, room))
 }

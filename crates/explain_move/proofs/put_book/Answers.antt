@@ -1,13 +1,13 @@
 -- `explain_move::put_book` meets its contract: the two rings that the reader hands out, or its refusal. Assumes nothing.
 use Rattle.std.proofs.Common.{ℕ, List, Float, arith}
-use Rattle.refusals.specs.declared.Refusal.{Refusal}
+use Rattle.refusals.specs.Refusals.{Told}
 use Rattle.lines.specs.Lines.{number_line}
 use Rattle.print.proofs.Puts.{reads}
 use Rattle.pair_input.proofs.Rings.{pair_read, fault_read, pair_said, fault_said}
 use Rattle.explain_move.specs.Said.{explained_text, explained_book_text}
 use Rattle.explain_move.proofs.put_book.Goals as goal
 
-abbrev fault : Refusal → List ℕ
+abbrev fault : Told → List ℕ
 fault no_one = number_line no_one.number
 
 pub put_rings-requires-clause-n_le_vertices_most : goal.put_rings-requires-clause-n_le_vertices_most

@@ -8,13 +8,13 @@ use lib.Ieee.{Float}
 use Rattle.ring.specs.Ring.{count}
 use Rattle.refusals.specs.Refusals.{passed}
 use Rattle.refusals.specs.Rows.{of_two_polygons}
-use Rattle.refusals.specs.declared.Refusal.{Refusal}
+use Rattle.refusals.specs.Refusals.{Told}
 use Rattle.refusals.proofs.Calls.{goes, stops}
 use Rattle.refusals.proofs.Sized.{two_polygons}
 use Rattle.start_position.proofs.calls.find_start_position.Goals as goal
 
 -- polygons that are not refused have vertices
-peopled : (st orb : List Float) {n : Refusal} {p : Bool} → n ≡ of_two_polygons st orb → p ≡ passed n → p ≡ true → (0 < count st) × (0 < count orb)
+peopled : (st orb : List Float) {n : Told} {p : Bool} → n ≡ of_two_polygons st orb → p ≡ passed n → p ≡ true → (0 < count st) × (0 < count orb)
 peopled st orb e h t =
     let f = two_polygons st orb (rw (← e, ← h) t) in
     (omega (arith, f.0.least), omega (arith, f.1.least))
