@@ -1,6 +1,5 @@
 -- The line that is printed, as bytes. Definitions only.
-use Rattle.std.specs.Prelude.{ℕ, List, [], ◌∷◌, ◌++◌}
-use Rattle.std.proofs.Math.Option.{Option, none, some}
+use Rattle.std.specs.Prelude.{ℕ, List, [], ◌∷◌, ◌++◌, Option, None, Some}
 use Rattle.std.specs.Float.{binary64}
 use Rattle.std.specs.Float.Ieee.{to_bits}
 use Rattle.print.specs.Digits.{decimal, hex}
@@ -26,8 +25,8 @@ clear_line g = (99 ∷ 108 ∷ 101 ∷ 97 ∷ 114 ∷ 32 ∷ []) ++ (decimal g +
 
 -- a hit, or why there is none
 abbrev pub found_line : Option Values → Account → List ℕ
-found_line none a = clear_line a.ground
-found_line (some v) a = hit_line v a.others
+found_line None a = clear_line a.ground
+found_line (Some v) a = hit_line v a.others
 
 -- what the call answers
 abbrev pub outcome_line : Outcome Account → List ℕ

@@ -54,10 +54,10 @@ fn told(answer: Count, header: &[u8; 96]) -> bool {
             n as u64 == word(header, 48)
         }
         Err(no) => {
-            if no.number as u64 != word(header, 40) {
+            if no.number() as u64 != word(header, 40) {
                 return false;
             }
-            no.place == word(header, 56)
+            no.place().unwrap_or(0) == word(header, 56)
         }
     }
 }

@@ -35,10 +35,10 @@ fn told(answer: Count, header: &[u8; 56]) -> bool {
             n as u64 == word(header, 24)
         }
         Err(no) => {
-            if no.number as u64 != word(header, 16) {
+            if no.number() as u64 != word(header, 16) {
                 return false;
             }
-            no.place == 0
+            no.place().unwrap_or(0) == 0
         }
     }
 }

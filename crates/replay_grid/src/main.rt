@@ -68,10 +68,10 @@ fn told(answer: Count, header: &[u8; 48]) -> bool {
             points as u64 == word(header, 40)
         }
         Err(no) => {
-            if no.number as u64 != word(header, 24) {
+            if no.number() as u64 != word(header, 24) {
                 return false;
             }
-            no.place == word(header, 32)
+            no.place().unwrap_or(0) == word(header, 32)
         }
     }
 }

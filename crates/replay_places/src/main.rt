@@ -3,7 +3,8 @@
 
 ghost use Rattle.std.specs.Prelude.{◌≡◌, ◌≤◌, length};
 
-use inspection::answer::Inspected;
+use inspection::Shift;
+use refusals::Refusal;
 use replay::{
     Verdict, after, begin, list_length, load_words, name_first, read, read_full, report,
     same_words, word,
@@ -24,23 +25,23 @@ fn words<R: Read>(input: &mut R, n: usize) -> [u64; 80]
 }
 
 // Whether an answer is what the record says: the refusal's number, the places, the following start.
-fn told(answer: Inspected, header: &[u8; 56]) -> bool {
+fn told(answer: Result<Shift, Refusal>, header: &[u8; 56]) -> bool {
     match answer {
-        Inspected::Is { places, following } => {
+        Ok(shift) => {
             if word(header, 32) != 0 {
                 return false;
             }
-            if places as u64 != word(header, 40) {
+            if shift.places as u64 != word(header, 40) {
                 return false;
             }
-            following == word(header, 48)
+            shift.following == word(header, 48)
         }
-        Inspected::Refused(no) => no.number as u64 == word(header, 32),
+        Err(refusal) => refusal.number() as u64 == word(header, 32),
     }
 }
 
 // The shift of a record, with the first rn words of the room.
-fn inspect(header: &[u8; 56], room: &mut [u64], rn: usize) -> Inspected
+fn inspect(header: &[u8; 56], room: &mut [u64], rn: usize) -> Result<Shift, Refusal>
     requires { rn ≤ length room.old }
 {
     let n = word(header, 0);
