@@ -6,10 +6,10 @@ use Rattle.print.proofs.Puts.{nothing, byte_more, byte_all}
 use Rattle.print.proofs.put_text.Goals as goal
 
 pub loop-i-init : goal.loop-i-init
-loop-i-init c = ((omega arith), refl, nothing c.args.room.now c.args.at)
+loop-i-init c = (refl, nothing c.args.room.now c.args.at)
 
 pub loop-i-preserved : goal.loop-i-preserved
-loop-i-preserved c = let a = c.args in ((omega arith), simp length-set c.loop-i.invariant.1, byte_more a.room.now c.loop-i.room a.text.now a.at c.loop-i.i (omega arith) c.loop-i-test.true c.loop-i.invariant.2)
+loop-i-preserved c = let a = c.args in (simp length-set c.loop-i.invariant.0, byte_more a.room.now c.loop-i.room a.text.now a.at c.loop-i.i (omega arith) c.loop-i-test.true c.loop-i.invariant.1)
 
 pub returns : goal.returns
-returns c = let a = c.args in record { ends = refl; holds = byte_all a.room.now c.loop-i.room a.text.now a.at c.loop-i.i c.loop-i.invariant.0 c.loop-i-test.false c.loop-i.invariant.2 }
+returns c = let a = c.args in record { ends = refl; holds = byte_all a.room.now c.loop-i.room a.text.now a.at c.loop-i.i c.loop-i.auto.i-end c.loop-i-test.false c.loop-i.invariant.1 }
