@@ -185,19 +185,13 @@ fn row(
 {
     let mut best = before;
     let mut near = least(before);
-    let mut e = from;
-    while e < to {
+    for e in from..to {
         let ray = edge_ray(origin, sweep.dir, edges, e, sweep.tolerance);
         if let Ray::At(d) = ray {
             if counts_below(d, sweep, near) {
-                best = pair(Ray::At(d), sweep, kind, v, e);
+                best = pair(ray, sweep, kind, v, e);
                 near = d;
-                e += 1;
-            } else {
-                e += 1;
             }
-        } else {
-            e += 1;
         }
     }
     best
@@ -221,12 +215,10 @@ fn chained_row(
     let mut e = 0;
     while e < m {
         let to = chain_end(e, m);
-        if is_passed(table, e / 8, origin, sweep.dir) {
-            e = to;
-        } else {
+        if !is_passed(table, e / 8, origin, sweep.dir) {
             best = row(origin, edges, sweep, kind, v, best, e, to);
-            e = to;
         }
+        e = to;
     }
     best
 }

@@ -4,16 +4,15 @@ use Prim.Native.Nat.{ℕ, zero, suc, ◌+◌, ◌*◌, ◌-◌, ◌/◌, ◌%◌
 use native.Mathlib.Omega.{arith}
 use native.Mathlib.Nat.{mod-eq_of_lt, mod-lt, mul_comm, div-add-mod', div-lt_iff_lt-mul}
 use mathlib.Core.Path.{◌≡◌, refl, sym, ap, ◌∙◌}
-use mathlib.Core.Bool.{Bool, true, false}
-use mathlib.Core.List.{List, []}
+use mathlib.Core.Bool.{Bool, false}
+use mathlib.Core.List.{List}
 use lib.Ieee.{Float}
 use Rattle.ring.specs.Ring.{count}
-use Rattle.pairs.specs.Pairs.{Sides, pair_count}
-use Rattle.pairs.proofs.Numbers.{some, at_first, at_later, div_of, mod_of}
+use Rattle.pairs.specs.Pairs.{Sides}
+use Rattle.pairs.proofs.Numbers.{at_first, at_later, div_of, mod_of}
 use Rattle.contacts.specs.Touching.{edges_of, touches_by, touching}
 use Rattle.contacts.specs.Contacts.{picks, touches_at, contacts_from, first_contact}
 use Rattle.contacts.specs.Rows.{FirstFrom, on_edge, along_edge, on_edge_at, along_edge_at}
-use Rattle.contacts.specs.declared.Next.{Next}
 use Rattle.contacts.specs.declared.Next.TheVariants.{Nothing, At}
 use Rattle.contacts.proofs.Picks.{picks_on, picks_off, picks_end}
 

@@ -174,13 +174,10 @@ fn first_hit(origin: Point, edges: &[f64], sweep: Sweep, from: usize, to: usize)
     requires { (from ≤ to) × (to ≤ count edges.now) }
     ensures { MetFirst edges.now sweep.dir sweep.tolerance origin from to result }
 {
-    let mut e = from;
-    while e < to {
+    for e in from..to {
         let ray = edge_ray(origin, sweep.dir, edges, e, sweep.tolerance);
         if let Ray::At(_) = ray {
             return Met { edge: e, ray };
-        } else {
-            e += 1;
         }
     }
     Met {
@@ -203,15 +200,13 @@ fn next_hit(origin: Point, edges: &[f64], table: &[f64], sweep: Sweep, from: usi
     let mut e = from;
     while e < n {
         let to = chain_end(e, n);
-        if is_passed(table, e / 8, origin, sweep.dir) {
-            e = to;
-        } else {
+        if !is_passed(table, e / 8, origin, sweep.dir) {
             let met = first_hit(origin, edges, sweep, e, to);
             if met.edge < to {
                 return met;
             }
-            e = to;
         }
+        e = to;
     }
     Met {
         edge: n,

@@ -18,16 +18,10 @@ fn count_staying(ring: &[f64], end: usize) -> usize
 {
     let n = ring.len() / 2;
     let mut staying = 0;
-    let mut i = 0;
-    while i < n {
+    for i in 0..n {
         match fate_at(ring, end, i) {
-            Fate::Stays => {
-                staying += 1;
-                i += 1;
-            }
-            Fate::Goes(_) => {
-                i += 1;
-            }
+            Fate::Stays => staying += 1,
+            Fate::Goes(_) => {}
         }
     }
     staying
@@ -55,19 +49,16 @@ fn write_mended(ring: &[f64], end: usize, room: &mut [f64], dropped: &mut [u64],
     let n = ring.len() / 2;
     let mut staying = 0;
     let mut gone = 0;
-    let mut i = 0;
-    while i < n {
+    for i in 0..n {
         match fate_at(ring, end, i) {
             Fate::Stays => {
                 put(room, staying, point_at(ring, i));
                 staying += 1;
-                i += 1;
             }
             Fate::Goes(why) => {
                 put_why(dropped, gone, i, why);
                 put(points, gone, point_at(ring, i));
                 gone += 1;
-                i += 1;
             }
         }
     }

@@ -5,7 +5,7 @@ use Rattle.mending.specs.Mending.{goes_at, why_of}
 use Rattle.mending.proofs.Fates.{is_going, is_staying}
 use Rattle.mending.proofs.Writing.{start, ring_fits, whys_fit, spots_fit, stay, go, done}
 use Rattle.mending.proofs.write.write_mended.Goals as goal
-use Rattle.mending.proofs.write.write_mended.Goals.{In-Goes, In-Stays}
+use Rattle.mending.proofs.write.write_mended.Goals.{In-Goes, In-Stays, in-Stays, in-Goes}
 use Rattle.mending.proofs.write.write_mended.Lts.View.{up-In-Goes, up-In-Stays}
 
 -- vertex i stays
@@ -29,10 +29,6 @@ pub put-requires : goal.put-requires
 put-requires c =
     ring_fits _ _ _ _ c.requires.ring_in_bounds c.requires.ring_in_bounds_2 c.requires.ring_in_bounds_3 c.loop-i-test.true c.loop-i.invariant (stayed (up-In-Stays _ _ _ _ _ _ c.before.before.before))
 
-pub loop-i-preserved-in-Stays : goal.loop-i-preserved-in-Stays
-loop-i-preserved-in-Stays c =
-    stay _ _ _ _ c.requires.ring_in_bounds c.requires.ring_in_bounds_2 c.requires.ring_in_bounds_3 c.loop-i-test.true c.loop-i.invariant (stayed (up-In-Stays _ _ _ _ _ _ c.before.before.before.before.before.before)) c.point_at.ensures c.put.ensures
-
 pub put_why-requires : goal.put_why-requires
 put_why-requires c =
     whys_fit _ _ _ _ c.requires.ring_in_bounds c.requires.ring_in_bounds_2 c.requires.ring_in_bounds_3 c.loop-i-test.true c.loop-i.invariant (went (up-In-Goes _ _ _ _ _ _ c.before.before)).0
@@ -43,8 +39,16 @@ put-requires-in-Goes c =
 
 pub loop-i-preserved : goal.loop-i-preserved
 loop-i-preserved c =
-    let w = went (up-In-Goes _ _ _ _ _ _ c.before.before.before.before.before.before.before.before.before.before) in
-    go _ _ _ _ c.requires.ring_in_bounds c.requires.ring_in_bounds_2 c.requires.ring_in_bounds_3 c.loop-i-test.true c.loop-i.invariant w.0 w.1 c.point_at-in-Goes.ensures c.put_why.ensures c.put-in-Goes.ensures
+    let r = c.requires in
+    elim c.match-fate_at.branch [
+      | in-Stays w ↦
+          rw (w.room-is, w.dropped-is, w.points-is, w.staying-is, w.gone-is)
+          (stay _ _ _ _ r.ring_in_bounds r.ring_in_bounds_2 r.ring_in_bounds_3 c.loop-i-test.true c.loop-i.invariant (is_staying _ _ (sym c.fate_at.ensures ∙ w.in-Stays.is)) w.point_at.ensures w.put.ensures)
+      | in-Goes w ↦
+          let g = is_going _ _ (sym c.fate_at.ensures ∙ w.in-Goes.is) in
+          rw (w.room-is, w.dropped-is, w.points-is, w.staying-is, w.gone-is)
+          (go _ _ _ _ r.ring_in_bounds r.ring_in_bounds_2 r.ring_in_bounds_3 c.loop-i-test.true c.loop-i.invariant g.0 g.1 w.point_at-in-Goes.ensures w.put_why.ensures w.put-in-Goes.ensures)
+    ]
 
 pub shape_of-room : goal.shape_of-room
 shape_of-room c = c.loop-i.invariant.ring.same
