@@ -34,10 +34,10 @@ module _ (c : In-loop-i) where
   n = get_or ns l.loop-i.i 0
 
   sized : (vertices_least ≤ n) × (n ≤ vertices_most) × (sized_all (drop (l.loop-i.i + 1) ns) ≡ true)
-  sized = sized_here ns l.loop-i.i c.loop-i-test.true l.loop-i.invariant.3
+  sized = sized_here ns l.loop-i.i c.loop-i-test.true l.loop-i.invariant.2
 
   left : l.loop-i.at + 2 * n + 2 * total (drop (l.loop-i.i + 1) ns) ≡ length xs
-  left = omega (arith, total_on ns l.loop-i.i c.loop-i-test.true, l.loop-i.invariant.2)
+  left = omega (arith, total_on ns l.loop-i.i c.loop-i-test.true, l.loop-i.invariant.1)
 
   inside : (n ≤ vertices_most) × (l.loop-i.at + 2 * n ≤ length xs)
   inside = (sized.1, (omega (arith, left)))
@@ -45,7 +45,7 @@ module _ (c : In-loop-i) where
 pub loop-i-init : goal.loop-i-init
 loop-i-init c =
     let h = c.requires.counts_value in
-    ((omega arith), refl, (omega (arith, h.1)), h.0, refl)
+    (refl, (omega (arith, h.1)), h.0, refl)
 
 pub overflow_cast-n : goal.overflow_cast-n
 overflow_cast-n c = omega (arith, c.shared_slice_known-in-loop-i-1.given c.loop-i.i)
@@ -75,7 +75,7 @@ pub put_least-requires : goal.put_least-requires
 put_least-requires c =
     let here = up-In-loop-i _ _ _ _ _ _ c.before.before.before.before in
     let t = c.requires.counts_value.2 in
-    let z = part_length (xs here) (l here).loop-i.at (n here) t (inside here).1 in record { lent = part_lent (xs here) (l here).loop-i.at (n here) t (inside here).1 (inside here).0; ring_nonzero = ((omega (arith, (sized here).0)), (omega (arith, (inside here).1, c.requires.xs_in_bounds, (l here).loop-i.invariant.1))) }
+    let z = part_length (xs here) (l here).loop-i.at (n here) t (inside here).1 in record { lent = part_lent (xs here) (l here).loop-i.at (n here) t (inside here).1 (inside here).0; ring_nonzero = ((omega (arith, (sized here).0)), (omega (arith, (inside here).1, c.requires.xs_in_bounds, (l here).loop-i.invariant.0))) }
 
 pub loop-i-preserved : goal.loop-i-preserved
 loop-i-preserved c =
@@ -87,11 +87,10 @@ loop-i-preserved c =
     let e : c.put_least.new.room ≡ sets room (coordinate_bytes * at) u =
     c.put_least.ensures
     ∙ ap (λ (p : List Float). sets room (coordinate_bytes * at) (coord_bytes (flat (least_reading (ring_of p))))) (part_is (xs here) at (n here) (l here).requires.counts_value.2 (inside here).1) in (
-      (omega arith),
-      ap length e ∙ length-sets room (coordinate_bytes * at) u ∙ (l here).loop-i.invariant.1,
+      ap length e ∙ length-sets room (coordinate_bytes * at) u ∙ (l here).loop-i.invariant.0,
       left here,
       (sized here).2,
-      (l here).loop-i.invariant.4
+      (l here).loop-i.invariant.3
           ∙ rings_on room (ns here) (xs here) at i c.loop-i-test.true (omega (arith, (sized here).0)) (inside here).1
           ∙ ap (λ (r : List ℕ). sets r (coordinate_bytes * (at + 2 * n here)) (stored (drop (i + 1) (ns here)) (drop (at + 2 * n here) (xs here)))) (sym e),
     )
@@ -99,4 +98,4 @@ loop-i-preserved c =
 pub returns : goal.returns
 returns c =
     let a = c.args in
-    sym (c.loop-i.invariant.4 ∙ rings_end c.loop-i.room a.counts.now a.xs.now c.loop-i.at c.loop-i.i c.loop-i-test.false)
+    sym (c.loop-i.invariant.3 ∙ rings_end c.loop-i.room a.counts.now a.xs.now c.loop-i.at c.loop-i.i c.loop-i-test.false)
