@@ -109,7 +109,8 @@ overflow_add-before c = omega (arith, is_n c, small c)
 
 pub loop-i-preserved : goal.loop-i-preserved
 loop-i-preserved c =
-    let here = up-After-is_right _ _ _ _ _ c.before.before.before.before.before in ((omega (arith, is_n c, small c, (l here).loop-i.invariant.0)),
+    let here = up-After-is_right _ _ _ _ _ c.before.before.before.before.before in (
+      (omega (arith, is_n c, small c, (l here).loop-i.invariant.0)),
       (l here).loop-i.invariant.1
           ∙ entry_good (f here) (from here) (k here) (i here) (before here) (turn here) (offset_right (up-Else-not-is_right _ _ _ _ _ c.before.before.before.before)) (right c)
           ∙ ap (λ (j : ℕ). entries_check (k here - (i here + 1)) (from here + entry_bytes * (i here + 1)) (before here + vertex_bytes * j) (drop (from here + entry_bytes * (i here + 1)) (f here))) (sym (is_n c)),
@@ -124,6 +125,6 @@ returns-then-before-from c =
 
 pub returns : goal.returns
 returns c =
-    let here = up-After-loop-i _ _ _ _ _ c.before.before.before in
+    let here = up-After-loop-i _ _ _ _ _ c.before.before in
     let s = c.args in
-    c.none.ensures ∙ list_fine s.f.now s.from s.k (passed here) (omega (arith, c.if-before-from.false, summed here))
+    list_fine s.f.now s.from s.k (passed here) (omega (arith, c.if-before-from.false, summed here))

@@ -73,7 +73,8 @@ loop-i-init c =
     let p = list_passed f from k c.requires.list_check.0 in
     let z = fields_start f field_bytes from k in
     let t : total (counts_in k (drop from f)) ≡ total (counts_in (k - 0) (drop (from + entry_bytes * 0) f)) = ap total z in
-    let m : 2 * total (counts_in (k - 0) (drop (from + entry_bytes * 0) f)) ≡ from / coordinate_bytes = omega (arith, p.1) in (ap (λ (ns : List ℕ). least_check ns 0 f) z,
+    let m : 2 * total (counts_in (k - 0) (drop (from + entry_bytes * 0) f)) ≡ from / coordinate_bytes = omega (arith, p.1) in (
+      ap (λ (ns : List ℕ). least_check ns 0 f) z,
       (omega (arith, p.1)),
       ap passed (sym (entries_start f from k)) ∙ p.0,
       ap (λ (j : ℕ). passed (coords_check j 0 f)) m ∙ c.requires.list_check.1,
@@ -101,7 +102,8 @@ overflow_add-at c =
 
 pub loop-i-preserved : goal.loop-i-preserved
 loop-i-preserved c =
-    let here = up-After-number4-n _ _ _ _ _ _ c.before.before.before in ((l here).loop-i.invariant.0
+    let here = up-After-number4-n _ _ _ _ _ _ c.before.before.before in (
+      (l here).loop-i.invariant.0
           ∙ least_good (f here) (from here) (k here) (i here) (at here) (turn here) (sym (asked (up-After-is_least_at _ _ _ _ _ _ c.before.before)) ∙ not-false c.is_least_at.result (ap not c.if-not-is_least_at.false))
           ∙ ap (λ (j : ℕ). least_check (rest here) (at here + vertex_bytes * j) (drop (at here + vertex_bytes * j) (f here))) (sym (is_n here)),
       (omega (arith, is_n here, left here)),
@@ -114,5 +116,4 @@ returns c =
     let s = c.args in
     let f = s.f.now in
     let i = c.loop-i.i in
-    c.none.ensures
-    ∙ sym (c.loop-i.invariant.0 ∙ least_end f (counts_in (s.k - i) (drop (s.from + entry_bytes * i) f)) c.loop-i.at (fields_end f field_bytes s.from s.k i c.loop-i-test.false))
+    sym (c.loop-i.invariant.0 ∙ least_end f (counts_in (s.k - i) (drop (s.from + entry_bytes * i) f)) c.loop-i.at (fields_end f field_bytes s.from s.k i c.loop-i-test.false))

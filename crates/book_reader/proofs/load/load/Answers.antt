@@ -3,20 +3,19 @@
 use Prim.Native.Nat.{ℕ, ◌+◌, ◌*◌, ◌-◌}
 use mathlib.Core.Path.{refl, sym, ap, ◌∙◌}
 use mathlib.Core.List.{List, map}
-use native.Mathlib.Omega.{arith}
 use lib.ListN.{drop, set, length-set}
 use lib.Seq.{sets}
 use lib.Ieee.{binary64, of_bits}
 use Rattle.refusals.specs.Refusals.{passed}
 use Rattle.book_layout.specs.Layout.{coordinate_bytes, coordinate_bits, coords_in}
-use Rattle.book_layout.specs.Faults.{coords_check}
 use Rattle.book_reader.proofs.Coords.{coords_start, coord_held, load_start, load_on, load_end}
 use Rattle.book_reader.proofs.Fields.{no_nan}
 use Rattle.book_reader.proofs.load.load.Goals as goal
 
 pub loop-j-init : goal.loop-j-init
 loop-j-init c =
-    let f = c.args.f.now in (refl,
+    let f = c.args.f.now in (
+      refl,
       ap passed (sym (coords_start f c.args.at c.args.m)) ∙ c.requires.coords_check,
       ap (λ (l : List ℕ). sets c.args.room.now 0 (map (of_bits binary64) l)) (load_start f c.args.at c.args.m),
     )
@@ -32,7 +31,8 @@ loop-j-preserved c =
     let f = a.f.now in
     let j = c.loop-j.j in
     let room = c.loop-j.room in
-    let t = c.loop-j-test.true in (length-set room j (of_bits binary64 c.number8-b.result) ∙ c.loop-j.invariant.0,
+    let t = c.loop-j-test.true in (
+      length-set room j (of_bits binary64 c.number8-b.result) ∙ c.loop-j.invariant.0,
       (coord_held f a.at a.m j t c.loop-j.invariant.1).1,
       c.loop-j.invariant.2
           ∙ load_on f a.at a.m j t room

@@ -2,7 +2,6 @@
 -- for. Assumes nothing.
 use Prim.Native.Nat.{ℕ, ◌+◌, ◌*◌, ◌-◌}
 use mathlib.Core.Path.{refl, sym, ap, ◌∙◌}
-use native.Mathlib.Omega.{arith}
 use lib.ListN.{drop, set, length-set}
 use lib.Seq.{sets}
 use Rattle.book_layout.specs.Layout.{entry_bytes, fields_in}
@@ -19,7 +18,8 @@ loop-i-preserved c =
     let a = c.args in
     let f = a.f.now in
     let i = c.loop-i.i in
-    let room = c.loop-i.room in (length-set room i c.number4.result ∙ c.loop-i.invariant.0,
+    let room = c.loop-i.room in (
+      length-set room i c.number4.result ∙ c.loop-i.invariant.0,
       c.loop-i.invariant.1
           ∙ fields_on f a.p a.from a.k i c.loop-i-test.true room
           ∙ ap (λ (b : ℕ). sets (set room i b) (i + 1) (fields_in a.p (a.k - (i + 1)) (drop (a.from + entry_bytes * (i + 1)) f))) (sym c.number4.ensures.0),
