@@ -41,4 +41,4 @@ loop-j-preserved c =
 pub returns : goal.returns
 returns c =
     let a = c.args in
-    c.none.ensures ∙ sym (c.loop-j.invariant ∙ coords_end a.f.now 0 a.m c.loop-j.j c.loop-j-test.false)
+    sym (c.loop-j.invariant ∙ coords_end a.f.now 0 a.m c.loop-j.j c.loop-j-test.false)

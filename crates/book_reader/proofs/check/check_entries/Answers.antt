@@ -125,6 +125,6 @@ returns-then-before-from c =
 
 pub returns : goal.returns
 returns c =
-    let here = up-After-loop-i _ _ _ _ _ c.before.before.before in
+    let here = up-After-loop-i _ _ _ _ _ c.before.before in
     let s = c.args in
-    c.none.ensures ∙ list_fine s.f.now s.from s.k (passed here) (omega (arith, c.if-before-from.false, summed here))
+    list_fine s.f.now s.from s.k (passed here) (omega (arith, c.if-before-from.false, summed here))

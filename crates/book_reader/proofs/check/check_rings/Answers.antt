@@ -116,5 +116,4 @@ returns c =
     let s = c.args in
     let f = s.f.now in
     let i = c.loop-i.i in
-    c.none.ensures
-    ∙ sym (c.loop-i.invariant.0 ∙ least_end f (counts_in (s.k - i) (drop (s.from + entry_bytes * i) f)) c.loop-i.at (fields_end f field_bytes s.from s.k i c.loop-i-test.false))
+    sym (c.loop-i.invariant.0 ∙ least_end f (counts_in (s.k - i) (drop (s.from + entry_bytes * i) f)) c.loop-i.at (fields_end f field_bytes s.from s.k i c.loop-i-test.false))
