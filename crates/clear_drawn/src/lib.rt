@@ -33,8 +33,8 @@ pub fn lift_drawn(list: &[f64], units: u32, room: &mut [u64])
     requires list_in_bounds { length list.now ≤ length room.old }
     ensures { room.new ≡ laid (ring_up units list.now) room.old }
 {
-    for i in 0..list.len() {
-        room[i] = up(on_grid(list[i], units));
+    for (i, &x) in list.iter().enumerate() {
+        room[i] = up(on_grid(x, units));
     }
 }
 

@@ -55,10 +55,9 @@ fn first_leg(st: &[u64], orbiting: &[i32], path: &[i32]) -> PathGround
         (length path.now / 2) }
 {
     let n = path.len() / 2;
-    let mut i = 0;
-    while i < n {
+    for i in 0..n {
         match search_leg(st, orbiting, path, i) {
-            Ground::Clear => i += 1,
+            Ground::Clear => {}
             Ground::Edge(edge) => return PathGround::Edge { leg: i, edge },
             Ground::Enclosed => return PathGround::Enclosed(i),
         }

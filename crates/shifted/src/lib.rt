@@ -44,8 +44,8 @@ pub fn lift(list: &[i32], room: &mut [u64])
     requires { length list.now ≤ length room.old }
     ensures { room.new ≡ laid (map up_of list.now) room.old }
 {
-    for i in 0..list.len() {
-        room[i] = up(list[i]);
+    for (i, &x) in list.iter().enumerate() {
+        room[i] = up(x);
     }
 }
 

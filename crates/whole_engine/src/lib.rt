@@ -180,12 +180,11 @@ fn clear_row(list: &[u64], i: usize) -> bool
     for j in i + 1..n {
         let b2 = spot_at(list, next(j, n));
         let d4 = turn(a1, a2, b2);
-        if clear_pair(adjacent(i, j, n), a1, a2, b1, b2, d3, d4) {
-            b1 = b2;
-            d3 = d4;
-        } else {
+        if !clear_pair(adjacent(i, j, n), a1, a2, b1, b2, d3, d4) {
             return false;
         }
+        b1 = b2;
+        d3 = d4;
     }
     true
 }

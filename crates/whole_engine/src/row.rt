@@ -12,12 +12,7 @@ use shifted::is_within;
 fn are_within(list: &[i32]) -> bool
     ensures { result ≡ all_in_bounds list.now }
 {
-    for i in 0..list.len() {
-        if !is_within(list[i]) {
-            return false;
-        }
-    }
-    true
+    list.iter().all(|&x| is_within(x))
 }
 
 // Coordinates, all of them.

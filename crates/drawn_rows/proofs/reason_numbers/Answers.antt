@@ -19,18 +19,18 @@ no : (c : After-first-no)
 no c = c.first-no.ensures ∙ ap₂ first c.floats.ensures c.numbers.ensures
 
 pub returns-then-not-passed : goal.returns-then-not-passed
-returns-then-not-passed c = number_wrong _ _ _ _ _ _ (no (up-After-first-no _ _ _ c.before.before.before)) c.passed.ensures (not-true _ (ap not c.if-not-passed.true))
+returns-then-not-passed c = number_wrong _ _ _ _ _ _ (no (up-After-first-no _ _ _ c.before.before.before)) c.passed.ensures c.if-not-passed.true
 
 pub returns-then-not-are_units : goal.returns-then-not-are_units
 returns-then-not-are_units c =
     c.new.ensures
-    ∙ units_wrong _ _ _ _ _ _ (no (up-After-first-no _ _ _ c.before.before.before.before.before.before)) c.passed.ensures (not-false _ (ap not c.if-not-passed.false))
+    ∙ units_wrong _ _ _ _ _ _ (no (up-After-first-no _ _ _ c.before.before.before.before.before.before)) c.passed.ensures c.if-not-passed.false
     (sym c.are_units.ensures ∙ not-true _ (ap not c.if-not-are_units.true))
 
 pub returns-then-how-gt-HOW_MOST : goal.returns-then-how-gt-HOW_MOST
 returns-then-how-gt-HOW_MOST c =
     c.new-then-how-gt-HOW_MOST.ensures
-    ∙ how_wrong _ _ _ _ _ _ (no (up-After-first-no _ _ _ c.before.before.before.before.before.before.before)) c.passed.ensures (not-false _ (ap not c.if-not-passed.false))
+    ∙ how_wrong _ _ _ _ _ _ (no (up-After-first-no _ _ _ c.before.before.before.before.before.before.before)) c.passed.ensures c.if-not-passed.false
     (sym c.are_units.ensures ∙ not-false _ (ap not c.if-not-are_units.false)) (lt-leb _ _ c.if-how-gt-HOW_MOST.true)
 
 pub fits_grid-requires : goal.fits_grid-requires
@@ -41,5 +41,5 @@ fits_grid-requires c =
 pub returns : goal.returns
 returns c =
     c.unless.ensures ∙ ap (λ b. unless b refused_grid 0) c.fits_grid.ensures
-    ∙ grid_left _ _ _ _ _ _ (no (up-After-first-no _ _ _ c.before.before.before.before.before.before.before.before)) c.passed.ensures (not-false _ (ap not c.if-not-passed.false))
+    ∙ grid_left _ _ _ _ _ _ (no (up-After-first-no _ _ _ c.before.before.before.before.before.before.before.before)) c.passed.ensures c.if-not-passed.false
     (sym c.are_units.ensures ∙ not-false _ (ap not c.if-not-are_units.false)) (le-leb _ _ c.if-how-gt-HOW_MOST.false)

@@ -45,14 +45,14 @@ pub loop-j-preserved : goal.loop-j-preserved
 loop-j-preserved c =
     let at = spot_at c.args.list.now in
     next_edge _ _ _ c.loop-j.invariant c.loop-j-test.true c.spot_at-a1.ensures (c.spot_at-a2.ensures ∙ ap at c.next.ensures.0) (c.spot_at-b2.ensures ∙ ap at c.next-in-loop-j.ensures.0) c.adjacent.ensures
-    c.clear_pair.ensures (small3 (up-After-spot_at-b2 _ _ _ _ _ _ c.before.before.before.before.before)) c.turn-d4.ensures c.if-clear_pair.true
+    c.clear_pair.ensures (small3 (up-After-spot_at-b2 _ _ _ _ _ _ c.before.before.before.before.before)) c.turn-d4.ensures c.if-not-clear_pair.false
 
-pub returns-else-clear_pair : goal.returns-else-clear_pair
-returns-else-clear_pair c =
+pub returns-then-not-clear_pair : goal.returns-then-not-clear_pair
+returns-then-not-clear_pair c =
     let at = spot_at c.args.list.now in
     sym
     (edge_off _ _ _ c.loop-j.invariant c.loop-j-test.true c.spot_at-a1.ensures (c.spot_at-a2.ensures ∙ ap at c.next.ensures.0) (c.spot_at-b2.ensures ∙ ap at c.next-in-loop-j.ensures.0) c.adjacent.ensures
-    c.clear_pair.ensures c.if-clear_pair.false)
+    c.clear_pair.ensures c.if-not-clear_pair.true)
 
 pub returns : goal.returns
 returns c = sym (no_more _ _ _ c.loop-j.invariant c.loop-j-test.false)
