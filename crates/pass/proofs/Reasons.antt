@@ -14,8 +14,7 @@ use Rattle.ring.specs.Moved.{moved_of}
 use Rattle.refusals.specs.declared.answer.Found.{Found}
 use Rattle.refusals.specs.declared.answer.Found.TheVariants as found_is
 use Rattle.vectors.specs.declared.TranslationVector.{TranslationVector}
-use Rattle.choose.specs.declared.Choice.{Choice}
-use Rattle.choose.specs.declared.Choice.TheVariants as choice-is
+use Rattle.std.specs.Prelude.{Option, Some, None}
 use Rattle.pass.specs.Slide.{f1000, closes_of, land_of, slide_of}
 use Rattle.pass.specs.Pass.{Scene, regained, regain_of, interlocked, unstick_of, chosen, pass_at, pass_of}
 use Rattle.pass.specs.declared.Margins.{Margins}
@@ -57,11 +56,11 @@ slides st moved m start path pose v =
     either (lt (smaller_of v.distance f1000) m.smallest) (stops 3 (omega arith) (omega arith))
     (lands m start path pose v.direction _)
 
-chooses : (c : Choice) (s : Scene) (moved path : List Float) (pose : Pose) → Reasoned (chosen c s moved path pose)
+chooses : (c : Option TranslationVector) (s : Scene) (moved path : List Float) (pose : Pose) → Reasoned (chosen c s moved path pose)
 unfolding chosen unstick_of
-chooses choice-is.Nothing s moved path pose =
+chooses None s moved path pose =
     either (ltb 3 (pose.stuck + 1)) (stops 2 (omega arith) (omega arith)) (interlocks _ s.margins pose)
-chooses (choice-is.Vector v) s moved path pose = slides s.stationary moved s.margins s.start path pose v
+chooses (Some v) s moved path pose = slides s.stationary moved s.margins s.start path pose v
 
 passes : (s : Scene) (path : List Float) (pose : Pose) → Reasoned (pass_of s path pose)
 unfolding pass_of pass_at regain_of

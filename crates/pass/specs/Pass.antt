@@ -1,5 +1,5 @@
 -- One pass of the trace, in the order of `trace_nfp_boundary` of `nfp_sliding.rs`. Definitions only.
-use Rattle.std.specs.Prelude.{◌+◌, cond, not, List, ltb, Float}
+use Rattle.std.specs.Prelude.{◌+◌, cond, not, List, ltb, Option, Some, None, Float}
 use Rattle.std.specs.Float.Ieee.{lt}
 use Rattle.plane.specs.Vector.{distance_of}
 use Rattle.plane.specs.declared.Point.{Point}
@@ -18,8 +18,7 @@ use Rattle.pass.specs.declared.Margins.{Margins}
 use Rattle.pass.specs.declared.Pose.{Pose}
 use Rattle.pass.specs.declared.Step.{Step}
 use Rattle.pass.specs.declared.Step.TheVariants.{Stop, Stay, Store}
-use Rattle.choose.specs.declared.Choice.{Choice}
-use Rattle.choose.specs.declared.Choice.TheVariants as choice-is
+use Rattle.vectors.specs.declared.TranslationVector.{TranslationVector}
 
 -- what stays the same from pass to pass: both polygons, counter-clockwise, the margins, the stationary one's centroid, the
 -- start. How many passes there may be is no part of it
@@ -55,9 +54,9 @@ unstick_of st orb m pose =
     cond (ltb 3 (pose.stuck + 1)) (Stop no_vector) (interlocked (interlock_of st orb pose.position m.tolerance) m pose)
 
 -- the slide along the vector chosen
-unfoldable pub chosen : Choice → Scene → List Float → List Float → Pose → Step
-chosen choice-is.Nothing s moved path pose = unstick_of s.stationary s.orbiting s.margins pose
-chosen (choice-is.Vector v) s moved path pose = slide_of s.stationary moved s.margins s.start path pose v
+unfoldable pub chosen : Option TranslationVector → Scene → List Float → List Float → Pose → Step
+chosen None s moved path pose = unstick_of s.stationary s.orbiting s.margins pose
+chosen (Some v) s moved path pose = slide_of s.stationary moved s.margins s.start path pose v
 
 -- the pass of the moved polygon
 unfoldable pub pass_at : Scene → List Float → List Float → Pose → Step

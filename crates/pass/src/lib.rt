@@ -10,7 +10,7 @@ ghost use Rattle.pairs.specs.Pairs.{Sides};
 ghost use Rattle.directions.specs.Directions.{Directed};
 ghost use Rattle.pass.specs.Pass.{scene, regain_of, unstick_of, pass_at, pass_of};
 
-use choose::{Choice, choose};
+use choose::choose;
 use contacts::has_contact;
 use interlocking::detect_interlocking_opportunity;
 use near::is_far;
@@ -117,14 +117,14 @@ fn pass_at(
     match choose(
         stationary, dirs, moved, orbiting, headings, tol, from, path, previous, ccw,
     ) {
-        Choice::Nothing => {
+        None => {
             if has_contact(stationary, moved, tol) {
                 unstick(stationary, orbiting, margins, pose)
             } else {
                 regain(stationary, moved, tol, pose)
             }
         }
-        Choice::Vector(v) => slide(stationary, moved, margins, start, path, pose, v),
+        Some(v) => slide(stationary, moved, margins, start, path, pose, v),
     }
 }
 
