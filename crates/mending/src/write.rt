@@ -7,7 +7,7 @@ ghost use Rattle.mending.specs.Mending.{trails_from, staying, going, mended_of, 
 ghost use Rattle.mending.specs.Calls.{fitting, sizes_of, mended};
 
 use crate::answer::{Mended, Sizes};
-use crate::{Fate, fate_at, row, trail};
+use crate::{fate_at, row, trail};
 use ring::point_at;
 use ring::room::put;
 
@@ -19,9 +19,8 @@ fn count_staying(ring: &[f64], end: usize) -> usize
     let n = ring.len() / 2;
     let mut staying = 0;
     for i in 0..n {
-        match fate_at(ring, end, i) {
-            Fate::Stays => staying += 1,
-            Fate::Goes(_) => {}
+        if fate_at(ring, end, i).is_none() {
+            staying += 1;
         }
     }
     staying
@@ -51,11 +50,11 @@ fn write_mended(ring: &[f64], end: usize, room: &mut [f64], dropped: &mut [u64],
     let mut gone = 0;
     for i in 0..n {
         match fate_at(ring, end, i) {
-            Fate::Stays => {
+            None => {
                 put(room, staying, point_at(ring, i));
                 staying += 1;
             }
-            Fate::Goes(why) => {
+            Some(why) => {
                 put_why(dropped, gone, i, why);
                 put(points, gone, point_at(ring, i));
                 gone += 1;
