@@ -89,6 +89,11 @@ pub fn load<T: Item, R: Read>(input: &mut R, list: &mut [T]) {
     }
 }
 
+// Reads the bytes of the list, as far as the input goes.
+pub fn load_bytes<R: Read>(input: &mut R, list: &mut [u8]) {
+    let _ = input.read_exact(list);
+}
+
 // Whether two lists of one length are the same, bit for bit.
 pub fn is_same<T: Item>(a: &[T], b: &[T]) -> bool {
     a.len() == b.len() && a.iter().zip(b).all(|(&x, &y)| x.is_same(y))

@@ -26,7 +26,7 @@ fn floats<R: Read>(input: &mut R, n: usize) -> [f64; 600]
 }
 
 // Whether an answer is what the record says: the refusal's number, the vertices. No refusal of the call tells a place.
-fn told(answer: Count, header: &[u8; 56]) -> bool {
+fn told(answer: Result<usize, Refusal>, header: &[u8; 56]) -> bool {
     match answer {
         Ok(n) => {
             if word(header, 16) != 0 {
