@@ -10,7 +10,7 @@ use Rattle.ring.specs.Ring.{count, point_at}
 use Rattle.laws.specs.FirstBest.{better, over, nest}
 use Rattle.laws.proofs.FirstBest.{over_turn, over_ext, nest_turn}
 use Rattle.collision.specs.Ray.{edge_ray}
-use Rattle.collision.specs.Hit.{between, counted_of, nearer}
+use Rattle.collision.specs.Hit.{counted_of, nearer}
 use Rattle.collision.specs.Parts.{pair_by}
 use Rattle.collision.specs.Row.{pair_at, least_of, Onward}
 use Rattle.collision.specs.Check.{hit_of, scan_of}

@@ -7,7 +7,6 @@ use Rattle.laws.specs.FirstBest.{better}
 use Rattle.collision.specs.Hit.{nearer}
 use Rattle.collision.specs.Parts.{pair_by}
 use Rattle.collision.specs.declared.Sweep.{Sweep}
-use Rattle.collision.specs.declared.Ray.{Ray}
 use Rattle.collision.specs.declared.Ray.TheVariants.{At}
 use Rattle.collision.specs.declared.Collision.{Collision}
 use Rattle.grounds.specs.Classes.{too_near, in_between, too_far, hit_is}

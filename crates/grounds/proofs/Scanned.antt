@@ -16,7 +16,7 @@ use Rattle.laws.proofs.Turns.{turns_split, turns_ext, flat_turns, rows_flat}
 use Rattle.collision.specs.Hit.{nearer, kept_hit}
 use Rattle.collision.specs.Ray.{edge_ray}
 use Rattle.collision.specs.Check.{back_of, sweep_of}
-use Rattle.collision.specs.Nearest.{pair_no, scans, ray_at}
+use Rattle.collision.specs.Nearest.{scans, ray_at}
 use Rattle.collision.specs.declared.Sweep.{Sweep}
 use Rattle.collision.specs.declared.Ray.{Ray}
 use Rattle.collision.specs.declared.Collision.TheVariants.{Nothing}
