@@ -6,10 +6,14 @@ use Prim.Native.Nat.{ℕ, ◌<◌}
 use native.Mathlib.Omega.{arith}
 use native.Mathlib.Decide.{dec_lt}
 use lib.Ieee.{Float}
+use Rattle.std.specs.Prelude.{Result, Ok, Err}
+use Rattle.std.proofs.Math.Option.{Option}
 use Rattle.plane.specs.declared.Point.{Point}
 use Rattle.refusals.specs.Refusals.{passed}
 use Rattle.refusals.specs.Rows.{of_moving}
-use Rattle.refusals.specs.Answers.{answers, refuses}
+use Rattle.refusals.specs.Answers.{Outcome, answers, refuses, tells}
+use Rattle.refusals.specs.declared.Refusal.{Refusal}
+use Rattle.refusals.proofs.Calls.{answered_only}
 use Rattle.pairs.specs.Pairs.{pair}
 use Rattle.pairs.specs.declared.Pair.{Pair}
 use Rattle.collision.specs.Check.{collision_of}
@@ -18,8 +22,6 @@ use Rattle.collision.specs.Calls.{Values, values, checked, collision_call}
 use Rattle.collision.specs.declared.Ray.TheVariants.{At}
 use Rattle.collision.specs.declared.Collision.{Collision}
 use Rattle.collision.specs.declared.Collision.TheVariants.{Nothing, Hit}
-use Rattle.collision.specs.declared.answer.Checked.{Checked}
-use Rattle.collision.specs.declared.answer.Checked.TheVariants.{Is, Refused}
 use Rattle.collision.proofs.Nearest.{collision_told}
 
 pub values_only : (x y : Collision) → values x ≡ values y → x ≡ y
@@ -30,14 +32,18 @@ values_only (Hit d k s o) (Hit e l t p) h =
     let v : ◌≡◌ {A = Values} (record { distance = d; kind = k; stationary = s; orbiting = o }) (record { distance = e; kind = l; stationary = t; orbiting = p }) = cc in
     cc (ap (λ (w : Values). w.distance) v, ap (λ (w : Values). w.kind) v, ap (λ (w : Values). w.stationary) v, ap (λ (w : Values). w.orbiting) v)
 
-pub checked_only : (a b : Checked) → checked a ≡ checked b → a ≡ b
-checked_only (Is x) (Is y) h = cc (values_only x y (cc))
-checked_only (Is x) (Refused r) h = cc
-checked_only (Refused r) (Is y) h = cc
-checked_only (Refused r) (Refused s) h = cc
+-- two refusals that tell the same
+refused_only : (r s : Refusal) → ◌≡◌ {A = Outcome (Option Values)} (refuses (tells r)) (refuses (tells s)) → ◌≡◌ {A = Result Collision Refusal} (Err r) (Err s)
+refused_only r s h = let e : ◌≡◌ {A = Result ℕ Refusal} (Err r) (Err s) = answered_only (Err r) (Err s) (cc) in cc
+
+pub checked_only : (a b : Result Collision Refusal) → checked a ≡ checked b → a ≡ b
+checked_only (Ok x) (Ok y) h = cc (values_only x y (cc))
+checked_only (Ok x) (Err r) h = cc
+checked_only (Err r) (Ok y) h = cc
+checked_only (Err r) (Err s) h = refused_only r s h
 
 -- an answer that keeps the call's promise is what the theorem demands
-pub answer_told : (st orb : List Float) (move : Point) (tol : Float) (x : Collision) → checked (Is x) ≡ collision_call st orb move tol → Told st orb move tol x
+pub answer_told : (st orb : List Float) (move : Point) (tol : Float) (x : Collision) → checked (Ok x) ≡ collision_call st orb move tol → Told st orb move tol x
 answer_told st orb move tol x h = go (passed (of_moving st orb move tol)) h
   where
     go : (b : Bool) → answers (values x) ≡ cond b (answers (values (collision_of st orb move tol))) (refuses (of_moving st orb move tol)) → Told st orb move tol x

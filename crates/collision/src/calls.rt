@@ -4,9 +4,9 @@
 ghost use Rattle.std.specs.Prelude.{◌≡◌};
 ghost use Rattle.collision.specs.Calls.{checked, collision_call};
 
-use crate::answer::Checked;
+use crate::Collision;
 use plane::Point;
-use refusals::row;
+use refusals::{Refusal, row};
 
 // What orbiting, moved by translation, runs into first: nothing, or the hit's distance, its kind and both indices.
 pub fn check_translation_collision(
@@ -14,14 +14,9 @@ pub fn check_translation_collision(
     orbiting: &[f64],
     translation: Point,
     tolerance: f64,
-) -> Checked
+) -> Result<Collision, Refusal>
     ensures { checked result ≡ collision_call stationary.now orbiting.now translation tolerance }
 {
     row::moving(stationary, orbiting, translation, tolerance)?;
-    Ok(crate::check_translation_collision(
-        stationary,
-        orbiting,
-        translation,
-        tolerance,
-    ))
+    Ok(crate::check_translation_collision(stationary, orbiting, translation, tolerance))
 }

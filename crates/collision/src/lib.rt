@@ -2,7 +2,6 @@
 // `nfp_sliding.rs`.
 #![tactic(auto)]
 
-pub mod answer;
 pub mod calls;
 
 ghost use Rattle.std.specs.Prelude.{◌≡◌, ◌&&◌, ◌≤◌, ◌<◌};

@@ -1,13 +1,12 @@
 // The public call: find_contacts.
-#![tactic(auto, using(refusals::proofs::Tests::refused))]
+#![tactic(auto, using(refusals::proofs::Tests::refused, crate::proofs::Screened::lent_is), unfolding(crate::specs::Calls::find_refusal))]
 
 ghost use Rattle.std.specs.Prelude.{◌≡◌, length};
 ghost use Rattle.refusals.specs.Answers.{answered};
 ghost use Rattle.contacts_call.specs.Calls.{find_call, find_which, find_points};
 
 use crate::write::answer;
-use refusals::Refusal;
-use refusals::row;
+use refusals::{Refusal, row};
 
 // The contacts of two polygons: per contact kind, stationary index, orbiting index and foot in `which`, x and y in `points`.
 pub fn find_contacts(

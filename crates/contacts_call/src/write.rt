@@ -130,6 +130,7 @@ fn write_contacts(
 }
 
 // The contacts in the rooms, and how many there are, or the refusal of a room that is too short.
+#[tactic(auto, using(refusals::proofs::Tests::refused, crate::proofs::Screened::both_fit))]
 pub fn answer(
     stationary: &[f64],
     orbiting: &[f64],
@@ -156,10 +157,7 @@ pub fn answer(
         points.old) }
 {
     let n = count_contacts(stationary, orbiting, tol);
-    let no = rooms(ENTRY * n, which.len(), 2 * n, points.len());
-    if no.passed() {
-        write_contacts(stationary, orbiting, tol, which, points);
-        return Ok(n);
-    }
-    Err(no)
+    rooms(ENTRY * n, which.len(), 2 * n, points.len())?;
+    write_contacts(stationary, orbiting, tol, which, points);
+    Ok(n)
 }

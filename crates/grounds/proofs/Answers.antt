@@ -11,10 +11,13 @@ use lib.Ieee.{Float, lt, eq}
 use Rattle.plane.specs.Vector.{length_of}
 use Rattle.laws.specs.Turns.{tally}
 use Rattle.laws.proofs.Both.{both}
+use Rattle.std.specs.Prelude.{Result, Ok, Err}
 use Rattle.plane.specs.declared.Point.{Point}
 use Rattle.refusals.specs.Refusals.{passed}
 use Rattle.refusals.specs.Rows.{of_moving}
-use Rattle.refusals.specs.Answers.{answers, refuses}
+use Rattle.refusals.specs.Answers.{Outcome, answers, refuses, tells}
+use Rattle.refusals.specs.declared.Refusal.{Refusal}
+use Rattle.refusals.proofs.Calls.{answered_only}
 use Rattle.collision.specs.Check.{sweep_of}
 use Rattle.collision.specs.Nearest.{scans, Blocks, Told, nothing, hit}
 use Rattle.collision.specs.declared.Collision.{Collision}
@@ -29,8 +32,6 @@ use Rattle.grounds.specs.Calls.{Account, account, explained, explain_call}
 use Rattle.grounds.specs.declared.Ground.{Ground}
 use Rattle.grounds.specs.declared.Ground.TheVariants.{Hit, Short, Never, Near, Far, BothSides}
 use Rattle.grounds.specs.declared.Explanation.{Explanation}
-use Rattle.grounds.specs.declared.answer.Explained.{Explained}
-use Rattle.grounds.specs.declared.answer.Explained.TheVariants.{Is, Refused}
 use Rattle.grounds.proofs.Classes.{no_bool}
 use Rattle.grounds.proofs.Others.{others_other}
 use Rattle.grounds.proofs.Grounds.{ground_says, ground_only, same_collision}
@@ -67,15 +68,19 @@ account_only x y h =
     (ap (λ (a : Account). a.between) h)
     (ap (λ (a : Account). a.far) h)
 
-pub explained_only : (a b : Explained) → explained a ≡ explained b → a ≡ b
-explained_only (Is x) (Is y) h = cc (account_only x y (cc))
-explained_only (Is x) (Refused r) h = cc
-explained_only (Refused r) (Is y) h = cc
-explained_only (Refused r) (Refused s) h = cc
+-- two refusals that tell the same
+refused_only : (r s : Refusal) → ◌≡◌ {A = Outcome Account} (refuses (tells r)) (refuses (tells s)) → ◌≡◌ {A = Result Explanation Refusal} (Err r) (Err s)
+refused_only r s h = let e : ◌≡◌ {A = Result ℕ Refusal} (Err r) (Err s) = answered_only (Err r) (Err s) (cc) in cc
+
+pub explained_only : (a b : Result Explanation Refusal) → explained a ≡ explained b → a ≡ b
+explained_only (Ok x) (Ok y) h = cc (account_only x y (cc))
+explained_only (Ok x) (Err r) h = cc
+explained_only (Err r) (Ok y) h = cc
+explained_only (Err r) (Err s) h = refused_only r s h
 
 -- ---- an answer that keeps the call's promise
 
-module _ (st orb : List Float) (move : Point) (tol : Float) (x : Explanation) (keeps : explained (Is x) ≡ explain_call st orb move tol) where
+module _ (st orb : List Float) (move : Point) (tol : Float) (x : Explanation) (keeps : explained (Ok x) ≡ explain_call st orb move tol) where
   answer_is : (passed (of_moving st orb move tol) ≡ true) × (x ≡ explanation_of st orb move tol)
   answer_is = go (passed (of_moving st orb move tol)) refl keeps
     where

@@ -1,5 +1,5 @@
 // The public calls: compute_translation_vectors, handle_perfect_fit.
-#![tactic(auto, using(refusals::proofs::Tests::refused))]
+#![tactic(auto)]
 
 ghost use Rattle.std.specs.Prelude.{◌≡◌, length};
 ghost use Rattle.refusals.specs.Answers.{answered};
@@ -7,10 +7,10 @@ ghost use Rattle.vectors_call.specs.Calls.{vectors_call, vectors_room, sources_r
 
 use crate::write::answer;
 use plane::Point;
-use refusals::Refusal;
-use refusals::row;
+use refusals::{Refusal, row};
 
 // The vectors of the contacts of two polygons: per vector its direction and its distance in `vectors`, its contact's index in `sources`.
+#[tactic(auto, using(refusals::proofs::Tests::refused, contacts_call::proofs::Screened::lent_is, crate::proofs::Screened::all_fit), unfolding(crate::specs::Calls::vectors_refusal))]
 pub fn compute_translation_vectors(
     stationary: &[f64],
     orbiting: &[f64],
@@ -34,6 +34,7 @@ pub fn compute_translation_vectors(
 }
 
 // Those of them that do not lead to a visited position from the reference.
+#[tactic(auto, using(refusals::proofs::Tests::refused, crate::proofs::Screened::lent_is), unfolding(crate::specs::Calls::fit_refusal))]
 pub fn handle_perfect_fit(
     stationary: &[f64],
     orbiting: &[f64],

@@ -83,6 +83,7 @@ pub fn write_vectors(
 }
 
 // The vectors in the rooms, and how many there are, or the refusal of a room that is too short.
+#[tactic(auto, using(refusals::proofs::Tests::refused, contacts_call::proofs::Screened::both_fit))]
 pub fn answer(
     stationary: &[f64],
     orbiting: &[f64],
@@ -110,10 +111,7 @@ pub fn answer(
         sources.old) }
 {
     let n = count_vectors(stationary, orbiting, from, visited, tol);
-    let no = rooms(3 * n, vectors.len(), n, sources.len());
-    if no.passed() {
-        write_vectors(stationary, orbiting, from, visited, tol, vectors, sources);
-        return Ok(n);
-    }
-    Err(no)
+    rooms(3 * n, vectors.len(), n, sources.len())?;
+    write_vectors(stationary, orbiting, from, visited, tol, vectors, sources);
+    Ok(n)
 }

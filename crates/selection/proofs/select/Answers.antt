@@ -4,18 +4,18 @@ use Prim.Native.Nat.{ℕ, ◌+◌}
 use mathlib.Core.Path.{◌≡◌, ap, ◌∙◌}
 use mathlib.Core.List.{List}
 use lib.Ieee.{Float}
+use Rattle.std.specs.Prelude.{Option}
 use Rattle.plane.specs.declared.Point.{Point}
 use Rattle.laws.specs.FirstBest.{over}
 use Rattle.laws.proofs.FirstBest.{over_turn}
 use Rattle.selection.specs.Score.{score_of}
 use Rattle.selection.specs.Select.{vector_at, score_at, scored, scored_at, above, kept_score, unscored, select_of}
 use Rattle.vectors.specs.declared.TranslationVector.{TranslationVector}
-use Rattle.selection.specs.declared.Previous.{Previous}
 use Rattle.selection.specs.declared.Scored.{Scored}
 use Rattle.selection.proofs.select.Goals as goal
 
 -- one vector more
-turn : (vs : List Float) (previous : Previous) (ccw : Point) (i : ℕ) {best new : Scored} {v : TranslationVector} {s : Float}
+turn : (vs : List Float) (previous : Option Point) (ccw : Point) (i : ℕ) {best new : Scored} {v : TranslationVector} {s : Float}
     → best ≡ over above (scored_at vs previous ccw) unscored i → v ≡ vector_at vs i → s ≡ score_of v previous ccw → new ≡ kept_score best (scored i s)
     → new ≡ over above (scored_at vs previous ccw) unscored (i + 1)
 unfolding scored_at score_at
