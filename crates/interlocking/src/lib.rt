@@ -117,11 +117,9 @@ pub fn detect_interlocking_opportunity(
 {
     let least = least_opening(orbiting);
     let n = stationary.len() / 2;
-    let mut i = 0;
-    while i < n {
-        match candidate(stationary, orbiting, current, tolerance, least, i) {
-            Found::Nothing => i += 1,
-            Found::At(p) => return Found::At(p),
+    for i in 0..n {
+        if let Found::At(p) = candidate(stationary, orbiting, current, tolerance, least, i) {
+            return Found::At(p);
         }
     }
     Found::Nothing
