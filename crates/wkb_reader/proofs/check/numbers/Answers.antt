@@ -20,7 +20,7 @@ loop-j-init c = (check_start c.args.f.now c.args.m)
 pub returns-then-not-is_coordinate : goal.returns-then-not-is_coordinate
 returns-then-not-is_coordinate c =
     let a = c.args in
-    c.new.ensures
+    c.fault.ensures
     ∙ sym (c.loop-j.invariant ∙ number_bad a.f.now a.m c.loop-j.j c.loop-j-test.true (sym (asked (up-After-is_coordinate _ _ _ _ _ c.before.before.before)) ∙ not-true c.is_coordinate.result (ap not c.if-not-is_coordinate.true)))
 
 pub loop-j-preserved : goal.loop-j-preserved
@@ -31,4 +31,4 @@ loop-j-preserved c =
 pub returns : goal.returns
 returns c =
     let a = c.args in
-    c.none.ensures ∙ sym (c.loop-j.invariant ∙ check_end a.f.now a.m c.loop-j.j c.loop-j-test.false)
+    sym (c.loop-j.invariant ∙ check_end a.f.now a.m c.loop-j.j c.loop-j-test.false)
