@@ -5,7 +5,7 @@ use mathlib.Core.Bool.{true, false}
 use Rattle.std.specs.Prelude.{Option, None, Some}
 use lib.Ieee.{Float, binary64, of_bits, nan}
 use Rattle.grounds.specs.Calls.{Account}
-use Rattle.inspection.specs.Calls.{Shift}
+use Rattle.inspection.specs.declared.Shift.{Shift}
 use Rattle.refusals.specs.Answers.{Outcome, answers, refuses}
 use Rattle.refusals.specs.Refusals.{refused_book, refused_few, refused_setting, refused_inspection, tells_place, refuse}
 use Rattle.handed.specs.Handed.{refusal_in, returned, told, told_found, place_of, told_place, itself, flag, is_found, hit_distance, hit_kind, hit_stationary, hit_orbiting}

@@ -3,9 +3,8 @@
 #![tactic(auto, unfolding(crate::specs::Handed::refusal_in, crate::specs::Handed::told, crate::specs::Handed::told_found, crate::specs::Clear::move_ground, crate::specs::Clear::edge_of, crate::specs::Clear::leg_ground, crate::specs::Clear::leg_of, crate::specs::Clear::leg_edge_of))]
 
 ghost use Rattle.std.specs.Prelude.{◌≡◌};
-ghost use Rattle.refusals.specs.Answers.{tested};
+ghost use Rattle.refusals.specs.Answers.{answered, tested};
 ghost use Rattle.clear_calls.specs.Calls.{judged};
-ghost use Rattle.clear_path.specs.Calls.{path_judged};
 ghost use Rattle.handed.specs.Handed.{refusal_in, told, told_found, itself};
 ghost use Rattle.handed.specs.Clear.{move_ground, edge_in, leg_ground, leg_in, leg_edge_in};
 
@@ -41,10 +40,10 @@ pub fn hand_path_judged(
     leg: &mut u64,
     edge: &mut u64,
 ) -> Result<(), Refusal>
-    ensures { (tested result ≡ refusal_in (path_judged answer))
-        × (ground.new ≡ told leg_ground (path_judged answer) ground.old)
-        × (leg.new ≡ told_found itself (leg_in (path_judged answer)) leg.old)
-        × (edge.new ≡ told_found itself (leg_edge_in (path_judged answer)) edge.old) }
+    ensures { (tested result ≡ refusal_in (answered answer))
+        × (ground.new ≡ told leg_ground (answered answer) ground.old)
+        × (leg.new ≡ told_found itself (leg_in (answered answer)) leg.old)
+        × (edge.new ≡ told_found itself (leg_edge_in (answered answer)) edge.old) }
 {
     match answer? {
         PathGround::Clear => *ground = 0,

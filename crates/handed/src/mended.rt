@@ -2,12 +2,11 @@
 #![tactic(auto, unfolding(crate::specs::Handed::refusal_in, crate::specs::Handed::told))]
 
 ghost use Rattle.std.specs.Prelude.{◌≡◌};
-ghost use Rattle.refusals.specs.Answers.{tested};
-ghost use Rattle.mending.specs.Calls.{mended};
+ghost use Rattle.refusals.specs.Answers.{answered, tested};
 ghost use Rattle.handed.specs.Handed.{refusal_in, told};
 ghost use Rattle.handed.specs.Mends.{remaining_in, dropped_in};
 
-use mending::Sizes;
+use mending::answer::Sizes;
 use refusals::Refusal;
 
 // How many vertices remain, and how many were dropped.
@@ -16,9 +15,9 @@ pub fn hand_mended(
     vertices: &mut u64,
     count: &mut u64,
 ) -> Result<(), Refusal>
-    ensures { (tested result ≡ refusal_in (mended answer))
-        × (vertices.new ≡ told remaining_in (mended answer) vertices.old)
-        × (count.new ≡ told dropped_in (mended answer) count.old) }
+    ensures { (tested result ≡ refusal_in (answered answer))
+        × (vertices.new ≡ told remaining_in (answered answer) vertices.old)
+        × (count.new ≡ told dropped_in (answered answer) count.old) }
 {
     let sizes = answer?;
     *vertices = sizes.vertices as u64;

@@ -3,8 +3,7 @@
 #![tactic(auto, unfolding(crate::specs::Handed::refusal_in, crate::specs::Handed::told))]
 
 ghost use Rattle.std.specs.Prelude.{◌≡◌};
-ghost use Rattle.refusals.specs.Answers.{tested};
-ghost use Rattle.inspection.specs.Calls.{inspected};
+ghost use Rattle.refusals.specs.Answers.{answered, tested};
 ghost use Rattle.handed.specs.Handed.{refusal_in, told};
 ghost use Rattle.handed.specs.Places.{places_in, following_in};
 
@@ -17,9 +16,9 @@ pub fn hand_inspected(
     start: &mut u64,
     count: &mut u64,
 ) -> Result<(), Refusal>
-    ensures { (tested result ≡ refusal_in (inspected answer))
-        × (start.new ≡ told following_in (inspected answer) start.old)
-        × (count.new ≡ told places_in (inspected answer) count.old) }
+    ensures { (tested result ≡ refusal_in (answered answer))
+        × (start.new ≡ told following_in (answered answer) start.old)
+        × (count.new ≡ told places_in (answered answer) count.old) }
 {
     let shift = answer?;
     *start = shift.following;

@@ -8,7 +8,7 @@ ghost use Rattle.projection.specs.Calls.{projected};
 ghost use Rattle.handed.specs.Handed.{refusal_in, told, itself, flag, x_of, y_of, parameter_in, foot_in};
 
 use plane::{Orientation, Point};
-use projection::Projection;
+use projection::answer::Projection;
 use projection::foot::foot_code;
 use refusals::Refusal;
 

@@ -1,8 +1,8 @@
 // What a call answers as three words: the refusal's number or 0, the value or 0, and the place that the refusal tells or 0.
-use mending::Sizes;
+use mending::answer::Sizes;
 use number_bytes::bits_of;
 use plane::Orientation;
-use projection::Projection;
+use projection::answer::Projection;
 use projection::foot::foot_code;
 use refusals::Refusal;
 
