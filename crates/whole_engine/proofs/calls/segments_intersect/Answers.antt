@@ -1,11 +1,10 @@
 -- `whole_engine::calls::segments_intersect` meets its contract: the tests, then the predicate. Assumes nothing.
 use mathlib.Core.Path.{◌≡◌, ◌∙◌}
 use mathlib.Core.List.{[], ◌∷◌}
-use Rattle.refusals.proofs.Calls.{goes, stops}
 use Rattle.shifted.specs.Shifted.{spot_of}
 use Rattle.whole_engine.specs.Rows.{wrong_whole}
 use Rattle.whole_engine.proofs.Read.{spot_read, eight_read}
-use Rattle.whole_engine.proofs.Passed.{all_within, small_four, meet_four}
+use Rattle.whole_engine.proofs.Passed.{all_within, small_four}
 use Rattle.whole_engine.proofs.calls.segments_intersect.Goals as goal
 use Rattle.whole_engine.proofs.calls.segments_intersect.Goals.{After-numbers-no, After-spot_of-then-passed-3}
 
@@ -29,11 +28,3 @@ point4 c = spot_read _ _ c.ranges.x4 c.ranges.y4 c.spot_of-then-passed-3.ensures
 pub segments_intersect-requires : goal.segments_intersect-requires
 segments_intersect-requires c =
     small_four _ _ _ _ _ _ _ _ (point1 c) (point2 c) (point3 c) (point4 c) (all_within _ (tested c.before.before.before.before.before.before) c.passed.ensures c.if-passed.true)
-
-pub returns-then-passed : goal.returns-then-passed
-returns-then-passed c =
-    goes _ (tested c.before.before.before.before.before.before.before) c.passed.ensures _ c.if-passed.true (c.segments_intersect.ensures ∙ meet_four _ _ _ _ _ _ _ _ (point1 c.before) (point2 c.before) (point3 c.before) (point4 c.before))
-
-pub returns-else-passed : goal.returns-else-passed
-returns-else-passed c =
-    stops _ (tested c.before.before) c.passed.ensures _ c.if-passed.false

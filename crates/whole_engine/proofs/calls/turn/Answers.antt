@@ -1,11 +1,10 @@
 -- `whole_engine::calls::turn` meets its contract: the tests, then the predicate. Assumes nothing.
 use mathlib.Core.Path.{◌≡◌, ◌∙◌}
 use mathlib.Core.List.{[], ◌∷◌}
-use Rattle.refusals.proofs.Calls.{goes, stops}
 use Rattle.shifted.specs.Shifted.{spot_of}
 use Rattle.whole_engine.specs.Rows.{wrong_whole}
 use Rattle.whole_engine.proofs.Read.{spot_read, six_read}
-use Rattle.whole_engine.proofs.Passed.{all_within, small_three, turn_three}
+use Rattle.whole_engine.proofs.Passed.{all_within, small_three}
 use Rattle.whole_engine.proofs.calls.turn.Goals as goal
 use Rattle.whole_engine.proofs.calls.turn.Goals.{After-numbers-no, After-spot_of-then-passed-2}
 
@@ -26,11 +25,3 @@ point3 c = spot_read _ _ c.ranges.cx c.ranges.cy c.spot_of-then-passed-2.ensures
 pub turn-requires : goal.turn-requires
 turn-requires c =
     small_three _ _ _ _ _ _ (point1 c) (point2 c) (point3 c) (all_within _ (tested c.before.before.before.before.before) c.passed.ensures c.if-passed.true)
-
-pub returns-then-passed : goal.returns-then-passed
-returns-then-passed c =
-    goes _ (tested c.before.before.before.before.before.before) c.passed.ensures _ c.if-passed.true (c.turn.ensures ∙ turn_three _ _ _ _ _ _ (point1 c.before) (point2 c.before) (point3 c.before))
-
-pub returns-else-passed : goal.returns-else-passed
-returns-else-passed c =
-    stops _ (tested c.before.before) c.passed.ensures _ c.if-passed.false
