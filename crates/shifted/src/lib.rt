@@ -6,7 +6,7 @@ ghost use Rattle.ring.specs.Room.{laid};
 ghost use Rattle.shifted.specs.Shifted.{in_bounds, up_of, spot_of, spot_at};
 
 // A point with each coordinate moved up.
-#[derive(Clone, Copy)]
+#[derive(Clone, Copy, Debug, PartialEq, Eq)]
 pub struct Spot {
     pub x: u64,
     pub y: u64,

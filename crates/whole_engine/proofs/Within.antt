@@ -1,14 +1,12 @@
 -- Coordinates within a million: a loop that tests them, where what is left of the list decides, and the points they make.
 -- Assumes nothing.
-use Prim.Native.Nat.{ℕ, zero, suc, ◌+◌, ◌*◌, ◌/◌, ◌≤◌, ◌<◌}
+use Prim.Native.Nat.{ℕ, zero, suc, ◌+◌, ◌*◌, ◌/◌, ◌<◌}
 use mathlib.Core.Path.{◌≡◌, refl, sym, ap, subst}
 use mathlib.Core.Bool.{true, ◌&&◌}
 use Rattle.std.specs.List.{list_all}
 use mathlib.Core.List.{List, [], ◌∷◌, map}
-use native.Mathlib.Numerals.{add-one}
 use native.Mathlib.Omega.{arith}
-use lib.ListN.{length, get_or, drop, drop_of_length-le, length-map}
-use lib.Seq.{drop-cons}
+use lib.ListN.{length, get_or, length-map}
 use lib.IntN.{ℤ, pos}
 use Rattle.laws.proofs.Both.{both}
 use Rattle.shifted.specs.Shifted.{in_bounds, up_of, spot_of, spot_in, spot_at, Small, SmallRing}

@@ -5,7 +5,7 @@ use lib.ListN.{get_or}
 use lib.IntN.{pos}
 use Rattle.std.proofs.Common.{rules}
 use Rattle.shifted.specs.Shifted.{up_of}
-use Rattle.shifted.proofs.Lifted.{start, turn, done}
+use Rattle.shifted.proofs.Lifted.{turn}
 use Rattle.shifted.proofs.lift.Goals as goal
 
 pub loop-i-preserved : goal.loop-i-preserved

@@ -1,5 +1,3 @@
-use Prim.Native.Nat.{◌-◌}
-use lib.ListN.{length}
 use Rattle.shifted.proofs.Lifted.{Lifted}
 use Rattle.shifted.proofs.lift.Given as goal
 

@@ -2,10 +2,8 @@
 use mathlib.Core.Path.{◌≡◌, sym, ap, subst, ◌∙◌}
 use native.Mathlib.Omega.{arith}
 use lib.IntN.{pos, ◌+ℤ◌, nat_abs}
-use lib.Signed.{non_neg}
-use lib.Dec.{T}
-use mir.Syntax.{w32, w64}
-use mir.Val.{to_z, of_z, SFits, Fits}
+use mir.Syntax.{w32}
+use mir.Val.{to_z, of_z, SFits}
 use mir.ValLaws.{to_z-of_z}
 use Rattle.shifted.specs.Shifted.{up_of}
 use Rattle.shifted.proofs.Laws.{low, high, sum, bound}

@@ -1,4 +1,4 @@
-use Prim.Native.Nat.{◌-◌, ◌/◌}
+use Prim.Native.Nat.{◌/◌}
 use lib.ListN.{length}
 use Rattle.plane.specs.Orientation.{turn_number}
 use Rattle.shifted.specs.Shifted.{spot_at}
