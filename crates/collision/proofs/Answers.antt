@@ -19,7 +19,7 @@ use Rattle.pairs.specs.declared.Pair.{Pair}
 use Rattle.collision.specs.Check.{collision_of}
 use Rattle.collision.specs.Nearest.{pair_no, ray_at, Told, nothing, hit}
 use Rattle.collision.specs.Calls.{Values, values, checked, collision_call}
-use Rattle.collision.specs.declared.Ray.TheVariants.{At}
+use Rattle.std.specs.Prelude.{Some}
 use Rattle.collision.specs.declared.Collision.{Collision}
 use Rattle.collision.specs.declared.Collision.TheVariants.{Nothing, Hit}
 use Rattle.collision.proofs.Nearest.{collision_told}
@@ -63,5 +63,5 @@ told_only st orb move tol (Hit d k s o) (Hit e l t p) (hit f n) (hit f' n') = go
     go (no a) (no b) =
         let same : n.number ≡ n'.number = omega arith in
         let v : pair k s o ≡ pair l t p = sym n.is ∙ ap (pair_no st orb) same ∙ n'.is in
-        let m : At d ≡ At e = sym n.blocks.meets.at ∙ ap (λ (j : ℕ). ray_at st orb move tol (pair_no st orb j)) same ∙ n'.blocks.meets.at in
+        let m : Some d ≡ Some e = sym n.blocks.meets.at ∙ ap (λ (j : ℕ). ray_at st orb move tol (pair_no st orb j)) same ∙ n'.blocks.meets.at in
         cc (ap (λ (w : Pair). w.kind) v, ap (λ (w : Pair). w.stationary) v, ap (λ (w : Pair). w.orbiting) v)

@@ -20,13 +20,6 @@ use plane::Point;
 use plane::vector::{cross, length, minus};
 use ring::{next, point_at};
 
-// A ray against a segment: it misses, or it meets the segment at a distance.
-#[derive(Clone, Copy)]
-pub enum Ray {
-    Miss,
-    At(f64),
-}
-
 // What a move runs into. Kind 0 is a vertex of orbiting on an edge of stationary, kind 1 a vertex of stationary on an edge of orbiting.
 #[derive(Clone, Copy)]
 pub enum Collision {
@@ -59,13 +52,13 @@ fn within_segment(u: f64, tolerance: f64) -> bool
 }
 
 // The answer by the parameter along the ray, where the other is within the tolerance.
-fn in_front(t: f64, tolerance: f64) -> Ray
+fn in_front(t: f64, tolerance: f64) -> Option<f64>
     ensures { result ≡ in_front t tolerance }
 {
     if t >= -tolerance {
-        Ray::At(scalar::larger(t, 0.0))
+        Some(scalar::larger(t, 0.0))
     } else {
-        Ray::Miss
+        None
     }
 }
 
@@ -76,14 +69,14 @@ fn is_small(x: f64, tolerance: f64) -> bool
     if x < tolerance { -x < tolerance } else { false }
 }
 
-// How far along the ray from origin it meets the segment p1 p2.
+// How far along the ray from origin it meets the segment p1 p2, or nothing where it misses.
 pub fn ray_segment_intersection(
     origin: Point,
     dir: Point,
     p1: Point,
     p2: Point,
     tolerance: f64,
-) -> Ray
+) -> Option<f64>
     ensures { result ≡ ray_of origin dir p1 p2 tolerance }
 {
     let seg = minus(p2, p1);
@@ -91,16 +84,16 @@ pub fn ray_segment_intersection(
     let diff = minus(p1, origin);
     if within_segment(cross(diff, dir) / den, tolerance) {
         if is_small(den, tolerance) {
-            return Ray::Miss;
+            return None;
         }
         in_front(cross(diff, seg) / den, tolerance)
     } else {
-        Ray::Miss
+        None
     }
 }
 
 // The ray from origin against the edge e of a ring.
-pub fn edge_ray(origin: Point, dir: Point, ring: &[f64], e: usize, tolerance: f64) -> Ray
+pub fn edge_ray(origin: Point, dir: Point, ring: &[f64], e: usize, tolerance: f64) -> Option<f64>
     requires { e < count ring.now }
     ensures { result ≡ edge_ray origin dir ring.now e tolerance }
 {
@@ -110,10 +103,16 @@ pub fn edge_ray(origin: Point, dir: Point, ring: &[f64], e: usize, tolerance: f6
 }
 
 // A ray's hit where it counts: above the tolerance and below the limit.
-fn counted(ray: Ray, sweep: Sweep, kind: u8, stationary: usize, orbiting: usize) -> Collision
+fn counted(
+    ray: Option<f64>,
+    sweep: Sweep,
+    kind: u8,
+    stationary: usize,
+    orbiting: usize,
+) -> Collision
     ensures { result ≡ counted_of ray sweep kind stationary orbiting }
 {
-    let Ray::At(distance) = ray else {
+    let Some(distance) = ray else {
         return Collision::Nothing;
     };
     if distance > sweep.tolerance {
@@ -130,7 +129,7 @@ fn counted(ray: Ray, sweep: Sweep, kind: u8, stationary: usize, orbiting: usize)
 }
 
 // What a ray of the vertex v of one ring makes of the edge e of the other.
-pub fn pair(ray: Ray, sweep: Sweep, kind: u8, v: usize, e: usize) -> Collision
+pub fn pair(ray: Option<f64>, sweep: Sweep, kind: u8, v: usize, e: usize) -> Collision
     ensures { result ≡ pair_by ray sweep kind v e }
 {
     if kind == 0 {
@@ -186,7 +185,7 @@ fn row(
     let mut near = least(before);
     for e in from..to {
         let ray = edge_ray(origin, sweep.dir, edges, e, sweep.tolerance);
-        if let Ray::At(d) = ray {
+        if let Some(d) = ray {
             if counts_below(d, sweep, near) {
                 best = pair(ray, sweep, kind, v, e);
                 near = d;

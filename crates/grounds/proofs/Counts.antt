@@ -13,8 +13,7 @@ use Rattle.laws.specs.Turns.{turns, turn_rows}
 use Rattle.laws.proofs.Turns.{rows_flat}
 use Rattle.collision.specs.Hit.{counted_of, nearer}
 use Rattle.collision.specs.declared.Sweep.{Sweep}
-use Rattle.collision.specs.declared.Ray.{Ray}
-use Rattle.collision.specs.declared.Ray.TheVariants.{Miss}
+use Rattle.std.specs.Prelude.{Option, None}
 use Rattle.collision.specs.declared.Collision.{Collision}
 use Rattle.collision.specs.declared.Collision.TheVariants.{Nothing, Hit}
 use Rattle.grounds.specs.Classes.{too_near, in_between, too_far, hit_is}
@@ -32,7 +31,7 @@ either : (b : Bool) → cond b Nothing Nothing ≡ Nothing
 either true = refl
 either false = refl
 
-pub missed : (w : Sweep) (kind : ℕ) (t : Tally) (v e : ℕ) → t ≡ noted_of w kind t v e Miss
+pub missed : (w : Sweep) (kind : ℕ) (t : Tally) (v e : ℕ) → t ≡ noted_of w kind t v e None
 unfolding noted_of counted_of hit_is
 missed w kind t v e = missed_by t _ (either (eqb kind 0))
 
@@ -52,7 +51,7 @@ others_most n m (Hit d k s o) (Hit e l t p) h = go (lt e d)
     go true = omega arith
     go false = one_most n m (eq e d) h
 
-noted_most : (w : Sweep) (kind : ℕ) (t : Tally) (v e : ℕ) (ray : Ray) (m : ℕ) → AtMost t m → AtMost (noted_of w kind t v e ray) (m + 1)
+noted_most : (w : Sweep) (kind : ℕ) (t : Tally) (v e : ℕ) (ray : Option Float) (m : ℕ) → AtMost t m → AtMost (noted_of w kind t v e ray) (m + 1)
 unfolding noted_of
 noted_most w kind t v e ray m h =
     record {

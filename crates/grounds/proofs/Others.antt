@@ -19,8 +19,7 @@ use Rattle.laws.proofs.Order.{lt_le, le_lt, le_of_eq, eq_back, eq_self}
 use Rattle.collision.specs.Hit.{nearer}
 use Rattle.collision.specs.Check.{sweep_of}
 use Rattle.collision.specs.Nearest.{pair_no, scans, ray_at, Blocks}
-use Rattle.collision.specs.declared.Ray.{Ray}
-use Rattle.collision.specs.declared.Ray.TheVariants.{Miss, At}
+use Rattle.std.specs.Prelude.{Option, Some, None}
 use Rattle.collision.specs.declared.Collision.{Collision}
 use Rattle.collision.specs.declared.Collision.TheVariants.{Nothing, Hit}
 use Rattle.collision.proofs.Counting.{above_real, counts, real}
@@ -56,14 +55,14 @@ module _ (st orb : List Float) (move : Point) (tol : Float) where
   unfolding sweep_of
   inside k d l s o e = let c = carried st orb move tol k d l s o e in record { above = c.above; below = c.below }
 
-  ray_of : (k : ℕ) (d : Float) (l s o : ℕ) → found st orb move tol k ≡ Hit d l s o → ray_at st orb move tol (pair_no st orb k) ≡ At d
+  ray_of : (k : ℕ) (d : Float) (l s o : ℕ) → found st orb move tol k ≡ Hit d l s o → ray_at st orb move tol (pair_no st orb k) ≡ Some d
   ray_of k d l s o e = (carried st orb move tol k d l s o e).meets
 
   number_of : (k : ℕ) (d : Float) (l s o : ℕ) → found st orb move tol k ≡ Hit d l s o → eq d d ≡ true
   unfolding found
   number_of k d l s o e = eq_self d (real (sweep_of move tol) _ _ _ _ d l s o e)
 
-  at_hit : (k : ℕ) (e d : Float) → ray_at st orb move tol (pair_no st orb k) ≡ At e → at d k ≡ eq e d
+  at_hit : (k : ℕ) (e d : Float) → ray_at st orb move tol (pair_no st orb k) ≡ Some e → at d k ≡ eq e d
   unfolding hit_is
   at_hit k e d h = rw h
 
@@ -72,9 +71,9 @@ module _ (st orb : List Float) (move : Point) (tol : Float) where
   unfolding hit_is found sweep_of
   equal d i k h = go (ray_at st orb move tol (pair_no st orb k)) refl h
     where
-      go : (ray : Ray) → ray_at st orb move tol (pair_no st orb k) ≡ ray → hit_is (λ e. eq e d) ray ≡ true → Equal d k
-      go Miss r t = absurd (true≢false (sym t))
-      go (At e) r t =
+      go : (ray : Option Float) → ray_at st orb move tol (pair_no st orb k) ≡ ray → hit_is (λ e. eq e d) ray ≡ true → Equal d k
+      go None r t = absurd (true≢false (sym t))
+      go (Some e) r t =
           record {
             distance = e;
             kind = _;

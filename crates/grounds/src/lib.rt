@@ -16,7 +16,7 @@ ghost use Rattle.grounds.specs.Scan.{kind_most, pairs_most, AtMost, no_tally, ot
 ghost use Rattle.grounds.specs.Explanation.{explanation_of};
 
 use chains::{NUMBERS, chain_end, fill, is_chained, is_passed};
-use collision::{Collision, Ray, Sweep, back, edge_ray, pair, rays};
+use collision::{Collision, Sweep, back, edge_ray, pair, rays};
 use plane::Point;
 use plane::vector::length;
 use ring::point_at;
@@ -37,7 +37,7 @@ pub enum Ground {
 #[derive(Clone, Copy)]
 struct Met {
     edge: usize,
-    ray: Ray,
+    ray: Option<f64>,
 }
 
 // What is known of the pairs scanned: the nearest hit that counts, how many other pairs have its very distance, and how many hits are too
@@ -175,13 +175,13 @@ fn first_hit(origin: Point, edges: &[f64], sweep: Sweep, from: usize, to: usize)
 {
     for e in from..to {
         let ray = edge_ray(origin, sweep.dir, edges, e, sweep.tolerance);
-        if let Ray::At(_) = ray {
+        if let Some(_) = ray {
             return Met { edge: e, ray };
         }
     }
     Met {
         edge: to,
-        ray: Ray::Miss,
+        ray: None,
     }
 }
 
@@ -207,10 +207,7 @@ fn next_hit(origin: Point, edges: &[f64], table: &[f64], sweep: Sweep, from: usi
         }
         e = to;
     }
-    Met {
-        edge: n,
-        ray: Ray::Miss,
-    }
+    Met { edge: n, ray: None }
 }
 
 // Each vertex of one ring against each edge of the other, from what was known before, with a table of the edges' chains or an
@@ -242,8 +239,8 @@ fn scan_by(
         let ray = met.ray;
         if k < m {
             e = k + 1;
-            if let Ray::At(d) = ray {
-                let new = pair(Ray::At(d), sweep, kind, v, k);
+            if let Some(d) = ray {
+                let new = pair(ray, sweep, kind, v, k);
                 others = others_after(others, best, new);
                 near = one_more(near, d <= sweep.tolerance);
                 between = one_more(between, in_between(d, sweep));

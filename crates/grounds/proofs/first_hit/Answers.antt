@@ -6,8 +6,8 @@ use Rattle.grounds.proofs.first_hit.Goals as goal
 pub loop-e-init : goal.loop-e-init
 loop-e-init c = none_missed _ _ _ _ _
 
-pub returns-in-At : goal.returns-in-At
-returns-in-At c =
+pub returns-in-Some : goal.returns-in-Some
+returns-in-Some c =
     let i = c.loop-e.invariant in
     record { not_before = c.loop-e.auto.e; not_after = c.loop-e.auto.e-end (omega arith); misses = i; hits = λ h. c.edge_ray-ray.ensures }
 
