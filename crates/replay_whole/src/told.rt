@@ -5,7 +5,7 @@ use refusals::Refusal;
 use refusals::answer::{Truth, Turn};
 use whole_engine::answer::Whole;
 
-#[derive(Clone, Copy)]
+#[derive(Clone, Copy, Debug, PartialEq, Eq)]
 pub struct Told {
     pub number: u64,
     pub value: u64,
