@@ -3,7 +3,7 @@ use crate::words::word_of;
 use plane::Orientation;
 use refusals::Refusal;
 
-#[derive(Clone, Copy)]
+#[derive(Clone, Copy, Debug, PartialEq, Eq)]
 pub struct Told {
     pub number: u64,
     pub value: u64,

@@ -7,20 +7,20 @@ use Rattle.refusals.specs.Bounds.{coordinate}
 use Rattle.refusals.proofs.Every.{every_on, every_off, every_end, every_at}
 use Rattle.whole_input.proofs.are_whole.Goals as goal
 
-pub loop-i-init : goal.loop-i-init
-loop-i-init c = refl
+pub loop-x-init : goal.loop-x-init
+loop-x-init c = refl
 
 pub is_whole-requires : goal.is_whole-requires
 is_whole-requires c =
-    every_at coordinate _ c.loop-i.i c.requires c.loop-i-test.true
+    every_at coordinate _ c.loop-x.x-index c.requires c.loop-x-test.true
 
-pub loop-i-preserved : goal.loop-i-preserved
-loop-i-preserved c =
-    c.loop-i.invariant ∙ every_on _ _ _ c.loop-i-test.true (sym c.is_whole.ensures ∙ not-false c.is_whole.result (ap not c.if-not-is_whole.false))
+pub loop-x-preserved : goal.loop-x-preserved
+loop-x-preserved c =
+    c.loop-x.invariant ∙ every_on _ _ _ c.loop-x-test.true (sym c.is_whole.ensures ∙ not-false c.is_whole.result (ap not c.if-not-is_whole.false))
 
 pub returns-then-not-is_whole : goal.returns-then-not-is_whole
 returns-then-not-is_whole c =
-    sym (c.loop-i.invariant ∙ every_off _ _ _ c.loop-i-test.true (sym c.is_whole.ensures ∙ not-true c.is_whole.result (ap not c.if-not-is_whole.true)))
+    sym (c.loop-x.invariant ∙ every_off _ _ _ c.loop-x-test.true (sym c.is_whole.ensures ∙ not-true c.is_whole.result (ap not c.if-not-is_whole.true)))
 
 pub returns : goal.returns
-returns c = sym (c.loop-i.invariant ∙ every_end _ _ _ c.loop-i-test.false)
+returns c = sym (c.loop-x.invariant ∙ every_end _ _ _ c.loop-x-test.false)

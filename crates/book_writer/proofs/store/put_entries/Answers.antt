@@ -26,12 +26,6 @@ loop-i-init c =
     let a = c.args in
     (refl, (omega arith), entries_start a.room.now a.counts.now a.parts.now a.from)
 
-pub overflow_cast-n : goal.overflow_cast-n
-overflow_cast-n c = omega (arith, c.shared_slice_known-in-loop-i-1.given c.loop-i.i)
-
-pub overflow_cast-parts : goal.overflow_cast-parts
-overflow_cast-parts c = omega (arith, c.shared_slice_known-in-loop-i-2-1.given c.loop-i.i)
-
 pub overflow_mul-before : goal.overflow_mul-before
 overflow_mul-before c = omega (arith, share (up-In-loop-i _ _ _ _ _ _ c.before.before.before.before.before.before.before.before.before.before.before.before.before.before.before))
 
