@@ -2,9 +2,10 @@
 #![tactic(auto, using(refusals::proofs::Tests::refused))]
 
 ghost use Rattle.std.specs.Prelude.{◌≡◌};
-ghost use Rattle.collision.specs.Calls.{checked, collision_call};
+ghost use Rattle.refusals.specs.Answers.{answered};
+ghost use Rattle.collision.specs.Calls.{collision_call};
 
-use crate::Collision;
+use crate::Hit;
 use plane::Point;
 use refusals::{Refusal, row};
 
@@ -14,8 +15,8 @@ pub fn check_translation_collision(
     orbiting: &[f64],
     translation: Point,
     tolerance: f64,
-) -> Result<Collision, Refusal>
-    ensures { checked result ≡ collision_call stationary.now orbiting.now translation tolerance }
+) -> Result<Option<Hit>, Refusal>
+    ensures { answered result ≡ collision_call stationary.now orbiting.now translation tolerance }
 {
     row::moving(stationary, orbiting, translation, tolerance)?;
     Ok(crate::check_translation_collision(stationary, orbiting, translation, tolerance))

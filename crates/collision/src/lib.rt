@@ -20,16 +20,14 @@ use plane::Point;
 use plane::vector::{cross, length, minus};
 use ring::{next, point_at};
 
-// What a move runs into. Kind 0 is a vertex of orbiting on an edge of stationary, kind 1 a vertex of stationary on an edge of orbiting.
+// What a move runs into, and how far off it is. Kind 0 is a vertex of orbiting on an edge of stationary, kind 1 a vertex of stationary on
+// an edge of orbiting.
 #[derive(Clone, Copy)]
-pub enum Collision {
-    Nothing,
-    Hit {
-        distance: f64,
-        kind: u8,
-        stationary: usize,
-        orbiting: usize,
-    },
+pub struct Hit {
+    pub distance: f64,
+    pub kind: u8,
+    pub stationary: usize,
+    pub orbiting: usize,
 }
 
 // A sweep of rays: their direction, the distance below which a hit counts, and the tolerance above which it does.
@@ -103,33 +101,27 @@ pub fn edge_ray(origin: Point, dir: Point, ring: &[f64], e: usize, tolerance: f6
 }
 
 // A ray's hit where it counts: above the tolerance and below the limit.
-fn counted(
-    ray: Option<f64>,
-    sweep: Sweep,
-    kind: u8,
-    stationary: usize,
-    orbiting: usize,
-) -> Collision
+fn counted(ray: Option<f64>, sweep: Sweep, kind: u8, stationary: usize, orbiting: usize) -> Option<Hit>
     ensures { result ≡ counted_of ray sweep kind stationary orbiting }
 {
     let Some(distance) = ray else {
-        return Collision::Nothing;
+        return None;
     };
     if distance > sweep.tolerance {
         if distance < sweep.limit {
-            return Collision::Hit {
+            return Some(Hit {
                 distance,
                 kind,
                 stationary,
                 orbiting,
-            };
+            });
         }
     }
-    Collision::Nothing
+    None
 }
 
 // What a ray of the vertex v of one ring makes of the edge e of the other.
-pub fn pair(ray: Option<f64>, sweep: Sweep, kind: u8, v: usize, e: usize) -> Collision
+pub fn pair(ray: Option<f64>, sweep: Sweep, kind: u8, v: usize, e: usize) -> Option<Hit>
     ensures { result ≡ pair_by ray sweep kind v e }
 {
     if kind == 0 {
@@ -140,19 +132,14 @@ pub fn pair(ray: Option<f64>, sweep: Sweep, kind: u8, v: usize, e: usize) -> Col
 }
 
 // The distance below which a hit is nearer than what was found: +infinity where that is nothing.
-fn least(best: Collision) -> f64
+#[tactic(auto, unfolding(crate::specs::Row::least_of))]
+fn least(best: Option<Hit>) -> f64
     ensures { result ≡ least_of best }
 {
-    let Collision::Hit {
-        distance: d,
-        kind: _,
-        stationary: _,
-        orbiting: _,
-    } = best
-    else {
-        return 1.0 / 0.0;
-    };
-    d
+    match best {
+        Some(hit) => hit.distance,
+        None => 1.0 / 0.0,
+    }
 }
 
 // Whether a hit at d counts and lies below a distance.
@@ -174,10 +161,10 @@ fn row(
     sweep: Sweep,
     kind: u8,
     v: usize,
-    before: Collision,
+    before: Option<Hit>,
     from: usize,
     to: usize,
-) -> Collision
+) -> Option<Hit>
     requires { (from ≤ to) × (to ≤ count edges.now) }
     ensures { Onward (pair_at origin edges.now sweep kind v) from to before result }
 {
@@ -203,8 +190,8 @@ fn chained_row(
     sweep: Sweep,
     kind: u8,
     v: usize,
-    before: Collision,
-) -> Collision
+    before: Option<Hit>,
+) -> Option<Hit>
     requires { Ready table.now edges.now sweep }
     ensures { Onward (pair_at origin edges.now sweep kind v) 0 (count edges.now) before result }
 {
@@ -228,8 +215,8 @@ fn rows_by(
     table: &[f64],
     sweep: Sweep,
     kind: u8,
-    before: Collision,
-) -> Collision
+    before: Option<Hit>,
+) -> Option<Hit>
     requires { Ready table.now edges.now sweep }
     ensures { result ≡ scan_of vertices.now edges.now sweep kind before }
 {
@@ -248,8 +235,8 @@ fn chained_scan(
     edges: &[f64],
     sweep: Sweep,
     kind: u8,
-    before: Collision,
-) -> Collision
+    before: Option<Hit>,
+) -> Option<Hit>
     requires { Few edges.now sweep }
     ensures { result ≡ scan_of vertices.now edges.now sweep kind before }
 {
@@ -264,8 +251,8 @@ fn plain_scan(
     edges: &[f64],
     sweep: Sweep,
     kind: u8,
-    before: Collision,
-) -> Collision
+    before: Option<Hit>,
+) -> Option<Hit>
     ensures { result ≡ scan_of vertices.now edges.now sweep kind before }
 {
     let n = vertices.len() / 2;
@@ -279,7 +266,7 @@ fn plain_scan(
 }
 
 // Each vertex of one ring against each edge of the other, from what was found before.
-fn scan(vertices: &[f64], edges: &[f64], sweep: Sweep, kind: u8, before: Collision) -> Collision
+fn scan(vertices: &[f64], edges: &[f64], sweep: Sweep, kind: u8, before: Option<Hit>) -> Option<Hit>
     ensures { result ≡ scan_of vertices.now edges.now sweep kind before }
 {
     if is_chained(edges.len() / 2, sweep.tolerance) {
@@ -305,11 +292,11 @@ pub fn back(sweep: Sweep) -> Sweep
 }
 
 // Both kinds of pair: orbiting vertices first, and then stationary vertices, which come the other way.
-fn both(stationary: &[f64], orbiting: &[f64], sweep: Sweep) -> Collision
+fn both(stationary: &[f64], orbiting: &[f64], sweep: Sweep) -> Option<Hit>
     ensures { result ≡ both_of stationary.now orbiting.now sweep }
 {
     let against = back(sweep);
-    let best = scan(orbiting, stationary, sweep, 0, Collision::Nothing);
+    let best = scan(orbiting, stationary, sweep, 0, None);
     scan(stationary, orbiting, against, 1, best)
 }
 
@@ -334,12 +321,12 @@ pub fn check_translation_collision(
     orbiting: &[f64],
     translation: Point,
     tolerance: f64,
-) -> Collision
+) -> Option<Hit>
     ensures { result ≡ collision_of stationary.now orbiting.now translation tolerance }
 {
     let len = length(translation);
     if len < tolerance {
-        return Collision::Nothing;
+        return None;
     }
     both(stationary, orbiting, rays(translation, len, tolerance))
 }
