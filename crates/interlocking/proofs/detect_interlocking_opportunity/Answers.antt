@@ -22,9 +22,9 @@ pub loop-i-preserved : goal.loop-i-preserved
 loop-i-preserved c =
     c.loop-i.invariant ∙ found_on _ _ _ c.loop-i-test.true c.candidate.ensures c.in_default.is
 
-pub returns-in-At : goal.returns-in-At
-returns-in-At c =
-    sym (c.loop-i.invariant ∙ found_here _ _ _ c.loop-i-test.true c.candidate.ensures c.in-At.is)
+pub returns-in-Some : goal.returns-in-Some
+returns-in-Some c =
+    sym (c.loop-i.invariant ∙ found_here _ _ _ c.loop-i-test.true c.candidate.ensures c.in-Some.is)
 
 pub returns : goal.returns
 returns c = sym (c.loop-i.invariant ∙ found_none _ _ _ c.loop-i-test.false)
