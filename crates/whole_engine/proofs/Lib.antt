@@ -11,5 +11,4 @@ pub mod Read
 pub mod Passed
 pub mod Standing
 pub mod Agrees
-pub mod Only
 pub mod Worked

@@ -1,7 +1,6 @@
 // The segment predicates, the test of a ring and twice its area in whole numbers: coordinates are moved up, so that none is below zero.
 #![tactic(auto)]
 
-pub mod answer;
 pub mod calls;
 pub mod row;
 
