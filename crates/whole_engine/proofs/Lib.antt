@@ -11,4 +11,5 @@ pub mod Read
 pub mod Passed
 pub mod Standing
 pub mod Agrees
+pub mod Only
 pub mod Worked
