@@ -1,7 +1,6 @@
 // Whether a closed path of whole points is clear: the search for a reason on each of its legs, until one that is not clear.
 #![tactic(auto)]
 
-pub mod answer;
 pub mod calls;
 pub mod row;
 
