@@ -28,7 +28,7 @@ fn put_front(kind: u8, stationary: usize, orbiting: usize, out: &mut [u8]) -> us
 // A hit's line.
 fn put_hit(hit: Hit, others: u64, out: &mut [u8]) -> usize
     requires { 120 ≤ length out.old }
-    ensures { Put out.old 0 (hit_line (values hit) others) out.new result }
+    ensures { Put out.old 0 (hit_line hit others) out.new result }
 {
     let a = put_front(hit.kind, hit.stationary, hit.orbiting, out);
     let b = put_hex(out, a, bits_of(hit.distance));

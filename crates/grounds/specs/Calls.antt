@@ -5,7 +5,7 @@ use Rattle.plane.specs.declared.Point.{Point}
 use Rattle.refusals.specs.Rows.{of_moving}
 use Rattle.refusals.specs.declared.Refusal.{Refusal}
 use Rattle.refusals.specs.Answers.{Outcome, answers, refuses, outcome, tells}
-use Rattle.collision.specs.Calls.{Values, values}
+use Rattle.collision.specs.Calls.{}
 use Rattle.grounds.specs.Grounds.{ground_number}
 use Rattle.grounds.specs.Explanation.{explanation_of}
 use Rattle.grounds.specs.declared.Explanation.{Explanation}

@@ -2,7 +2,7 @@
 use Rattle.std.specs.Prelude.{ℕ, Bool, cond, Float, Option, None, Some}
 use Rattle.plane.specs.declared.Point.{Point}
 use Rattle.projection.specs.Calls.{Projection}
-use Rattle.collision.specs.Calls.{Values}
+use Rattle.collision.specs.declared.Hit.{Hit}
 use Rattle.refusals.specs.Answers.{Outcome, answers, refuses}
 use Rattle.refusals.specs.Refusals as refusal
 use Rattle.refusals.specs.Refusals.{Told}
@@ -62,14 +62,14 @@ abbrev pub foot_in : Projection → ℕ
 foot_in p = p.foot
 
 -- a hit's values
-abbrev pub hit_distance : Values → Float
+abbrev pub hit_distance : Hit → Float
 hit_distance v = v.distance
 
-abbrev pub hit_kind : Values → ℕ
+abbrev pub hit_kind : Hit → ℕ
 hit_kind v = v.kind
 
-abbrev pub hit_stationary : Values → ℕ
+abbrev pub hit_stationary : Hit → ℕ
 hit_stationary v = v.stationary
 
-abbrev pub hit_orbiting : Values → ℕ
+abbrev pub hit_orbiting : Hit → ℕ
 hit_orbiting v = v.orbiting

@@ -3,7 +3,6 @@
 #![tactic(auto, unfolding(crate::specs::Handed::refusal_in, crate::specs::Handed::told, crate::specs::Handed::told_found, crate::specs::Handed::is_found))]
 
 ghost use Rattle.std.specs.Prelude.{◌≡◌};
-ghost use Rattle.collision.specs.Calls.{checked};
 ghost use Rattle.refusals.specs.Answers.{answered, tested};
 ghost use Rattle.handed.specs.Handed.{refusal_in, told, told_found, itself, is_found, x_of, y_of, hit_distance, hit_kind, hit_stationary, hit_orbiting};
 
@@ -63,12 +62,12 @@ pub fn hand_checked(
     si: &mut u64,
     oi: &mut u64,
 ) -> Result<(), Refusal>
-    ensures { (tested result ≡ refusal_in (checked answer))
-        × (found.new ≡ told is_found (checked answer) found.old)
-        × (distance.new ≡ told_found hit_distance (checked answer) distance.old)
-        × (kind.new ≡ told_found hit_kind (checked answer) kind.old)
-        × (si.new ≡ told_found hit_stationary (checked answer) si.old)
-        × (oi.new ≡ told_found hit_orbiting (checked answer) oi.old) }
+    ensures { (tested result ≡ refusal_in (answered answer))
+        × (found.new ≡ told is_found (answered answer) found.old)
+        × (distance.new ≡ told_found hit_distance (answered answer) distance.old)
+        × (kind.new ≡ told_found hit_kind (answered answer) kind.old)
+        × (si.new ≡ told_found hit_stationary (answered answer) si.old)
+        × (oi.new ≡ told_found hit_orbiting (answered answer) oi.old) }
 {
     match answer? {
         None => *found = 0,
