@@ -19,7 +19,7 @@ use whole_moves::lift_moved;
 
 // What is found: every leg is clear; this is the first leg that is not, and this edge the first that is not parted there; it is,
 // and the way is enclosed.
-#[derive(Clone, Copy)]
+#[derive(Clone, Copy, Debug, PartialEq, Eq)]
 pub enum PathGround {
     Clear,
     Edge { leg: usize, edge: usize },

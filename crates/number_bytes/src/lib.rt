@@ -65,7 +65,7 @@ pub fn put(room: &mut [u8], at: usize, k: usize, n: u64)
     let mut rest = n;
     for i in 0..k {
         room[at + i] = (rest % 256) as u8;
-        rest = rest / 256;
+        rest /= 256;
     }
 }
 

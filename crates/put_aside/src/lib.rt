@@ -50,20 +50,6 @@ fn way_of(how: u32) -> u32
     if how <= 10 { how } else { how - 10 }
 }
 
-// The smaller of two numbers.
-fn smaller(x: u64, y: u64) -> u64
-    ensures { result ≡ min x y }
-{
-    if y < x { y } else { x }
-}
-
-// The larger of two numbers.
-fn larger(x: u64, y: u64) -> u64
-    ensures { result ≡ max x y }
-{
-    if x < y { y } else { x }
-}
-
 // How far a corner lies across the move, and 8,000,000,000,000.
 fn across_of(from: Spot, to: Spot, v: Spot) -> u64
     requires { Small from × Small to × Small v }
@@ -96,8 +82,8 @@ fn middle_of(axis: u32, list: &[u64], from: Spot, to: Spot) -> u64
     let mut high = low;
     for i in 0..n {
         let k = level(axis, from, to, spot_at(list, i));
-        low = smaller(low, k);
-        high = larger(high, k);
+        low = low.min(k);
+        high = high.max(k);
     }
     (low + high) / 2
 }

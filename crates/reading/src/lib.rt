@@ -153,6 +153,7 @@ fn settle(ring: &[f64], keys: &[u64], back: bool) -> Starts
         second: 1,
         alike: 0,
     };
+    // What the keys are decides which starts come next, so a `for` would be no plainer.
     while s.second < n {
         if s.alike == ring.len() {
             return s;

@@ -15,7 +15,7 @@ use ring::next;
 use shifted::{Spot, spot_at};
 
 // What is found: the reason holds; this edge is the first that is not parted; all are, and the way is enclosed.
-#[derive(Clone, Copy)]
+#[derive(Clone, Copy, Debug, PartialEq, Eq)]
 pub enum Ground {
     Clear,
     Edge(usize),
@@ -50,7 +50,7 @@ fn right_on(p: Spot, q: Spot, v: Spot) -> bool
 pub fn differ(p: Spot, q: Spot) -> bool
     ensures { result ≡ differ p q }
 {
-    if p.x == q.x { p.y != q.y } else { true }
+    p != q
 }
 
 // Whether the whole way is left of the line from p to q, or on it.
@@ -100,7 +100,7 @@ pub fn parts(a: &[u64], b: &[u64], s: Spot, t: Spot, p: Spot, q: Spot) -> bool
 pub fn smaller(x: u64, y: u64) -> u64
     ensures { result ≡ min x y }
 {
-    if y < x { y } else { x }
+    x.min(y)
 }
 
 // The least height of the way's corners, at the start and at the end.

@@ -2,10 +2,9 @@
 // parts it, and then the balance. All numbers are moved up, so that none is below zero: 1000000 stands for 0.
 #![tactic(auto)]
 
-ghost use Rattle.std.specs.Prelude.{◌≡◌, ◌+◌, ◌*◌, ◌/◌, ◌≤◌, ◌<◌, max, length};
+ghost use Rattle.std.specs.Prelude.{◌≡◌, ◌+◌, ◌*◌, ◌/◌, ◌≤◌, ◌<◌, length};
 ghost use Rattle.std.proofs.lemmas.List.Edits.{sets};
 ghost use Rattle.shifted.specs.Shifted.{Small, spot_at};
-ghost use Rattle.reasons.specs.Crossing.{one};
 ghost use Rattle.reason_check.specs.Lent.{WayLent};
 ghost use Rattle.reason_check.specs.Told.{ground};
 ghost use Rattle.reason_search.specs.Lines.{line, spot, lesser, greater, box_line, either_way};
@@ -15,7 +14,7 @@ ghost use Rattle.reason_search.specs.Room.{SearchLent, numbers, room_of};
 ghost use Rattle.reason_search.specs.Noted.{IsBox, first_side, useful, way_lines, line_in, Noted};
 ghost use Rattle.reason_search.specs.Noted.{Prepared, Ready, helpful, first_of_way, Held};
 
-use reason_check::{Ground, balanced, differ, edge_right, lowest, parts, smaller, way_left};
+use reason_check::{Ground, balanced, differ, edge_right, lowest, parts, way_left};
 use ring::next;
 use shifted::{Spot, spot_at};
 
@@ -33,20 +32,13 @@ pub struct Span {
     pub high: Spot,
 }
 
-// The larger of two numbers.
-fn larger(x: u64, y: u64) -> u64
-    ensures { result ≡ max x y }
-{
-    if x < y { y } else { x }
-}
-
 // The lower left corner of the box of two points.
 fn low_of(u: Spot, v: Spot) -> Spot
     ensures { result ≡ lesser u v }
 {
     Spot {
-        x: smaller(u.x, v.x),
-        y: smaller(u.y, v.y),
+        x: u.x.min(v.x),
+        y: u.y.min(v.y),
     }
 }
 
@@ -55,8 +47,8 @@ fn high_of(u: Spot, v: Spot) -> Spot
     ensures { result ≡ greater u v }
 {
     Spot {
-        x: larger(u.x, v.x),
-        y: larger(u.y, v.y),
+        x: u.x.max(v.x),
+        y: u.y.max(v.y),
     }
 }
 
@@ -153,13 +145,6 @@ fn is_useful(a: &[u64], b: &[u64], c: usize) -> bool
     }
 }
 
-// 1 for true.
-fn flag(yes: bool) -> u8
-    ensures { result ≡ one yes }
-{
-    if yes { 1 } else { 0 }
-}
-
 // Notes for each line of the way whether it is of use.
 fn note(a: &[u64], b: &[u64], flags: &mut [u8])
     requires { WayLent a.now b.now × (way_lines a.now ≤ length flags.old) }
@@ -167,7 +152,7 @@ fn note(a: &[u64], b: &[u64], flags: &mut [u8])
 {
     let most = 6 * (a.len() / 2);
     for c in 0..most {
-        flags[c] = flag(is_useful(a, b, c));
+        flags[c] = u8::from(is_useful(a, b, c));
     }
 }
 

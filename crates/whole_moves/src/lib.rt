@@ -11,7 +11,7 @@ ghost use Rattle.whole_moves.specs.Moved.{moved_by, moved_up, down_of};
 pub fn moved(z: i32, d: i32) -> i64
     ensures { result ≡ z +ℤ d }
 {
-    z as i64 + d as i64
+    i64::from(z) + i64::from(d)
 }
 
 // Whether a coordinate that is moved is within a million.

@@ -1,4 +1,3 @@
-use Prim.Native.Nat.{◌-◌}
 use Rattle.put_aside.proofs.Laying.{Laid}
 use Rattle.put_aside.proofs.lay.Given as goal
 

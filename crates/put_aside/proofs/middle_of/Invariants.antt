@@ -1,4 +1,3 @@
-use Prim.Native.Nat.{◌-◌, ◌≤◌}
 use Rattle.shifted.specs.Shifted.{spot_at}
 use Rattle.put_aside.specs.Middle.{level}
 use Rattle.put_aside.proofs.Leasts.{Between}

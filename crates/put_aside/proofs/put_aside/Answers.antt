@@ -1,6 +1,4 @@
 -- `put_aside::put_aside` meets its contract: the rule, the test, and the corners. Assumes nothing.
-use mathlib.Core.Path.{ap}
-use mathlib.Core.Bool.{not}
 use Rattle.put_aside.proofs.Laying.{leaves, stays}
 use Rattle.put_aside.proofs.put_aside.Goals as goal
 

@@ -1,16 +1,10 @@
 -- `put_aside::stay_by` meets its contract. The invariant: the corners from i on decide. Assumes nothing.
-use mathlib.Core.Bool.{not}
-use mathlib.Core.Path.{ap, sym}
-use Rattle.put_aside.proofs.Leasts.{small_at}
+use mathlib.Core.Path.{sym}
 use Rattle.put_aside.proofs.Laying.{rest_start, rest_off, rest_turn, rest_end}
 use Rattle.put_aside.proofs.stay_by.Goals as goal
 
 pub loop-i-init : goal.loop-i-init
 loop-i-init c = rest_start _ _
-
-pub corner_by-requires : goal.corner_by-requires
-corner_by-requires c =
-    (c.requires.1, small_at c.args.list.now c.requires.0 c.loop-i.i c.loop-i-test.true c.spot_at.ensures)
 
 pub returns-then-not-on_grid : goal.returns-then-not-on_grid
 returns-then-not-on_grid c =

@@ -1,4 +1,3 @@
-use Prim.Native.Nat.{◌-◌}
 use Rattle.put_aside.proofs.Laying.{Rest}
 use Rattle.put_aside.proofs.stay_by.Given as goal
 

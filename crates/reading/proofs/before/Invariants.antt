@@ -1,6 +1,5 @@
-use Prim.Native.Nat.{◌-◌, ◌≤◌}
 use mathlib.Core.Path.{◌≡◌}
-use lib.ListN.{length, drop}
+use lib.ListN.{drop}
 use Rattle.reading.specs.Reading.{flat, less, earlier, choice}
 use Rattle.reading.specs.Lent.{ring_of}
 use Rattle.reading.proofs.before.Given as goal

@@ -1,4 +1,4 @@
-use Prim.Native.Nat.{◌-◌, ◌/◌}
+use Prim.Native.Nat.{◌/◌}
 use lib.ListN.{length}
 use Rattle.reasons.specs.Check.{corner, line_from, line_to}
 use Rattle.reason_check.proofs.Marks.{Counted}

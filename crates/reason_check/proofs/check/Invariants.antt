@@ -1,4 +1,3 @@
-use Prim.Native.Nat.{◌-◌}
 use Rattle.reason_check.proofs.Edges.{Edges}
 use Rattle.reason_check.proofs.check.Given as goal
 

@@ -1,4 +1,3 @@
-use Prim.Native.Nat.{◌-◌, ◌≤◌}
 use mathlib.Core.Path.{◌≡◌}
 use Rattle.shifted.specs.Shifted.{spot_at}
 use Rattle.reasons.specs.Lowest.{lowest}

@@ -1,6 +1,4 @@
 -- `reason_check::parts` meets its contract: one test after the other. Assumes nothing.
-use mathlib.Core.Path.{ap}
-use mathlib.Core.Bool.{not}
 use Rattle.reason_check.proofs.Corners.{one_point, edge_off, way_decides}
 use Rattle.reason_check.proofs.parts.Goals as goal
 

@@ -1,8 +1,6 @@
 -- `reason_check::way_left` meets its contract. The invariant: the corners from i on decide. Assumes nothing.
-use mathlib.Core.Bool.{not}
 use native.Mathlib.Omega.{arith}
-use mathlib.Core.Path.{ap, sym}
-use Rattle.shifted.specs.Shifted.{spot_at}
+use mathlib.Core.Path.{sym}
 use Rattle.reason_check.proofs.Small.{small_at}
 use Rattle.reason_check.proofs.Way.{start, start_off, end_off, turn, done}
 use Rattle.reason_check.proofs.way_left.Goals as goal

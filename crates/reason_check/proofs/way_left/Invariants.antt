@@ -1,4 +1,4 @@
-use Prim.Native.Nat.{◌-◌, ◌/◌}
+use Prim.Native.Nat.{◌/◌}
 use lib.ListN.{length}
 use Rattle.shifted.specs.Shifted.{spot_at}
 use Rattle.reason_check.proofs.Way.{Rest}

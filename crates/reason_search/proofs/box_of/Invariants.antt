@@ -1,4 +1,3 @@
-use Prim.Native.Nat.{◌-◌, ◌≤◌}
 use mathlib.Core.Path.{◌≡◌}
 use Rattle.shifted.specs.Shifted.{spot_at}
 use Rattle.reason_search.specs.Lines.{box_low, box_high}

@@ -1,4 +1,3 @@
-use Prim.Native.Nat.{◌-◌}
 use Rattle.reasons.proofs.First.{Rest}
 use Rattle.reason_search.specs.Noted.{beside_box}
 use Rattle.reason_search.proofs.first_side.Given as goal

@@ -1,4 +1,3 @@
-use Prim.Native.Nat.{◌-◌}
 use Rattle.reason_search.proofs.Flags.{Flags}
 use Rattle.reason_search.proofs.note.Given as goal
 

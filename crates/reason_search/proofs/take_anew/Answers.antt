@@ -1,7 +1,6 @@
 -- `reason_search::take_anew` meets its contract: a side of the box, a line of the way, or the edge's own. Assumes nothing.
-use Prim.Native.Nat.{◌≤◌}
-use mathlib.Core.Path.{◌≡◌, refl}
-use Rattle.reason_search.specs.Noted.{way_lines, first_side, first_of_way}
+use mathlib.Core.Path.{refl}
+use Rattle.reason_search.specs.Noted.{way_lines}
 use Rattle.reason_search.proofs.Below.{of_some, of_none}
 use Rattle.reason_search.proofs.Firsts.{box_fits, anew_side, anew_way, anew_own, anew_last, some_is, none_is}
 use Rattle.reason_search.proofs.take_anew.Goals as goal

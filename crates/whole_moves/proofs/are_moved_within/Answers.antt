@@ -1,15 +1,14 @@
 -- `whole_moves::are_moved_within` meets its contract. The invariant: what is left of the list, moved by d first, decides.
 -- Assumes nothing.
-use mathlib.Core.Bool.{not}
-use mathlib.Core.Path.{◌≡◌, sym, ap, ◌∙◌}
+use mathlib.Core.Path.{◌≡◌, sym}
 use lib.ListN.{get_or}
 use mir.Syntax.{w32}
 use mir.Val.{to_z}
 use mir.ValLaws.{to_z-of_z}
-use lib.IntN.{ℤ, pos, ◌+ℤ◌}
+use lib.IntN.{pos, ◌+ℤ◌}
 use Rattle.std.proofs.Common.{rules}
 use Rattle.shifted.specs.Shifted.{in_bounds}
-use Rattle.whole_moves.proofs.Turns.{rest_start, rest_off, rest_turn, rest_end}
+use Rattle.whole_moves.proofs.Turns.{rest_off, rest_turn, rest_end}
 use Rattle.whole_moves.proofs.are_moved_within.Goals as goal
 use Rattle.whole_moves.proofs.are_moved_within.Goals.{After-is_moved_within}
 
@@ -17,9 +16,6 @@ use Rattle.whole_moves.proofs.are_moved_within.Goals.{After-is_moved_within}
 is : (c : After-is_moved_within)
     → (c.is_moved_within.result ≡ in_bounds (get_or c.args.list.now c.loop-z.z-index (pos 0) +ℤ to_z w32 c.loop-z.d-bits))
 is c = search rules
-
-pub loop-z-init : goal.loop-z-init
-loop-z-init c = rest_start _ _ _
 
 pub returns-then-not-is_moved_within : goal.returns-then-not-is_moved_within
 returns-then-not-is_moved_within c =

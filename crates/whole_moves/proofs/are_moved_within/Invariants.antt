@@ -1,5 +1,3 @@
-use Prim.Native.Nat.{◌-◌}
-use lib.ListN.{length}
 use Rattle.whole_moves.proofs.Turns.{Rest}
 use Rattle.whole_moves.proofs.are_moved_within.Given as goal
 

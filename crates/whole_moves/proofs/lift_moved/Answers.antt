@@ -1,18 +1,14 @@
 -- `whole_moves::lift_moved` meets its contract. The invariant: what is written, and then what is left of the list, moved by d
 -- first, is the whole list moved; the rest of the room is as it came. Assumes nothing.
-use mathlib.Core.Path.{ap, ◌∙◌}
 use lib.ListN.{get_or}
 use mir.Syntax.{w32}
 use mir.Val.{to_z}
 use mir.ValLaws.{to_z-of_z}
-use lib.IntN.{ℤ, pos, ◌+ℤ◌}
+use lib.IntN.{pos, ◌+ℤ◌}
 use Rattle.std.proofs.Common.{◌≡◌, rules}
 use Rattle.shifted.specs.Shifted.{up_of}
-use Rattle.whole_moves.proofs.Turns.{lift_start, lift_turn, lift_end}
+use Rattle.whole_moves.proofs.Turns.{lift_turn, lift_end}
 use Rattle.whole_moves.proofs.lift_moved.Goals as goal
-
-pub loop-i-init : goal.loop-i-init
-loop-i-init c = lift_start _ _ _ _
 
 pub loop-i-preserved : goal.loop-i-preserved
 loop-i-preserved c =

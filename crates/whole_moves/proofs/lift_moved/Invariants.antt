@@ -1,5 +1,3 @@
-use Prim.Native.Nat.{◌-◌}
-use lib.ListN.{length}
 use Rattle.whole_moves.proofs.Turns.{Lifted}
 use Rattle.whole_moves.proofs.lift_moved.Given as goal
 

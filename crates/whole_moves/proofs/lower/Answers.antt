@@ -7,7 +7,7 @@ use native.Mathlib.Omega.{arith}
 use Rattle.std.proofs.Common.{get_or-take}
 use lib.ListN.{length, get_or, take}
 use lib.Seq.{length-take-le}
-use Rattle.whole_moves.proofs.Lowered.{down_stands, start, turn, done}
+use Rattle.whole_moves.proofs.Lowered.{down_stands, turn}
 use Rattle.whole_moves.proofs.lower.Goals as goal
 
 -- the front of the list has n numbers, those of the list
@@ -16,26 +16,8 @@ front list n i there more =
     let h : i < n = omega (arith, length-take-le n list there) in
     (h, get_or-take n list i 0 h)
 
-pub loop-i-init : goal.loop-i-init
-loop-i-init c = start _ _ _
-
-pub down-requires : goal.down-requires
-down-requires c =
-    let f = front c.args.list.now c.args.n c.loop-i.i c.requires.n_in_bounds.0 c.loop-i-test.true in
-    rw f.1 (c.requires.by_index c.loop-i.i f.0)
-
-pub bounds-room-i : goal.bounds-room-i
-bounds-room-i c =
-    let f = front c.args.list.now c.args.n c.loop-i.i c.requires.n_in_bounds.0 c.loop-i-test.true in
-    omega (arith, c.loop-i.invariant.same, c.requires.n_in_bounds.1)
-
 pub loop-i-preserved : goal.loop-i-preserved
 loop-i-preserved c =
     let f = front c.args.list.now c.args.n c.loop-i.i c.requires.n_in_bounds.0 c.loop-i-test.true in
     let e = rw f.1 at c.down.ensures in
     turn _ _ _ c.requires.n_in_bounds.0 c.requires.n_in_bounds.1 f.0 (down_stands _ (c.requires.by_index c.loop-i.i f.0) e) c.loop-i.invariant
-
-pub returns : goal.returns
-returns c =
-    let e = length-take-le c.args.n c.args.list.now c.requires.n_in_bounds.0 in
-    done _ _ _ c.requires.n_in_bounds.0 c.requires.n_in_bounds.1 (omega arith) c.loop-i.invariant

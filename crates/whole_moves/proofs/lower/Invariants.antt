@@ -1,4 +1,3 @@
-use Prim.Native.Nat.{◌-◌}
 use Rattle.whole_moves.proofs.Lowered.{Lowered}
 use Rattle.whole_moves.proofs.lower.Given as goal
 
