@@ -1,6 +1,6 @@
 -- A loop that asks one point after the other for its fault: what is left of the row decides. Assumes nothing.
 use Prim.Native.Nat.{ℕ, suc, ◌+◌, ◌-◌, ◌≤◌, ◌<◌}
-use mathlib.Core.Path.{◌≡◌}
+use mathlib.Core.Path.{◌≡◌, refl}
 use native.Mathlib.Omega.{arith}
 use native.Mathlib.Numerals.{add-one}
 use Rattle.path_check.specs.Path.{or_else, first_fault}
@@ -15,13 +15,11 @@ module _ (f : ℕ → Fault) (k n : ℕ) where
   unfolding first_fault or_else
   fault_on h e t = rw (one_less h, ← e, t, add-one k)
 
-  pub at_point : {v : Fault} {i : ℕ} → k < n → v ≡ f k → v ≡ Point i → first_fault f k (n - k) ≡ Point i
+  pub fault_here : (v : Fault) → k < n → v ≡ f k → (v ≡ Nothing → ⊥) → first_fault f k (n - k) ≡ v
   unfolding first_fault or_else
-  at_point h e t = rw (one_less h, ← e, t)
-
-  pub at_leg : {v : Fault} {i : ℕ} → k < n → v ≡ f k → v ≡ Leg i → first_fault f k (n - k) ≡ Leg i
-  unfolding first_fault or_else
-  at_leg h e t = rw (one_less h, ← e, t)
+  fault_here Nothing h e t = absurd (t refl)
+  fault_here (Point i) h e t = rw (one_less h, ← e) refl
+  fault_here (Leg i) h e t = rw (one_less h, ← e) refl
 
   pub fault_none : n ≤ k → first_fault f k (n - k) ≡ Nothing
   unfolding first_fault

@@ -80,12 +80,10 @@ pub fn path_fault(stationary: &[f64], orbiting: &[f64], tol: f64, path: &[f64]) 
 {
     let n = path.len() / 2;
     let mut room = [0.0; 512];
-    let mut i = 0;
-    while i < n {
+    for i in 0..n {
         match fault_at(stationary, orbiting, tol, path, i, &mut room) {
-            Fault::Nothing => i += 1,
-            Fault::Point(j) => return Fault::Point(j),
-            Fault::Leg(j) => return Fault::Leg(j),
+            Fault::Nothing => {}
+            fault => return fault,
         }
     }
     Fault::Nothing
