@@ -112,11 +112,9 @@ pub fn fill(edges: &[f64], dir: Point, table: &mut [f64])
     ensures { Tabled table.new dir edges.now (count edges.now) }
 {
     let n = edges.len() / 2;
-    let mut e = 0;
-    while e < n {
-        let to = chain_end(e, n);
-        put_chain(table, e / 8, chain_of(edges, dir, e, to));
-        e = to;
+    for c in 0..n.div_ceil(8) {
+        let from = 8 * c;
+        put_chain(table, c, chain_of(edges, dir, from, chain_end(from, n)));
     }
 }
 

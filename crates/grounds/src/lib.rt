@@ -33,11 +33,11 @@ pub enum Ground {
     BothSides,
 }
 
-// An edge that a ray meets, with the ray against it.
+// An edge that a ray meets, and how far along the ray.
 #[derive(Clone, Copy)]
 struct Met {
     edge: usize,
-    ray: Option<f64>,
+    distance: f64,
 }
 
 // What is known of the pairs scanned: the nearest hit that counts, how many other pairs have its very distance, and how many hits are too
@@ -168,26 +168,22 @@ fn is_nearer(new: Collision, best: Collision) -> bool
     e < d
 }
 
-// The first edge from one on and below another that the ray from origin does not miss, or the other.
-fn first_hit(origin: Point, edges: &[f64], sweep: Sweep, from: usize, to: usize) -> Met
+// The first edge from one on and below another that the ray from origin does not miss.
+fn first_hit(origin: Point, edges: &[f64], sweep: Sweep, from: usize, to: usize) -> Option<Met>
     requires { (from ≤ to) × (to ≤ count edges.now) }
     ensures { MetFirst edges.now sweep.dir sweep.tolerance origin from to result }
 {
     for e in from..to {
-        let ray = edge_ray(origin, sweep.dir, edges, e, sweep.tolerance);
-        if let Some(_) = ray {
-            return Met { edge: e, ray };
+        if let Some(distance) = edge_ray(origin, sweep.dir, edges, e, sweep.tolerance) {
+            return Some(Met { edge: e, distance });
         }
     }
-    Met {
-        edge: to,
-        ray: None,
-    }
+    None
 }
 
-// The first edge from one on that the ray from origin does not miss, or as many as there are. The table has the chains of all
-// edges, so that those that the ray passes beside are left out, or it is empty.
-fn next_hit(origin: Point, edges: &[f64], table: &[f64], sweep: Sweep, from: usize) -> Met
+// The first edge from one on that the ray from origin does not miss. The table has the chains of all edges, so that those that the ray
+// passes beside are left out, or it is empty.
+fn next_hit(origin: Point, edges: &[f64], table: &[f64], sweep: Sweep, from: usize) -> Option<Met>
     requires from_bound { from ≤ count edges.now }
     requires ready { 0 < length table.now → Ready table.now edges.now sweep }
     ensures { MetFirst edges.now sweep.dir sweep.tolerance origin from (count edges.now) result }
@@ -197,17 +193,17 @@ fn next_hit(origin: Point, edges: &[f64], table: &[f64], sweep: Sweep, from: usi
         return first_hit(origin, edges, sweep, from, n);
     }
     let mut e = from;
+    // A while: the first chain may begin within a block of eight, and the last may end within one.
     while e < n {
         let to = chain_end(e, n);
         if !is_passed(table, e / 8, origin, sweep.dir) {
-            let met = first_hit(origin, edges, sweep, e, to);
-            if met.edge < to {
-                return met;
+            if let Some(met) = first_hit(origin, edges, sweep, e, to) {
+                return Some(met);
             }
         }
         e = to;
     }
-    Met { edge: n, ray: None }
+    None
 }
 
 // Each vertex of one ring against each edge of the other, from what was known before, with a table of the edges' chains or an
@@ -224,34 +220,25 @@ fn scan_by(
     requires ready { 0 < length table.now → Ready table.now edges.now sweep }
     ensures { result ≡ scan_noted vertices.now edges.now sweep kind before }
 {
-    let n = vertices.len() / 2;
-    let m = edges.len() / 2;
     let mut best = before.best;
     let mut others = before.others;
     let mut near = before.near;
     let mut between = before.between;
     let mut far = before.far;
-    let mut v = 0;
-    let mut e = 0;
-    while v < n {
-        let met = next_hit(point_at(vertices, v), edges, table, sweep, e);
-        let k = met.edge;
-        let ray = met.ray;
-        if k < m {
-            e = k + 1;
-            if let Some(d) = ray {
-                let new = pair(ray, sweep, kind, v, k);
-                others = others_after(others, best, new);
-                near = one_more(near, d <= sweep.tolerance);
-                between = one_more(between, in_between(d, sweep));
-                far = one_more(far, too_far(d, sweep));
-                if is_nearer(new, best) {
-                    best = new;
-                }
+    for v in 0..vertices.len() / 2 {
+        let origin = point_at(vertices, v);
+        let mut e = 0;
+        while let Some(met) = next_hit(origin, edges, table, sweep, e) {
+            let d = met.distance;
+            let new = pair(Some(d), sweep, kind, v, met.edge);
+            others = others_after(others, best, new);
+            near = one_more(near, d <= sweep.tolerance);
+            between = one_more(between, in_between(d, sweep));
+            far = one_more(far, too_far(d, sweep));
+            if is_nearer(new, best) {
+                best = new;
             }
-        } else {
-            v += 1;
-            e = 0;
+            e = met.edge + 1;
         }
     }
     Tally {
