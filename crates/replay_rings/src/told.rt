@@ -7,7 +7,7 @@ use projection::foot::foot_code;
 use refusals::Refusal;
 use refusals::answer::{Count, Number, Truth, Turn};
 
-#[derive(Clone, Copy)]
+#[derive(Clone, Copy, Debug, PartialEq, Eq)]
 pub struct Told {
     pub number: u64,
     pub value: u64,
