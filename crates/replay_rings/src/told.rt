@@ -6,7 +6,7 @@ use projection::answer::Projection;
 use projection::foot::foot_code;
 use refusals::Refusal;
 
-#[derive(Clone, Copy)]
+#[derive(Clone, Copy, Debug, PartialEq, Eq)]
 pub struct Told {
     pub number: u64,
     pub value: u64,
