@@ -5,11 +5,11 @@ use mathlib.Core.Path.{◌≡◌, refl, ap}
 use mathlib.Core.Bool.{Bool, true, false, ◌&&◌, cond}
 use native.Mathlib.Omega.{arith}
 use lib.Ieee.{Float, nan, inf, fin, lt, is_nan}
+use Rattle.std.specs.Prelude.{Some, None}
 use Rattle.collision.specs.Hit.{hit_with, counted_of}
 use Rattle.collision.specs.Check.{back_of}
 use Rattle.collision.specs.declared.Sweep.{Sweep}
 use Rattle.collision.specs.declared.Hit.{Hit}
-use Rattle.std.specs.Prelude.{Some, None}
 
 -- what is above a number is no NaN
 pub above_real : (a d : Float) → lt a d ≡ true → is_nan d ≡ false

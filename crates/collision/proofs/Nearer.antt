@@ -2,9 +2,9 @@
 use mathlib.Core.Path.{◌≡◌, refl}
 use mathlib.Core.Bool.{true, false}
 use lib.Ieee.{is_nan}
+use Rattle.std.specs.Prelude.{Option, Some, None}
 use Rattle.laws.proofs.Order.{lt_weave, lt_irrefl, lt_asym}
 use Rattle.collision.specs.Hit.{nearer}
-use Rattle.std.specs.Prelude.{Option, Some, None}
 use Rattle.collision.specs.declared.Hit.{Hit}
 
 pub irrefl : (x : Option Hit) → nearer x x ≡ false

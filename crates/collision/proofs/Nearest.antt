@@ -8,6 +8,7 @@ use mathlib.Core.Bool.{Bool, true, false}
 use mathlib.Core.List.{List}
 use native.Mathlib.Omega.{arith}
 use lib.Ieee.{Float, lt}
+use Rattle.std.specs.Prelude.{Option, Some, None}
 use Rattle.plane.specs.Vector.{length_of}
 use Rattle.plane.specs.declared.Point.{Point}
 use Rattle.laws.specs.FirstBest.{over, First, none, some}
@@ -17,7 +18,6 @@ use Rattle.pairs.specs.declared.Pair.{Pair}
 use Rattle.collision.specs.Hit.{hit_with, nearer}
 use Rattle.collision.specs.Check.{both_of, sweep_of, collision_of}
 use Rattle.collision.specs.Nearest.{pair_no, scans, ray_at, Blocks, Told, nothing, hit}
-use Rattle.std.specs.Prelude.{Option, Some, None}
 use Rattle.collision.specs.declared.Hit.{Hit}
 use Rattle.collision.proofs.Nearer.{irrefl, asym, behind, weave}
 use Rattle.collision.proofs.Counting.{Carries, carries, counts, real}

@@ -5,6 +5,7 @@ use mathlib.Core.List.{List}
 use native.Mathlib.Omega.{arith}
 use native.Mathlib.Nat.{mul_comm}
 use lib.Ieee.{Float}
+use Rattle.std.specs.Prelude.{Option, None}
 use Rattle.plane.specs.declared.Point.{Point}
 use Rattle.ring.specs.Ring.{count}
 use Rattle.pairs.proofs.Numbers.{first_pairs, second_pairs}
@@ -14,7 +15,6 @@ use Rattle.collision.specs.Hit.{counted_of, nearer}
 use Rattle.collision.specs.Check.{hit_of, scan_of, back_of, both_of, sweep_of}
 use Rattle.collision.specs.Nearest.{pair_no, scans, ray_at}
 use Rattle.collision.specs.declared.Sweep.{Sweep}
-use Rattle.std.specs.Prelude.{Option, None}
 use Rattle.collision.specs.declared.Hit.{Hit}
 use Rattle.collision.proofs.Counting.{counted_back}
 

@@ -6,6 +6,7 @@ use mathlib.Core.Bool.{Bool, true, false, cond, and-false}
 use mathlib.Core.List.{List}
 use lib.Dec.{eqb}
 use lib.Ieee.{Float, lt}
+use Rattle.std.specs.Prelude.{Option, None}
 use Rattle.scalar.specs.Scalar.{abs_of}
 use Rattle.plane.specs.Vector.{minus_of, cross_of}
 use Rattle.plane.specs.declared.Point.{Point}
@@ -18,7 +19,6 @@ use Rattle.collision.specs.Hit.{counted_of, nearer}
 use Rattle.collision.specs.Row.{pair_at, Onward}
 use Rattle.collision.specs.Chained.{MissesTo, Ready}
 use Rattle.collision.specs.declared.Sweep.{Sweep}
-use Rattle.std.specs.Prelude.{Option, None}
 use Rattle.collision.specs.declared.Hit.{Hit}
 
 -- ---- a miss

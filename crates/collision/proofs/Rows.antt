@@ -5,6 +5,7 @@ use mathlib.Core.Bool.{Bool, true, false, ◌&&◌, cond, and-true, and-false, t
 use mathlib.Core.List.{List}
 use lib.Dec.{eqb}
 use lib.Ieee.{Float, nan, inf, fin, lt}
+use Rattle.std.specs.Prelude.{Option, Some, None}
 use Rattle.plane.specs.declared.Point.{Point}
 use Rattle.ring.specs.Ring.{count, point_at}
 use Rattle.laws.specs.FirstBest.{better, over, nest}
@@ -15,7 +16,6 @@ use Rattle.collision.specs.Parts.{pair_by}
 use Rattle.collision.specs.Row.{pair_at, least_of, Onward}
 use Rattle.collision.specs.Check.{hit_of, scan_of}
 use Rattle.collision.specs.declared.Sweep.{Sweep}
-use Rattle.std.specs.Prelude.{Option, Some, None}
 use Rattle.collision.specs.declared.Hit.{Hit}
 
 -- ---- one hit

@@ -2,8 +2,8 @@
 -- against stationary's edge 3; its vertex 2 ties and is later. The moves (3, 0) and (0, 0) hit nothing. Assumes nothing.
 use mathlib.Core.Path.{◌≡◌, refl}
 use mathlib.Core.List.{List, [], ◌∷◌}
-use Rattle.std.specs.Prelude.{Some, None}
 use lib.Ieee.{Float, add, sub, mul, div, lt, le, eq, neg, of_bits}
+use Rattle.std.specs.Prelude.{Some, None}
 use Rattle.scalar.specs.Float.{◌⊘◌, float, f0, f1}
 use Rattle.scalar.specs.Scalar.{abs_of, minus_zero, ahead, or_number, larger_of}
 use Rattle.square_root.specs.Root.{sqrt_of}

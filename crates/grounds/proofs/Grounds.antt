@@ -7,6 +7,7 @@ use mathlib.Core.List.{List}
 use lib.Dec.{eqb}
 use lib.Ieee.{Float, lt}
 use borrow.Author.Tests.{eqb-true, eqb-false}
+use Rattle.std.specs.Prelude as rust
 use Rattle.laws.proofs.Turns.{none_passes, one_passes}
 use Rattle.plane.specs.Vector.{length_of}
 use Rattle.plane.specs.declared.Point.{Point}
@@ -15,7 +16,6 @@ use Rattle.refusals.specs.Rows.{of_moving}
 use Rattle.collision.specs.Check.{sweep_of, both_of, collision_of}
 use Rattle.collision.specs.Nearest.{pair_no, scans, ray_at}
 use Rattle.std.specs.Prelude.{Option, None as Miss, Some as At}
-use Rattle.collision.specs.declared.Collision.TheVariants.{Nothing}
 use Rattle.grounds.specs.Classes.{too_near, in_between, too_far, hit_is, hit_at, how_many}
 use Rattle.grounds.specs.Grounds.{ground_by, Some, All, None, any, Says}
 use Rattle.grounds.specs.Scan.{no_tally}
@@ -157,6 +157,6 @@ module _ (st orb : List Float) (move : Point) (tol : Float) where
   same_collision = go (lt (length_of move) tol)
     where
       go : (short : Bool) → (cond short (record { ground = Short; tally = no_tally }) (explanation_by (tally_of st orb move tol))).tally.best
-          ≡ cond short Nothing (both_of st orb (sweep_of move tol))
+          ≡ cond short rust.None (both_of st orb (sweep_of move tol))
       go true = refl
       go false = refl

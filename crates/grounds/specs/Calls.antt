@@ -1,19 +1,18 @@
 -- What the call answers: the refusal of what is lent, or the collision answer with its ground. Definitions only.
-use Rattle.std.specs.Prelude.{ℕ, List, Float, Result, Ok, Err}
-use Rattle.std.proofs.Math.Option.{Option}
+use Rattle.std.specs.Prelude.{ℕ, List, Float, Option, Result, Ok, Err}
 use Rattle.plane.specs.declared.Point.{Point}
 use Rattle.refusals.specs.Rows.{of_moving}
 use Rattle.refusals.specs.declared.Refusal.{Refusal}
 use Rattle.refusals.specs.Answers.{Outcome, answers, refuses, outcome, tells}
-use Rattle.collision.specs.Calls.{}
+use Rattle.collision.specs.declared.Hit.{Hit}
 use Rattle.grounds.specs.Grounds.{ground_number}
 use Rattle.grounds.specs.Explanation.{explanation_of}
 use Rattle.grounds.specs.declared.Explanation.{Explanation}
 
--- the ground's number, the hit's values where there is one, the other pairs at its distance, and the three counts
+-- the ground's number, the hit where there is one, the other pairs at its distance, and the three counts
 pub record Account : Type 0 where
   pub ground : ℕ
-  pub hit : Option Values
+  pub hit : Option Hit
   pub others : ℕ
   pub near : ℕ
   pub between : ℕ
@@ -22,7 +21,7 @@ pub record Account : Type 0 where
 abbrev pub account : Explanation → Account
 account x = record {
   ground = ground_number x.ground;
-  hit = values x.tally.best;
+  hit = x.tally.best;
   others = x.tally.others;
   near = x.tally.near;
   between = x.tally.between;

@@ -16,7 +16,7 @@ ghost use Rattle.grounds.specs.Scan.{kind_most, pairs_most, AtMost, no_tally, ot
 ghost use Rattle.grounds.specs.Explanation.{explanation_of};
 
 use chains::{NUMBERS, chain_end, fill, is_chained, is_passed};
-use collision::{Collision, Sweep, back, edge_ray, pair, rays};
+use collision::{Hit, Sweep, back, edge_ray, pair, rays};
 use plane::Point;
 use plane::vector::length;
 use ring::point_at;
@@ -44,7 +44,7 @@ struct Met {
 // near, between and too far.
 #[derive(Clone, Copy)]
 pub struct Tally {
-    pub best: Collision,
+    pub best: Option<Hit>,
     pub others: u64,
     pub near: u64,
     pub between: u64,
@@ -79,7 +79,7 @@ fn no_tally() -> Tally
     ensures { result ≡ no_tally }
 {
     Tally {
-        best: Collision::Nothing,
+        best: None,
         others: 0,
         near: 0,
         between: 0,
@@ -118,54 +118,36 @@ fn one_more(count: u64, passes: bool) -> u64
 }
 
 // The others at the nearest distance, after a new one.
-fn others_after(others: u64, best: Collision, new: Collision) -> u64
+#[tactic(auto, unfolding(crate::specs::Scan::others_after))]
+fn others_after(others: u64, best: Option<Hit>, new: Option<Hit>) -> u64
     requires { others ≤ 2 * pairs_most }
     ensures { result ≡ others_after others best new }
 {
-    let Collision::Hit {
-        distance: e,
-        kind: _,
-        stationary: _,
-        orbiting: _,
-    } = new
-    else {
+    let Some(new) = new else {
         return others;
     };
-    let Collision::Hit {
-        distance: d,
-        kind: _,
-        stationary: _,
-        orbiting: _,
-    } = best
-    else {
+    let Some(best) = best else {
         return 0;
     };
-    if e < d { 0 } else { one_more(others, e == d) }
+    if new.distance < best.distance {
+        0
+    } else {
+        one_more(others, new.distance == best.distance)
+    }
 }
 
 // Whether a new one replaces what was found so far: only a strictly smaller distance does.
-fn is_nearer(new: Collision, best: Collision) -> bool
+#[tactic(auto, unfolding(collision::specs::Hit::nearer))]
+fn is_nearer(new: Option<Hit>, best: Option<Hit>) -> bool
     ensures { result ≡ nearer new best }
 {
-    let Collision::Hit {
-        distance: e,
-        kind: _,
-        stationary: _,
-        orbiting: _,
-    } = new
-    else {
+    let Some(new) = new else {
         return false;
     };
-    let Collision::Hit {
-        distance: d,
-        kind: _,
-        stationary: _,
-        orbiting: _,
-    } = best
-    else {
+    let Some(best) = best else {
         return true;
     };
-    e < d
+    new.distance < best.distance
 }
 
 // The first edge from one on and below another that the ray from origin does not miss.

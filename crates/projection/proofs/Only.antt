@@ -1,14 +1,14 @@
 -- No two feet have one code, and no two answers say the same. Assumes nothing.
 use mathlib.Core.Path.{◌≡◌, refl, ap}
+use Prim.Native.Nat.{ℕ}
+use lib.Ieee.{Float}
+use Rattle.std.specs.Prelude.{Result, Ok, Err}
 use Rattle.projection.specs.Foot.{foot_code}
 use Rattle.projection.specs.Calls.{Projection, projected}
 use Rattle.projection.specs.declared.foot.Foot.{Foot}
 use Rattle.projection.specs.declared.foot.Foot.TheVariants.{Start, End, Between}
 use Rattle.projection.specs.declared.answer.Projection as answer
-use Rattle.std.specs.Prelude.{Result, Ok, Err}
 use Rattle.refusals.specs.Answers.{Outcome, refuses, tells}
-use Prim.Native.Nat.{ℕ}
-use lib.Ieee.{Float}
 use Rattle.refusals.specs.declared.Refusal.{Refusal}
 use Rattle.refusals.proofs.Calls.{answered_only}
 

@@ -1,8 +1,8 @@
 -- Worked examples, by computation. Assumes nothing.
 use mathlib.Core.Path.{◌≡◌, refl}
 use mathlib.Core.List.{[], ◌∷◌}
-use Rattle.std.specs.Prelude.{Some, None}
 use lib.Ieee.{Float, nan, add, sub, mul, div, lt, neg, of_bits}
+use Rattle.std.specs.Prelude.{Some, None}
 use Rattle.scalar.specs.Float.{float, f0, f1}
 use Rattle.square_root.specs.Root.{sqrt_of}
 use Rattle.plane.specs.Vector.{point, minus_of, dot_of, length_of, normalize_of}
