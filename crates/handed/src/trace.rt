@@ -31,18 +31,19 @@ pub fn hand_traced(
             *stop = trace.stop;
             Ok(())
         }
-        Err(Untraced::Refused(refusal)) => Err(refusal),
-        Err(Untraced::Full(begun)) => {
-            *passes = begun;
-            Err(Refusal::Fit)
-        }
-        Err(Untraced::Short {
-            passes: spent,
-            stop: why,
-        }) => {
-            *passes = spent;
-            *stop = why;
-            Err(Refusal::ShortPath)
+        Err(untraced) => {
+            match untraced {
+                Untraced::Refused(_) => {}
+                Untraced::Full(begun) => *passes = begun,
+                Untraced::Short {
+                    passes: spent,
+                    stop: why,
+                } => {
+                    *passes = spent;
+                    *stop = why;
+                }
+            }
+            Err(untraced.refusal())
         }
     }
 }

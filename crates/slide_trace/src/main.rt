@@ -78,11 +78,7 @@ fn put_input(input: &[u8], out: &mut [u8]) -> usize
     ensures { Put out.old 0 (input_text input.now) out.new result }
 {
     if input.len() < SETTINGS_BYTES {
-        let no = Refusal {
-            number: 7,
-            place: 0,
-        };
-        return put_refusal(no, out);
+        return put_refusal(Refusal::Book(0), out);
     }
     put_book(&input[SETTINGS_BYTES..], settings(input), out)
 }
