@@ -10,7 +10,7 @@ use refusals::answer::{Count, Found, Position, Truth};
 use selection::answer::Selected;
 use start_position::answer::Start;
 
-#[derive(Clone, Copy)]
+#[derive(Clone, Copy, Debug, PartialEq, Eq)]
 pub struct Told {
     pub number: u64,
     pub a: u64,
