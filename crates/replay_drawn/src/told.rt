@@ -6,7 +6,7 @@ use clear_drawn_path::PathFound;
 use clear_drawn_path::answer::PathJudged;
 use refusals::Refusal;
 
-#[derive(Clone, Copy)]
+#[derive(Clone, Copy, Debug, PartialEq, Eq)]
 pub struct Told {
     pub number: u64,
     pub ground: u64,
