@@ -43,7 +43,7 @@ fn first_with(ls: &[i32], j: usize) -> usize
             return i;
         }
     }
-    i
+    j
 }
 
 // Notes for each of m edges the first with its line.

@@ -4,7 +4,7 @@ use clear_path::PathGround;
 use reason_check::Ground;
 use refusals::Refusal;
 
-#[derive(Clone, Copy)]
+#[derive(Clone, Copy, Debug, PartialEq, Eq)]
 pub struct Told {
     pub number: u64,
     pub ground: u64,

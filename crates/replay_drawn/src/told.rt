@@ -4,7 +4,7 @@ use clear_aside::{Found, depth_of};
 use clear_drawn_path::PathFound;
 use refusals::Refusal;
 
-#[derive(Clone, Copy)]
+#[derive(Clone, Copy, Debug, PartialEq, Eq)]
 pub struct Told {
     pub number: u64,
     pub ground: u64,

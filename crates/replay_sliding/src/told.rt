@@ -6,7 +6,7 @@ use number_bytes::bits_of;
 use plane::Point;
 use refusals::Refusal;
 
-#[derive(Clone, Copy)]
+#[derive(Clone, Copy, Debug, PartialEq, Eq)]
 pub struct Told {
     pub number: u64,
     pub a: u64,

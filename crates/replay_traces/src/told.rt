@@ -3,7 +3,7 @@
 use nfp_sliding::answer::{Trace, Untraced};
 use refusals::Refusal;
 
-#[derive(Clone, Copy)]
+#[derive(Clone, Copy, Debug, PartialEq, Eq)]
 pub struct Told {
     pub number: u64,
     pub points: u64,

@@ -10,4 +10,6 @@ use Rattle.book_writer.proofs.store.put_rings.Given as goal
 
 abbrev pub invariant-loop-n : goal.invariant-loop-n
 invariant-loop-n l =
-    (length l.room ≡ length l.initial.room) × (l.at + 2 * total (drop l.n-index l.counts) ≡ length l.xs) × (sized_all (drop l.n-index l.counts) ≡ true) × (sets l.initial.room 0 (stored l.counts l.xs) ≡ sets l.room (coordinate_bytes * l.at) (stored (drop l.n-index l.counts) (drop l.at l.xs)))
+    (length l.room ≡ length l.initial.room) × (l.at + 2 * total (drop l.n-index l.counts) ≡ length l.xs)
+    × (sized_all (drop l.n-index l.counts) ≡ true)
+    × (sets l.initial.room 0 (stored l.counts l.xs) ≡ sets l.room (coordinate_bytes * l.at) (stored (drop l.n-index l.counts) (drop l.at l.xs)))

@@ -8,4 +8,5 @@ use Rattle.wkb_writer.proofs.store.put_numbers.Given as goal
 
 abbrev pub invariant-loop-j : goal.invariant-loop-j
 invariant-loop-j l =
-    (length l.room ≡ length l.initial.room) × (sets l.initial.room l.at (numbers l.xs) ≡ sets l.room (l.at + number_bytes * l.j) (numbers (drop l.j l.xs)))
+    (length l.room ≡ length l.initial.room)
+    × (sets l.initial.room l.at (numbers l.xs) ≡ sets l.room (l.at + number_bytes * l.j) (numbers (drop l.j l.xs)))
