@@ -16,7 +16,7 @@ use shifted::Spot;
 
 // What is found: clear with the disc put by this `how`; by none, and this is the first edge that is not parted with 0; the way is
 // enclosed, with this `how`.
-#[derive(Clone, Copy)]
+#[derive(Clone, Copy, Debug, PartialEq, Eq)]
 pub enum Found {
     Clear(u32),
     Edge(usize),

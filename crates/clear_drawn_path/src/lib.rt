@@ -20,7 +20,7 @@ use to_grid::lay;
 
 // What is found: every leg is clear but for this depth; this is the first leg that is not, and this edge the first that is not
 // parted there; it is, and the way is enclosed.
-#[derive(Clone, Copy)]
+#[derive(Clone, Copy, Debug, PartialEq, Eq)]
 pub enum PathFound {
     Clear(u32),
     Edge { leg: usize, edge: usize },

@@ -16,16 +16,7 @@ use ring::room::copy;
 fn is_quarter(m: usize) -> bool
     ensures { result ≡ quarter_ok m }
 {
-    match m {
-        1 => true,
-        2 => true,
-        4 => true,
-        8 => true,
-        16 => true,
-        32 => true,
-        64 => true,
-        _ => false,
-    }
+    matches!(m, 1 | 2 | 4 | 8 | 16 | 32 | 64)
 }
 
 // Whether a radius is finite and above 0.

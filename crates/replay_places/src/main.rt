@@ -1,25 +1,26 @@
 // Replays the oracle's answers for places to inspect: records of what a shift is lent, answers and leaves, from standard input.
 #![tactic(auto)]
 
-use inspection::answer::Inspected;
+use inspection::Shift;
+use refusals::Refusal;
 use replay::{is_same, list_length, load, word};
 use std::io;
 use std::io::{BufReader, Read};
 
 // Whether an answer is what the record says: the refusal's number, the places, the following start.
-fn told(answer: Inspected, header: &[u8]) -> bool {
+fn told(answer: Result<Shift, Refusal>, header: &[u8]) -> bool {
     match answer {
-        Inspected::Is { places, following } => {
+        Ok(shift) => {
             word(header, 32) == 0
-                && places as u64 == word(header, 40)
-                && following == word(header, 48)
+                && shift.places as u64 == word(header, 40)
+                && shift.following == word(header, 48)
         }
-        Inspected::Refused(no) => no.number() as u64 == word(header, 32),
+        Err(refusal) => refusal.number() as u64 == word(header, 32),
     }
 }
 
 // The shift of a record.
-fn inspect(header: &[u8], room: &mut [u64]) -> Inspected {
+fn inspect(header: &[u8], room: &mut [u64]) -> Result<Shift, Refusal> {
     let n = word(header, 0);
     let k = word(header, 8);
     let start = word(header, 16);

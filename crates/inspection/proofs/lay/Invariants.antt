@@ -1,4 +1,3 @@
-use Prim.Native.Nat.{◌-◌}
 use Rattle.inspection.proofs.Laying.{Laying}
 use Rattle.inspection.proofs.lay.Given as goal
 
