@@ -211,13 +211,20 @@ fn chained_row(
 {
     let m = edges.len() / 2;
     let mut best = before;
-    let mut e = 0;
-    while e < m {
-        let to = chain_end(e, m);
-        if !is_passed(table, e / 8, origin, sweep.dir) {
-            best = row(origin, edges, sweep, kind, v, best, e, to);
+    for c in 0..m.div_ceil(8) {
+        if !is_passed(table, c, origin, sweep.dir) {
+            let from = 8 * c;
+            best = row(
+                origin,
+                edges,
+                sweep,
+                kind,
+                v,
+                best,
+                from,
+                chain_end(from, m),
+            );
         }
-        e = to;
     }
     best
 }
