@@ -214,16 +214,8 @@ fn chained_row(
     for c in 0..m.div_ceil(8) {
         if !is_passed(table, c, origin, sweep.dir) {
             let from = 8 * c;
-            best = row(
-                origin,
-                edges,
-                sweep,
-                kind,
-                v,
-                best,
-                from,
-                chain_end(from, m),
-            );
+            let to = chain_end(from, m);
+            best = row(origin, edges, sweep, kind, v, best, from, to);
         }
     }
     best

@@ -18,7 +18,7 @@ is_passed-requires c =
     omega (arith, r.room, r.few.edges, c.div_ceil-c-end.ensures, c.loop-c-test.true)
 
 pub row-best-requires : goal.row-best-requires
-row-best-requires c = let end = c.chain_end.ensures in (omega (arith, end.0), end.1)
+row-best-requires c = let end = c.chain_end-to.ensures in (omega (arith, end.0), end.1)
 
 pub loop-c-preserved : goal.loop-c-preserved
 loop-c-preserved c =
@@ -30,7 +30,7 @@ loop-c-preserved c =
     let i = rw e at c.loop-c.invariant in
     elim c.if-not-is_passed.branch [
       | then-not-is_passed w ↦
-          let end = w.chain_end.ensures in
+          let end = w.chain_end-to.ensures in
           let f = chain_to k n _ end.1 end.2 end.3 in
           rw (w.best-is, ← f) (and_then i w.row-best.ensures)
       | else-not-is_passed w ↦
