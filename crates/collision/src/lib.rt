@@ -197,13 +197,12 @@ fn chained_row(
 {
     let m = edges.len() / 2;
     let mut best = before;
-    let mut e = 0;
-    while e < m {
-        let to = chain_end(e, m);
-        if !is_passed(table, e / 8, origin, sweep.dir) {
-            best = row(origin, edges, sweep, kind, v, best, e, to);
+    for c in 0..m.div_ceil(8) {
+        if !is_passed(table, c, origin, sweep.dir) {
+            let from = 8 * c;
+            let to = chain_end(from, m);
+            best = row(origin, edges, sweep, kind, v, best, from, to);
         }
-        e = to;
     }
     best
 }

@@ -1,10 +1,10 @@
 -- From the start to the end of a trace: the room with the start in it, the polygons made counter-clockwise, the path at the front of the room. Assumes nothing.
-use Prim.Native.Nat.{ℕ, ◌*◌, ◌/◌, ◌%◌, ◌≤◌, ◌<◌}
+use Prim.Native.Nat.{ℕ, ◌*◌, ◌%◌, ◌≤◌}
 use native.Mathlib.Omega.{arith}
-use mathlib.Core.Path.{◌≡◌, refl, sym, ap, ◌∙◌}
+use mathlib.Core.Path.{◌≡◌, refl, ap, ◌∙◌}
 use mathlib.Core.Bool.{Bool, true, false, ◌&&◌}
-use mathlib.Core.List.{List, [], ◌∷◌, ◌++◌}
-use lib.ListN.{length, take, drop, length-append, length-drop}
+use mathlib.Core.List.{List, []}
+use lib.ListN.{length, take, length-append, length-drop}
 use lib.Seq.{take_at}
 use lib.Dec.{leb}
 use lib.Ieee.{Float}
@@ -28,7 +28,7 @@ use Rattle.winding.specs.Winding.{ccw_of}
 use Rattle.winding.proofs.Order.{ccw_length, ccw_front}
 use Rattle.start_position.specs.Start.{start_of}
 use Rattle.centroid.specs.Centroid.{centroid_of}
-use Rattle.pass.specs.Pass.{Scene, scene}
+use Rattle.pass.specs.Pass.{scene}
 use Rattle.pass_run.specs.declared.run.End.{End}
 use Rattle.pass_run.specs.Run.{Done, run_of, state}
 use Rattle.nfp_sliding.specs.Path.{Trace, ended, end_of, coordinates_of, at_start, margins_of, TraceReady, trace_from, traced_of}

@@ -120,11 +120,9 @@ fn fill_chains(ring: &[f64], table: &mut [f64])
     ensures { Tabled table.new ring.now (count ring.now) }
 {
     let n = ring.len() / 2;
-    let mut e = 0;
-    while e < n {
-        let to = chain_end(e, n);
-        put_bounds(table, e / 8, bounds_of(ring, e, to));
-        e = to;
+    for c in 0..n.div_ceil(8) {
+        let from = 8 * c;
+        put_bounds(table, c, bounds_of(ring, from, chain_end(from, n)));
     }
 }
 

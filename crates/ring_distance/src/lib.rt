@@ -123,11 +123,9 @@ fn to_chains(p: Point, ring: &[f64], table: &[f64], before: f64) -> f64
         return before;
     }
     let mut least = before;
-    let mut e = 0;
-    while e < n {
-        let to = chain_end(e, n);
-        least = to_chain(p, ring, table, e / 8, e, to, least);
-        e = to;
+    for c in 0..n.div_ceil(8) {
+        let from = 8 * c;
+        least = to_chain(p, ring, table, c, from, chain_end(from, n), least);
     }
     least
 }
