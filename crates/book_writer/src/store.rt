@@ -43,9 +43,8 @@ fn put_rings(xs: &[f64], counts: &[u32], room: &mut [u8])
     ensures { room.new ≡ sets room.old 0 (body (map least_reading (rings_from counts.now xs.now))) }
 {
     let mut at = 0;
-    for i in 0..counts.len() {
-        let n = counts[i] as usize;
-        let end = at + 2 * n;
+    for &n in counts {
+        let end = at + 2 * n as usize;
         put_least(&xs[at..end], room, COORDINATE_BYTES * at);
         at = end;
     }
@@ -58,8 +57,8 @@ fn put_entries(counts: &[u32], parts: &[u32], room: &mut [u8], from: usize)
     ensures { room.new ≡ sets room.old from (entries 0 counts.now parts.now) }
 {
     let mut before: usize = 0;
-    for i in 0..counts.len() {
-        let n = counts[i] as usize;
+    for (i, &n) in counts.iter().enumerate() {
+        let n = n as usize;
         let at = from + ENTRY_BYTES * i;
         put(room, at, FIELD_BYTES, before as u64);
         put(room, at + FIELD_BYTES, FIELD_BYTES, n as u64);

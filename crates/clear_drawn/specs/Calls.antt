@@ -1,11 +1,12 @@
 -- What the calls on drawn moves answer, and what is left in the room for a reason. Definitions only.
-use Rattle.std.specs.Prelude.{ℕ, ◌*◌, ◌/◌, List, [], ◌∷◌, map, length, ℤ, Float}
+use Rattle.std.specs.Prelude.{ℕ, ◌*◌, ◌/◌, List, [], ◌∷◌, map, length, ℤ, Float, Result, Ok, Err}
 use Rattle.plane.specs.declared.Point.{Point}
 use Rattle.ring.specs.Room.{laid}
 use Rattle.refusals.specs.Refusals.{none, first_of}
 use Rattle.refusals.specs.Screens.{wrong_fit}
-use Rattle.refusals.specs.Answers.{Outcome, answers, refuses, outcome, left}
+use Rattle.refusals.specs.Answers.{Outcome, answers, refuses, tells, outcome, left}
 use Rattle.refusals.specs.Refusals.{Told}
+use Rattle.refusals.specs.declared.Refusal.{Refusal}
 use Rattle.shifted.specs.Shifted.{up_of}
 use Rattle.whole_moves.specs.Moved.{down_of}
 use Rattle.reasons.specs.Check.{Ground, clear, edge, enclosed}
@@ -15,12 +16,10 @@ use Rattle.clear_aside.specs.Aside.{least}
 use Rattle.clear_aside.specs.declared.Found.{Found}
 use Rattle.drawn_rows.specs.Rows.{grid_of, of_drawn_move, of_drawn_reason}
 use Rattle.clear_drawn.specs.Legs.{leg_least, leg_checked, leg_lines, LegKept}
-use Rattle.clear_drawn.specs.declared.answer.Judged.{Judged}
-use Rattle.clear_drawn.specs.declared.answer.Judged.TheVariants.{Is, Refused}
 
-abbrev pub judged : Judged → Outcome Least
-judged (Is f) = answers (least f)
-judged (Refused r) = refuses r
+abbrev pub judged : Result Found Refusal → Outcome Least
+judged (Ok f) = answers (least f)
+judged (Err r) = refuses (tells r)
 
 -- a move as a path of two points
 abbrev pub move_of : Point → Point → List Float

@@ -18,7 +18,7 @@ use book_layout::{BOOK_MOST, NUMBERS_MOST};
 use book_reader::calls::read_book;
 use clear_calls::calls::clear_move;
 use lines::put_refusal;
-use refusals::{REFUSED_BOOK, REFUSED_FEW, REFUSED_NUMBER, RINGS_MOST, Refusal};
+use refusals::{RINGS_MOST, Refusal};
 use say::put_judged;
 use std::io;
 use std::io::Read;
@@ -89,12 +89,12 @@ fn put_rings(
         out.new result }
 {
     if rings == 1 {
-        return put_refusal(Refusal::new(REFUSED_FEW, 1), out);
+        return put_refusal(Refusal::Few(1), out);
     }
     if are_whole(xs) {
         put_two(xs, n, m, dx, dy, out)
     } else {
-        put_refusal(Refusal::new(REFUSED_NUMBER, 0), out)
+        put_refusal(Refusal::Number, out)
     }
 }
 
@@ -126,7 +126,7 @@ fn put_input(input: &[u8], out: &mut [u8]) -> usize
     ensures { Put out.old 0 (input_text input.now) out.new result }
 {
     if input.len() < MOVE_BYTES {
-        return put_refusal(Refusal::new(REFUSED_BOOK, 0), out);
+        return put_refusal(Refusal::Book(0), out);
     }
     put_book(
         &input[MOVE_BYTES..],

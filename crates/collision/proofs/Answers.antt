@@ -19,7 +19,6 @@ use Rattle.collision.specs.Hit.{hit_with}
 use Rattle.collision.specs.Check.{collision_of}
 use Rattle.collision.specs.Nearest.{pair_no, ray_at, Told, nothing, hit}
 use Rattle.collision.specs.Calls.{collision_call}
-use Rattle.collision.specs.declared.Ray.TheVariants.{At}
 use Rattle.collision.specs.declared.Hit.{Hit}
 use Rattle.collision.proofs.Nearest.{collision_told}
 
@@ -51,6 +50,6 @@ told_only st orb move tol (Some x) (Some y) (hit f n) (hit f' n') = go (dec_lt n
     go (no a) (no b) =
         let same : n.number ≡ n'.number = omega arith in
         let v : pair x.kind x.stationary x.orbiting ≡ pair y.kind y.stationary y.orbiting = sym n.is ∙ ap (pair_no st orb) same ∙ n'.is in
-        let m : At x.distance ≡ At y.distance = sym n.blocks.meets.at ∙ ap (λ (j : ℕ). ray_at st orb move tol (pair_no st orb j)) same ∙ n'.blocks.meets.at in
+        let m : Some x.distance ≡ Some y.distance = sym n.blocks.meets.at ∙ ap (λ (j : ℕ). ray_at st orb move tol (pair_no st orb j)) same ∙ n'.blocks.meets.at in
         let far : x.distance ≡ y.distance = cc in
         same_hit far (ap (λ (w : Pair). w.kind) v) (ap (λ (w : Pair). w.stationary) v) (ap (λ (w : Pair). w.orbiting) v)

@@ -19,7 +19,6 @@ use Rattle.collision.specs.Hit.{counted_of, nearer}
 use Rattle.collision.specs.Row.{pair_at, Onward}
 use Rattle.collision.specs.Chained.{MissesTo, Ready}
 use Rattle.collision.specs.declared.Sweep.{Sweep}
-use Rattle.collision.specs.declared.Ray.TheVariants.{Miss}
 use Rattle.collision.specs.declared.Hit.{Hit}
 
 -- ---- a miss
@@ -28,7 +27,7 @@ none_either : (b : Bool) → ◌≡◌ {A = Option Hit} (cond b None None) None
 none_either true = refl
 none_either false = refl
 
-missed : (o : Point) (es : List Float) (w : Sweep) (kind v e : ℕ) → edge_ray o w.dir es e w.tolerance ≡ Miss → pair_at o es w kind v e ≡ None
+missed : (o : Point) (es : List Float) (w : Sweep) (kind v e : ℕ) → edge_ray o w.dir es e w.tolerance ≡ None → pair_at o es w kind v e ≡ None
 unfolding pair_at counted_of
 missed o es w kind v e h = rw h (none_either (eqb kind 0))
 
@@ -49,17 +48,17 @@ passed_over f from a to h l all =
 
 -- ---- beside a chain
 
-beside_miss : (o d p q : Point) (tol : Float) → Beside o d p q tol → ray_of o d p q tol ≡ Miss
+beside_miss : (o d p q : Point) (tol : Float) → Beside o d p q tol → ray_of o d p q tol ≡ None
 unfolding ray_of ray_within
 beside_miss o d p q tol h = rw (h, and-false _) (miss_either (lt (abs_of (cross_of d (minus_of q p))) tol))
   where
-    miss_either : (b : Bool) → cond b Miss Miss ≡ Miss
+    miss_either : (b : Bool) → ◌≡◌ {A = Option Float} (cond b None None) None
     miss_either true = refl
     miss_either false = refl
 
 -- an edge of a chain that the ray passes beside
 chain_missed : (table es : List Float) (w : Sweep) (o : Point) (e k : ℕ) {t : Bool} → Ready table es w → t ≡ passes (chain_at table (e / 8)) o w.dir → t ≡ true
-    → 8 * (e / 8) ≤ k → k < 8 * (e / 8) + 8 → k < count es → edge_ray o w.dir es k w.tolerance ≡ Miss
+    → 8 * (e / 8) ≤ k → k < 8 * (e / 8) + 8 → k < count es → edge_ray o w.dir es k w.tolerance ≡ None
 unfolding edge_ray
 chain_missed table es w o e k ready p t l m n =
     beside_miss o w.dir _ _ w.tolerance (ready.chains (e / 8) k (record { not_before = l; not_after = m }) n o w.tolerance ready.few.near (sym p ∙ t))

@@ -16,8 +16,6 @@ use Rattle.collision.specs.Parts.{pair_by}
 use Rattle.collision.specs.Row.{pair_at, least_of, Onward}
 use Rattle.collision.specs.Check.{hit_of, scan_of}
 use Rattle.collision.specs.declared.Sweep.{Sweep}
-use Rattle.collision.specs.declared.Ray.{Ray}
-use Rattle.collision.specs.declared.Ray.TheVariants.{Miss, At}
 use Rattle.collision.specs.declared.Hit.{Hit}
 
 -- ---- one hit
@@ -36,7 +34,7 @@ module _ (w : Sweep) (d : Float) where
   abbrev Below : Float → Bool
   Below near = lt w.tolerance d && (lt d near && lt d w.limit)
 
-  counted_nearer : (k s o : ℕ) (best : Option Hit) → nearer (counted_of (At d) w k s o) best ≡ Below (least_of best)
+  counted_nearer : (k s o : ℕ) (best : Option Hit) → nearer (counted_of (Some d) w k s o) best ≡ Below (least_of best)
   unfolding counted_of nearer least_of
   counted_nearer k s o best = go (lt w.tolerance d) (lt d w.limit) refl best
     where
@@ -46,14 +44,14 @@ module _ (w : Sweep) (d : Float) where
       go true true h None = sym (rw (below_infinity d w.limit h))
       go true true h (Some g) = sym (and-true (lt d g.distance))
 
-  pub pair_nearer : (kind v e : ℕ) (best : Option Hit) → nearer (pair_by (At d) w kind v e) best ≡ Below (least_of best)
+  pub pair_nearer : (kind v e : ℕ) (best : Option Hit) → nearer (pair_by (Some d) w kind v e) best ≡ Below (least_of best)
   pair_nearer kind v e best = go (eqb kind 0)
     where
-      go : (b : Bool) → nearer (cond b (counted_of (At d) w 0 e v) (counted_of (At d) w 1 v e)) best ≡ Below (least_of best)
+      go : (b : Bool) → nearer (cond b (counted_of (Some d) w 0 e v) (counted_of (Some d) w 1 v e)) best ≡ Below (least_of best)
       go true = counted_nearer 0 e v best
       go false = counted_nearer 1 v e best
 
-  counted_least : (k s o : ℕ) (near : Float) → Below near ≡ true → least_of (counted_of (At d) w k s o) ≡ d
+  counted_least : (k s o : ℕ) (near : Float) → Below near ≡ true → least_of (counted_of (Some d) w k s o) ≡ d
   unfolding counted_of least_of
   counted_least k s o near h = go (lt w.tolerance d) (lt d near) (lt d w.limit) h
     where
@@ -63,10 +61,10 @@ module _ (w : Sweep) (d : Float) where
       go true false b h = absurd (true≢false (sym h))
       go false n b h = absurd (true≢false (sym h))
 
-  pair_least : (kind v e : ℕ) (near : Float) → Below near ≡ true → least_of (pair_by (At d) w kind v e) ≡ d
+  pair_least : (kind v e : ℕ) (near : Float) → Below near ≡ true → least_of (pair_by (Some d) w kind v e) ≡ d
   pair_least kind v e near h = go (eqb kind 0)
     where
-      go : (b : Bool) → least_of (cond b (counted_of (At d) w 0 e v) (counted_of (At d) w 1 v e)) ≡ d
+      go : (b : Bool) → least_of (cond b (counted_of (Some d) w 0 e v) (counted_of (Some d) w 1 v e)) ≡ d
       go true = counted_least 0 e v near h
       go false = counted_least 1 v e near h
 
@@ -90,12 +88,12 @@ module _ (o : Point) (es : List Float) (w : Sweep) (kind v a : ℕ) (before : Op
   pub none_yet : {near : Float} → near ≡ least_of before → Sofar a before near
   none_yet h = record { least = h; taken = at_first _ a before }
 
-  module _ {e : ℕ} {best : Option Hit} {near : Float} (s : Sofar e best near) {ray : Ray} (er : ray ≡ edge_ray o w.dir es e w.tolerance) where
+  module _ {e : ℕ} {best : Option Hit} {near : Float} (s : Sofar e best near) {ray : Option Float} (er : ray ≡ edge_ray o w.dir es e w.tolerance) where
     step : {new : Option Hit} → new ≡ better nearer best (pair_at o es w kind v e) → Onward (pair_at o es w kind v) a (e + 1) before new
     step h = and_then s.taken (record { leads = λ from k. over_turn nearer (pair_at o es w kind v) from e k refl h })
 
     -- a hit that replaces
-    pub replaced : {d : Float} {t : Bool} {new : Option Hit} → ray ≡ At d → t ≡ Below w d near → t ≡ true → new ≡ pair_by (At d) w kind v e → Sofar (e + 1) new d
+    pub replaced : {d : Float} {t : Bool} {new : Option Hit} → ray ≡ Some d → t ≡ Below w d near → t ≡ true → new ≡ pair_by (Some d) w kind v e → Sofar (e + 1) new d
     unfolding better pair_at
     replaced {d = d} at ht h hn =
         record {
@@ -104,12 +102,12 @@ module _ (o : Point) (es : List Float) (w : Sweep) (kind v a : ℕ) (before : Op
         }
 
     -- one that does not
-    pub stayed : {d : Float} {t : Bool} → ray ≡ At d → t ≡ Below w d near → t ≡ false → Sofar (e + 1) best near
+    pub stayed : {d : Float} {t : Bool} → ray ≡ Some d → t ≡ Below w d near → t ≡ false → Sofar (e + 1) best near
     unfolding better pair_at
     stayed {d = d} at ht h = record { least = s.least; taken = step (rw (← er, at, pair_nearer w d kind v e best, ← s.least, ← ht, h)) }
 
     -- a miss
-    pub passed : ray ≡ Miss → Sofar (e + 1) best near
+    pub passed : ray ≡ None → Sofar (e + 1) best near
     unfolding better nearer pair_at counted_of
     passed at = record { least = s.least; taken = step (rw (← er, at) (either (eqb kind 0))) }
       where

@@ -20,7 +20,7 @@ use Rattle.collision.specs.Hit.{counted_of, nearer}
 use Rattle.collision.specs.Check.{hit_of, scan_of, back_of, both_of, sweep_of, collision_of}
 use Rattle.collision.specs.Nearest.{pair_no, ray_at}
 use Rattle.collision.specs.Calls.{collision_call}
-use Rattle.collision.specs.declared.Ray.TheVariants.{At}
+use Rattle.std.specs.Prelude.{Some}
 
 abbrev three : Float
 three = float 0x4008_0000_0000_0000
@@ -48,7 +48,7 @@ unfolding of_moving of_two_polygons every coordinate finite collision_of sweep_o
 hits = refl
 
 -- the pair of the tie, four pairs later
-ties : ray_at S Q (point ten f0) tolerance (pair_no S Q 11) ≡ At three
+ties : ray_at S Q (point ten f0) tolerance (pair_no S Q 11) ≡ Some three
 unfolding pair_of ray_at sweep_of back_of edge_ray ray_of ray_within larger_of or_number ahead minus_zero abs_of point_at minus_of cross_of length_of dot_of sqrt_of add sub mul div lt le eq neg of_bits
 ties = refl
 

@@ -3,8 +3,6 @@ use Rattle.std.specs.Prelude.{ℕ, Bool, true, false, ◌&&◌, cond, Float, Opt
 use Rattle.std.specs.Float.Ieee.{lt}
 use Rattle.laws.specs.FirstBest.{better}
 use Rattle.collision.specs.declared.Sweep.{Sweep}
-use Rattle.collision.specs.declared.Ray.{Ray}
-use Rattle.collision.specs.declared.Ray.TheVariants.{Miss, At}
 use Rattle.collision.specs.declared.Hit.{Hit}
 
 -- strictly between the tolerance and the limit
@@ -15,9 +13,9 @@ abbrev pub hit_with : Float → ℕ → ℕ → ℕ → Option Hit
 hit_with d kind s o = Some (record { distance = d; kind = kind; stationary = s; orbiting = o })
 
 -- a ray's hit where it counts, with its kind and its indices in stationary and orbiting
-unfoldable pub counted_of : Ray → Sweep → ℕ → ℕ → ℕ → Option Hit
-counted_of Miss w kind s o = None
-counted_of (At d) w kind s o = cond (between w.tolerance w.limit d) (hit_with d kind s o) None
+unfoldable pub counted_of : Option Float → Sweep → ℕ → ℕ → ℕ → Option Hit
+counted_of None w kind s o = None
+counted_of (Some d) w kind s o = cond (between w.tolerance w.limit d) (hit_with d kind s o) None
 
 -- a hit is nearer than nothing, and than a hit whose distance is strictly larger
 unfoldable pub nearer : Option Hit → Option Hit → Bool

@@ -9,8 +9,6 @@ use Rattle.pairs.specs.Pairs.{pair, pair_of, vertex_pairs}
 use Rattle.pairs.specs.declared.Pair.{Pair}
 use Rattle.collision.specs.Ray.{edge_ray}
 use Rattle.collision.specs.Check.{sweep_of, back_of}
-use Rattle.collision.specs.declared.Ray.{Ray}
-use Rattle.collision.specs.declared.Ray.TheVariants.{At}
 use Rattle.collision.specs.declared.Hit.{Hit}
 
 -- the pair with a number in scan order: first, orbiting vertex by orbiting vertex, the stationary edges; then, stationary vertex by
@@ -23,7 +21,7 @@ abbrev pub scans : List Float → List Float → ℕ
 scans st orb = vertex_pairs (count st) (count orb)
 
 -- the computed ray of a pair
-unfoldable pub ray_at : List Float → List Float → Point → Float → Pair → Ray
+unfoldable pub ray_at : List Float → List Float → Point → Float → Pair → Option Float
 ray_at st orb move tol p =
     let w = sweep_of move tol in
     cond (eqb p.kind 0)
@@ -33,7 +31,7 @@ ray_at st orb move tol p =
 -- the pair number k has a computed hit at d
 pub record Meets (st orb : List Float) (move : Point) (tol : Float) (k : ℕ) (d : Float) : Type 0 where
   pub scanned : k < scans st orb
-  pub at : ray_at st orb move tol (pair_no st orb k) ≡ At d
+  pub at : ray_at st orb move tol (pair_no st orb k) ≡ Some d
 
 -- and it lies strictly between the tolerance and the length less the tolerance
 pub record Blocks (st orb : List Float) (move : Point) (tol : Float) (k : ℕ) (d : Float) : Type 0 where

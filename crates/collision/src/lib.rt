@@ -20,13 +20,6 @@ use plane::Point;
 use plane::vector::{cross, length, minus};
 use ring::{next, point_at};
 
-// A ray against a segment: it misses, or it meets the segment at a distance.
-#[derive(Clone, Copy)]
-pub enum Ray {
-    Miss,
-    At(f64),
-}
-
 // What a move runs into, and how far off it is. Kind 0 is a vertex of orbiting on an edge of stationary, kind 1 a vertex of stationary on
 // an edge of orbiting.
 #[derive(Clone, Copy)]
@@ -57,13 +50,13 @@ fn within_segment(u: f64, tolerance: f64) -> bool
 }
 
 // The answer by the parameter along the ray, where the other is within the tolerance.
-fn in_front(t: f64, tolerance: f64) -> Ray
+fn in_front(t: f64, tolerance: f64) -> Option<f64>
     ensures { result ≡ in_front t tolerance }
 {
     if t >= -tolerance {
-        Ray::At(scalar::larger(t, 0.0))
+        Some(scalar::larger(t, 0.0))
     } else {
-        Ray::Miss
+        None
     }
 }
 
@@ -74,14 +67,14 @@ fn is_small(x: f64, tolerance: f64) -> bool
     if x < tolerance { -x < tolerance } else { false }
 }
 
-// How far along the ray from origin it meets the segment p1 p2.
+// How far along the ray from origin it meets the segment p1 p2, or nothing where it misses.
 pub fn ray_segment_intersection(
     origin: Point,
     dir: Point,
     p1: Point,
     p2: Point,
     tolerance: f64,
-) -> Ray
+) -> Option<f64>
     ensures { result ≡ ray_of origin dir p1 p2 tolerance }
 {
     let seg = minus(p2, p1);
@@ -89,16 +82,16 @@ pub fn ray_segment_intersection(
     let diff = minus(p1, origin);
     if within_segment(cross(diff, dir) / den, tolerance) {
         if is_small(den, tolerance) {
-            return Ray::Miss;
+            return None;
         }
         in_front(cross(diff, seg) / den, tolerance)
     } else {
-        Ray::Miss
+        None
     }
 }
 
 // The ray from origin against the edge e of a ring.
-pub fn edge_ray(origin: Point, dir: Point, ring: &[f64], e: usize, tolerance: f64) -> Ray
+pub fn edge_ray(origin: Point, dir: Point, ring: &[f64], e: usize, tolerance: f64) -> Option<f64>
     requires { e < count ring.now }
     ensures { result ≡ edge_ray origin dir ring.now e tolerance }
 {
@@ -108,10 +101,16 @@ pub fn edge_ray(origin: Point, dir: Point, ring: &[f64], e: usize, tolerance: f6
 }
 
 // A ray's hit where it counts: above the tolerance and below the limit.
-fn counted(ray: Ray, sweep: Sweep, kind: u8, stationary: usize, orbiting: usize) -> Option<Hit>
+fn counted(
+    ray: Option<f64>,
+    sweep: Sweep,
+    kind: u8,
+    stationary: usize,
+    orbiting: usize,
+) -> Option<Hit>
     ensures { result ≡ counted_of ray sweep kind stationary orbiting }
 {
-    let Ray::At(distance) = ray else {
+    let Some(distance) = ray else {
         return None;
     };
     if distance > sweep.tolerance {
@@ -128,7 +127,7 @@ fn counted(ray: Ray, sweep: Sweep, kind: u8, stationary: usize, orbiting: usize)
 }
 
 // What a ray of the vertex v of one ring makes of the edge e of the other.
-pub fn pair(ray: Ray, sweep: Sweep, kind: u8, v: usize, e: usize) -> Option<Hit>
+pub fn pair(ray: Option<f64>, sweep: Sweep, kind: u8, v: usize, e: usize) -> Option<Hit>
     ensures { result ≡ pair_by ray sweep kind v e }
 {
     if kind == 0 {
@@ -177,19 +176,13 @@ fn row(
 {
     let mut best = before;
     let mut near = least(before);
-    let mut e = from;
-    while e < to {
+    for e in from..to {
         let ray = edge_ray(origin, sweep.dir, edges, e, sweep.tolerance);
-        if let Ray::At(d) = ray {
+        if let Some(d) = ray {
             if counts_below(d, sweep, near) {
-                best = pair(Ray::At(d), sweep, kind, v, e);
+                best = pair(ray, sweep, kind, v, e);
                 near = d;
-                e += 1;
-            } else {
-                e += 1;
             }
-        } else {
-            e += 1;
         }
     }
     best
@@ -213,12 +206,10 @@ fn chained_row(
     let mut e = 0;
     while e < m {
         let to = chain_end(e, m);
-        if is_passed(table, e / 8, origin, sweep.dir) {
-            e = to;
-        } else {
+        if !is_passed(table, e / 8, origin, sweep.dir) {
             best = row(origin, edges, sweep, kind, v, best, e, to);
-            e = to;
         }
+        e = to;
     }
     best
 }

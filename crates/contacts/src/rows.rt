@@ -123,14 +123,12 @@ pub fn scan_vertices(
 {
     let vn = points.len() / 2;
     let en = ring.len() / 2;
-    let mut i = v;
     let mut from = e;
-    while i < vn {
+    for i in v..vn {
         let j = near_edge_within(point_at(points, i), ring, around, from, tol);
         if j < en {
             return i * en + j;
         }
-        i += 1;
         from = 0;
     }
     vn * en
@@ -153,16 +151,14 @@ pub fn scan_edges(
 {
     let sn = stationary.len() / 2;
     let on = orbiting.len() / 2;
-    let mut i = s;
     let mut from = o;
-    while i < sn {
+    for i in s..sn {
         let a = point_at(stationary, i);
         let b = point_at(stationary, next(i, sn));
         let j = edge_along_within(a, b, orbiting, around, from, tol);
         if j < on {
             return i * on + j;
         }
-        i += 1;
         from = 0;
     }
     sn * on

@@ -11,7 +11,7 @@ ghost use Rattle.projection.specs.Foot.{foot_code};
 ghost use Rattle.contacts_call.specs.Which.{foot_by, contact_foot, entry, which_of};
 ghost use Rattle.contacts_call.specs.Calls.{contact_count};
 
-use contacts::{Edges, Next, edges_of, frames_of, next_within};
+use contacts::{Edges, edges_of, frames_of, next_within};
 use pairs::{Pair, pair_at};
 use plane::Point;
 use projection::foot::{Foot, foot_code, foot_of};
@@ -70,15 +70,11 @@ fn count_contacts(stationary: &[f64], orbiting: &[f64], tol: f64) -> usize
     let frames = frames_of(stationary, orbiting);
     let mut n = 0;
     let mut k = 0;
-    loop {
-        match next_within(stationary, orbiting, frames, tol, k) {
-            Next::Nothing => return n,
-            Next::At(j) => {
-                n += 1;
-                k = j + 1;
-            }
-        }
+    while let Some(j) = next_within(stationary, orbiting, frames, tol, k) {
+        n += 1;
+        k = j + 1;
     }
+    n
 }
 
 // A pair's kind and indices, and its foot's code, from at on.
@@ -123,18 +119,13 @@ fn write_contacts(
     let frames = frames_of(stationary, orbiting);
     let mut n = 0;
     let mut k = 0;
-    loop {
-        match next_within(stationary, orbiting, frames, tol, k) {
-            Next::Nothing => return,
-            Next::At(j) => {
-                let pair = pair_at(j, sn, on);
-                let foot = contact_foot(stationary, orbiting, pair);
-                put_pair(which, ENTRY * n, pair, foot);
-                put_point(points, 2 * n, contact_point(stationary, orbiting, pair));
-                n += 1;
-                k = j + 1;
-            }
-        }
+    while let Some(j) = next_within(stationary, orbiting, frames, tol, k) {
+        let pair = pair_at(j, sn, on);
+        let foot = contact_foot(stationary, orbiting, pair);
+        put_pair(which, ENTRY * n, pair, foot);
+        put_point(points, 2 * n, contact_point(stationary, orbiting, pair));
+        n += 1;
+        k = j + 1;
     }
 }
 

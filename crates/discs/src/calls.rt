@@ -1,17 +1,15 @@
 // The public call: make_disc.
-#![tactic(auto, using(refusals::proofs::Tests::refused))]
-
 ghost use Rattle.std.specs.Prelude.{◌≡◌, true, ◌*◌, length};
 ghost use Rattle.ring.specs.Room.{laid};
-ghost use Rattle.refusals.specs.Answers.{outcome, left, answered};
+ghost use Rattle.refusals.specs.Answers.{outcome, left, answered, tested};
 ghost use Rattle.discs.specs.Disc.{quarter_ok, disc_of};
 ghost use Rattle.discs.specs.Calls.{radius_ok, of_disc, of_vertices, disc_call, disc_room};
 
 use crate::draw;
 use plane::Point;
-use refusals::screen::{first, numbers, position, short, unless};
+use refusals::Refusal;
+use refusals::screen::{numbers, position, short, unless};
 use refusals::test::is_finite;
-use refusals::{REFUSED_NUMBER, REFUSED_QUARTER, Refusal};
 use ring::room::copy;
 
 // Whether a quarter may have m vertices.
@@ -38,15 +36,17 @@ fn is_radius(x: f64) -> bool
 }
 
 // What is lent beside the room.
-fn lent(centre: Point, radius: f64, m: usize) -> Refusal
-    ensures { result ≡ of_disc centre radius m }
+#[tactic(auto, using(refusals::proofs::Tests::refused), unfolding(crate::specs::Calls::of_disc))]
+fn lent(centre: Point, radius: f64, m: usize) -> Result<(), Refusal>
+    ensures { tested result ≡ of_disc centre radius m }
 {
-    let quarter = unless(is_quarter(m), REFUSED_QUARTER, 0);
-    let radius = unless(is_radius(radius), REFUSED_NUMBER, 0);
-    first(quarter, first(radius, position(centre)))
+    unless(is_quarter(m), Refusal::Quarter)?;
+    unless(is_radius(radius), Refusal::Number)?;
+    position(centre)
 }
 
 // The disc of what is taken: all its vertices are tested before the room is written.
+#[tactic(auto, using(crate::proofs::Seven::quarter_most, crate::proofs::Drawn::disc_front, refusals::proofs::Tests::refused), unfolding(crate::specs::Calls::of_vertices))]
 fn answer(centre: Point, radius: f64, m: usize, room: &mut [f64]) -> Result<usize, Refusal>
     requires { quarter_ok m ≡ true }
     ensures result_value { answered result ≡ outcome (of_vertices centre radius m (length room.old)) (4 * m) }
@@ -57,12 +57,14 @@ fn answer(centre: Point, radius: f64, m: usize, room: &mut [f64]) -> Result<usiz
     let len = 2 * n;
     let mut disc = [0.0; 512];
     draw(centre, radius, m, &mut disc);
-    first(numbers(&disc[..len]), short(len, room.len()))?;
+    numbers(&disc[..len])?;
+    short(len, room.len())?;
     copy(&disc, len, room);
     Ok(n)
 }
 
 // A disc of 4m vertices, counter-clockwise from the right, in the room: how many vertices it has.
+#[tactic(auto, using(crate::proofs::Screened::taken, refusals::proofs::Tests::refused), unfolding(crate::specs::Calls::disc_refusal))]
 pub fn make_disc(centre: Point, radius: f64, m: usize, room: &mut [f64]) -> Result<usize, Refusal>
     ensures result_value { answered result ≡ disc_call centre radius m (length room.old) }
     ensures room_after { room.new ≡ disc_room centre radius m room.old }

@@ -97,7 +97,7 @@ fn put_book(book: &[u8], translation: Point, tolerance: f64, out: &mut [u8]) -> 
             tolerance,
             out,
         ),
-        Err(no) => put_number(no.number, out),
+        Err(no) => put_number(no.number(), out),
     }
 }
 

@@ -14,8 +14,6 @@ use Rattle.laws.specs.Turns.{turns, turn_rows}
 use Rattle.laws.proofs.Turns.{rows_flat}
 use Rattle.collision.specs.Hit.{counted_of, nearer}
 use Rattle.collision.specs.declared.Sweep.{Sweep}
-use Rattle.collision.specs.declared.Ray.{Ray}
-use Rattle.collision.specs.declared.Ray.TheVariants.{Miss}
 use Rattle.collision.specs.declared.Hit.{Hit}
 use Rattle.grounds.specs.Classes.{too_near, in_between, too_far, hit_is}
 use Rattle.grounds.specs.Scan.{kind_most, pairs_most, AtMost, others_after, noted_of, pair_noted}
@@ -32,7 +30,7 @@ either : (b : Bool) → ◌≡◌ {A = Option Hit} (cond b None None) None
 either true = refl
 either false = refl
 
-pub missed : (w : Sweep) (kind : ℕ) (t : Tally) (v e : ℕ) → t ≡ noted_of w kind t v e Miss
+pub missed : (w : Sweep) (kind : ℕ) (t : Tally) (v e : ℕ) → t ≡ noted_of w kind t v e None
 unfolding noted_of counted_of hit_is
 missed w kind t v e = missed_by t _ (either (eqb kind 0))
 
@@ -52,7 +50,7 @@ others_most n m (Some x) (Some y) h = go (lt y.distance x.distance)
     go true = omega arith
     go false = one_most n m (eq y.distance x.distance) h
 
-noted_most : (w : Sweep) (kind : ℕ) (t : Tally) (v e : ℕ) (ray : Ray) (m : ℕ) → AtMost t m → AtMost (noted_of w kind t v e ray) (m + 1)
+noted_most : (w : Sweep) (kind : ℕ) (t : Tally) (v e : ℕ) (ray : Option Float) (m : ℕ) → AtMost t m → AtMost (noted_of w kind t v e ray) (m + 1)
 unfolding noted_of
 noted_most w kind t v e ray m h =
     record {

@@ -15,8 +15,7 @@ use Rattle.refusals.specs.Refusals.{passed}
 use Rattle.refusals.specs.Rows.{of_moving}
 use Rattle.collision.specs.Check.{sweep_of, both_of, collision_of}
 use Rattle.collision.specs.Nearest.{pair_no, scans, ray_at}
-use Rattle.collision.specs.declared.Ray.{Ray}
-use Rattle.collision.specs.declared.Ray.TheVariants.{Miss, At}
+use Rattle.std.specs.Prelude.{Option, None as Miss, Some as At}
 use Rattle.grounds.specs.Classes.{too_near, in_between, too_far, hit_is, hit_at, how_many}
 use Rattle.grounds.specs.Grounds.{ground_by, Some, All, None, any, Says}
 use Rattle.grounds.specs.Scan.{no_tally}
@@ -40,7 +39,7 @@ left_third the_third x y = refl
 module _ (st orb : List Float) (move : Point) (tol : Float) where
   -- ---- a count that is 0, and one that is not
 
-  some_by : (passes : Float → Bool) (k : ℕ) → k < scans st orb → (ray : Ray) → ray_at st orb move tol (pair_no st orb k) ≡ ray → hit_is passes ray ≡ true
+  some_by : (passes : Float → Bool) (k : ℕ) → k < scans st orb → (ray : Option Float) → ray_at st orb move tol (pair_no st orb k) ≡ ray → hit_is passes ray ≡ true
       → Some st orb move tol passes
   unfolding hit_is
   some_by passes k l Miss e h = no_bool (sym h)

@@ -20,8 +20,6 @@ use Rattle.laws.proofs.Order.{lt_le, le_lt, le_of_eq, eq_back, eq_self}
 use Rattle.collision.specs.Hit.{nearer}
 use Rattle.collision.specs.Check.{sweep_of}
 use Rattle.collision.specs.Nearest.{pair_no, scans, ray_at, Blocks}
-use Rattle.collision.specs.declared.Ray.{Ray}
-use Rattle.collision.specs.declared.Ray.TheVariants.{Miss, At}
 use Rattle.collision.specs.declared.Hit.{Hit}
 use Rattle.collision.proofs.Counting.{above_real, counts, real}
 use Rattle.collision.proofs.Pairs.{found}
@@ -53,14 +51,14 @@ module _ (st orb : List Float) (move : Point) (tol : Float) where
   unfolding sweep_of
   inside k h e = let c = carried st orb move tol k h e in record { above = c.above; below = c.below }
 
-  ray_of : (k : ℕ) (h : Hit) → found st orb move tol k ≡ Some h → ray_at st orb move tol (pair_no st orb k) ≡ At h.distance
+  ray_of : (k : ℕ) (h : Hit) → found st orb move tol k ≡ Some h → ray_at st orb move tol (pair_no st orb k) ≡ Some h.distance
   ray_of k h e = (carried st orb move tol k h e).meets
 
   number_of : (k : ℕ) (h : Hit) → found st orb move tol k ≡ Some h → eq h.distance h.distance ≡ true
   unfolding found
   number_of k h e = eq_self h.distance (real (sweep_of move tol) _ _ _ _ h e)
 
-  at_hit : (k : ℕ) (e d : Float) → ray_at st orb move tol (pair_no st orb k) ≡ At e → at d k ≡ eq e d
+  at_hit : (k : ℕ) (e d : Float) → ray_at st orb move tol (pair_no st orb k) ≡ Some e → at d k ≡ eq e d
   unfolding hit_is
   at_hit k e d h = rw h
 
@@ -69,9 +67,9 @@ module _ (st orb : List Float) (move : Point) (tol : Float) where
   unfolding hit_is found sweep_of
   equal d i k h = go (ray_at st orb move tol (pair_no st orb k)) refl h
     where
-      go : (ray : Ray) → ray_at st orb move tol (pair_no st orb k) ≡ ray → hit_is (λ e. eq e d) ray ≡ true → Equal d k
-      go Miss r t = absurd (true≢false (sym t))
-      go (At e) r t =
+      go : (ray : Option Float) → ray_at st orb move tol (pair_no st orb k) ≡ ray → hit_is (λ e. eq e d) ray ≡ true → Equal d k
+      go None r t = absurd (true≢false (sym t))
+      go (Some e) r t =
           record {
             which = _;
             hits = counts (sweep_of move tol) _ _ _ _ e r (lt_le tol d e i.above (le_of_eq d e (eq_back e d t))) (le_lt e d _ (le_of_eq e d t) i.below);

@@ -11,8 +11,7 @@ use Rattle.laws.proofs.Turns.{turns_split, one_more, row_more}
 use Rattle.collision.specs.Ray.{edge_ray}
 use Rattle.collision.specs.Chained.{MissesTo}
 use Rattle.collision.specs.declared.Sweep.{Sweep}
-use Rattle.collision.specs.declared.Ray.{Ray}
-use Rattle.collision.specs.declared.Ray.TheVariants.{Miss}
+use Rattle.std.specs.Prelude.{Option, None}
 use Rattle.grounds.specs.Met.{MetFirst}
 use Rattle.grounds.specs.Scan.{kind_most, pairs_most, AtMost, noted_of, pair_noted, scan_noted}
 use Rattle.grounds.specs.declared.Met.{Met}
@@ -42,7 +41,7 @@ module _ (vs es : List Float) (w : Sweep) (kind : ℕ) (before : Tally) where
   unfolding turns turn_rows
   from_none = refl
 
-  none_noted : (v k : ℕ) (t : Tally) → edge_ray (point_at vs v) w.dir es k w.tolerance ≡ Miss → pair_noted vs es w kind t v k ≡ t
+  none_noted : (v k : ℕ) (t : Tally) → edge_ray (point_at vs v) w.dir es k w.tolerance ≡ None → pair_noted vs es w kind t v k ≡ t
   unfolding pair_noted
   none_noted v k t h = rw h (sym (missed w kind t v k))
 
@@ -50,7 +49,7 @@ module _ (vs es : List Float) (w : Sweep) (kind : ℕ) (before : Tally) where
   skipped v a to h l m = passed_over _ _ a to h l (λ s k i j. none_noted v k s (m k i j))
 
   -- one hit more, after misses
-  pub next_pair : (v a : ℕ) {t next : Tally} {o : Point} {met : Met} {ray : Ray} → Sofar v a t → o ≡ point_at vs v → MetFirst es w.dir w.tolerance o a (count es) met → met.edge < count es
+  pub next_pair : (v a : ℕ) {t next : Tally} {o : Point} {met : Met} {ray : Option Float} → Sofar v a t → o ≡ point_at vs v → MetFirst es w.dir w.tolerance o a (count es) met → met.edge < count es
       → met.ray ≡ ray → next ≡ noted_of w kind t v met.edge ray → Sofar v (met.edge + 1) next
   next_pair v a {t = t} {o = o} {met = met} h eo m k er e = one_more _ _ met.edge (skipped v a met.edge h m.not_before (rw (← eo) m.misses)) (e ∙ unfold pair_noted in rw (← er, m.hits k, eo))
 

@@ -7,7 +7,7 @@ use mathlib.Core.Path.{◌≡◌, refl, sym, ap, ◌∙◌}
 use mathlib.Core.Bool.{cond}
 use mathlib.Core.List.{List}
 use lib.Ieee.{Float}
-use Rattle.std.specs.Prelude.{None}
+use Rattle.std.specs.Prelude.{Option, None}
 use Rattle.plane.specs.declared.Point.{Point}
 use Rattle.ring.specs.Ring.{count, point_at}
 use Rattle.pairs.proofs.Numbers.{first_pairs, second_pairs}
@@ -19,7 +19,6 @@ use Rattle.collision.specs.Ray.{edge_ray}
 use Rattle.collision.specs.Check.{back_of, sweep_of}
 use Rattle.collision.specs.Nearest.{scans, ray_at}
 use Rattle.collision.specs.declared.Sweep.{Sweep}
-use Rattle.collision.specs.declared.Ray.{Ray}
 use Rattle.collision.proofs.Counting.{counted_back}
 use Rattle.collision.proofs.Pairs.{found}
 use Rattle.grounds.specs.Classes.{too_near, in_between, too_far, hit_at}
@@ -27,7 +26,7 @@ use Rattle.grounds.specs.Scan.{no_tally, others_after, noted_of, pair_noted, sca
 use Rattle.grounds.specs.declared.Tally.{Tally}
 
 -- the way of the rays does not matter for what is noted
-noted_back : (w : Sweep) (t : Tally) (v e : ℕ) (ray : Ray) → noted_of (back_of w) 1 t v e ray ≡ noted_of w 1 t v e ray
+noted_back : (w : Sweep) (t : Tally) (v e : ℕ) (ray : Option Float) → noted_of (back_of w) 1 t v e ray ≡ noted_of w 1 t v e ray
 unfolding noted_of back_of
 noted_back w t v e ray = rw (counted_back w 1 v e ray)
 

@@ -8,7 +8,6 @@ use Rattle.collision.specs.Hit.{kept_hit}
 use Rattle.collision.specs.Parts.{pair_by}
 use Rattle.collision.specs.Check.{back_of}
 use Rattle.collision.specs.declared.Sweep.{Sweep}
-use Rattle.collision.specs.declared.Ray.{Ray}
 use Rattle.collision.specs.declared.Hit.{Hit}
 use Rattle.grounds.specs.Classes.{too_near, in_between, too_far, hit_is}
 use Rattle.grounds.specs.declared.Tally.{Tally}
@@ -24,7 +23,7 @@ others_after others None (Some g) = 0
 others_after others (Some h) (Some g) = cond (lt g.distance h.distance) 0 (others + cond (eq g.distance h.distance) 1 0)
 
 -- a ray of the vertex v against the edge e
-unfoldable pub noted_of : Sweep → ℕ → Tally → ℕ → ℕ → Ray → Tally
+unfoldable pub noted_of : Sweep → ℕ → Tally → ℕ → ℕ → Option Float → Tally
 noted_of w kind t v e ray =
     let new = pair_by ray w kind v e in
     record {

@@ -16,7 +16,7 @@ ghost use Rattle.grounds.specs.Scan.{kind_most, pairs_most, AtMost, no_tally, ot
 ghost use Rattle.grounds.specs.Explanation.{explanation_of};
 
 use chains::{NUMBERS, chain_end, fill, is_chained, is_passed};
-use collision::{Hit, Ray, Sweep, back, edge_ray, pair, rays};
+use collision::{Hit, Sweep, back, edge_ray, pair, rays};
 use plane::Point;
 use plane::vector::length;
 use ring::point_at;
@@ -37,7 +37,7 @@ pub enum Ground {
 #[derive(Clone, Copy)]
 struct Met {
     edge: usize,
-    ray: Ray,
+    ray: Option<f64>,
 }
 
 // What is known of the pairs scanned: the nearest hit that counts, how many other pairs have its very distance, and how many hits are too
@@ -155,18 +155,15 @@ fn first_hit(origin: Point, edges: &[f64], sweep: Sweep, from: usize, to: usize)
     requires { (from ≤ to) × (to ≤ count edges.now) }
     ensures { MetFirst edges.now sweep.dir sweep.tolerance origin from to result }
 {
-    let mut e = from;
-    while e < to {
+    for e in from..to {
         let ray = edge_ray(origin, sweep.dir, edges, e, sweep.tolerance);
-        if let Ray::At(_) = ray {
+        if let Some(_) = ray {
             return Met { edge: e, ray };
-        } else {
-            e += 1;
         }
     }
     Met {
         edge: to,
-        ray: Ray::Miss,
+        ray: None,
     }
 }
 
@@ -184,20 +181,15 @@ fn next_hit(origin: Point, edges: &[f64], table: &[f64], sweep: Sweep, from: usi
     let mut e = from;
     while e < n {
         let to = chain_end(e, n);
-        if is_passed(table, e / 8, origin, sweep.dir) {
-            e = to;
-        } else {
+        if !is_passed(table, e / 8, origin, sweep.dir) {
             let met = first_hit(origin, edges, sweep, e, to);
             if met.edge < to {
                 return met;
             }
-            e = to;
         }
+        e = to;
     }
-    Met {
-        edge: n,
-        ray: Ray::Miss,
-    }
+    Met { edge: n, ray: None }
 }
 
 // Each vertex of one ring against each edge of the other, from what was known before, with a table of the edges' chains or an
@@ -229,8 +221,8 @@ fn scan_by(
         let ray = met.ray;
         if k < m {
             e = k + 1;
-            if let Ray::At(d) = ray {
-                let new = pair(Ray::At(d), sweep, kind, v, k);
+            if let Some(d) = ray {
+                let new = pair(ray, sweep, kind, v, k);
                 others = others_after(others, best, new);
                 near = one_more(near, d <= sweep.tolerance);
                 between = one_more(between, in_between(d, sweep));

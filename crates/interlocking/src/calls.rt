@@ -6,8 +6,7 @@ ghost use Rattle.refusals.specs.Answers.{answered};
 ghost use Rattle.interlocking.specs.Calls.{interlock_call};
 
 use plane::Point;
-use refusals::Refusal;
-use refusals::row;
+use refusals::{Refusal, row};
 
 // The first position toward a concave vertex at which the orbiting polygon, lent as drawn, does not overlap, or nothing.
 pub fn detect_interlocking_opportunity(
@@ -19,7 +18,5 @@ pub fn detect_interlocking_opportunity(
     ensures { answered result ≡ interlock_call stationary.now orbiting.now current tolerance }
 {
     row::moving(stationary, orbiting, current, tolerance)?;
-    Ok(crate::detect_interlocking_opportunity(
-        stationary, orbiting, current, tolerance,
-    ))
+    Ok(crate::detect_interlocking_opportunity(stationary, orbiting, current, tolerance))
 }

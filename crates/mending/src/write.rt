@@ -7,7 +7,7 @@ ghost use Rattle.mending.specs.Mending.{trails_from, staying, going, mended_of, 
 ghost use Rattle.mending.specs.Calls.{fitting, sizes_of};
 
 use crate::answer::Sizes;
-use crate::{Fate, fate_at, row, trail};
+use crate::{fate_at, row, trail};
 use refusals::Refusal;
 use ring::point_at;
 use ring::room::put;
@@ -19,16 +19,9 @@ fn count_staying(ring: &[f64], end: usize) -> usize
 {
     let n = ring.len() / 2;
     let mut staying = 0;
-    let mut i = 0;
-    while i < n {
-        match fate_at(ring, end, i) {
-            Fate::Stays => {
-                staying += 1;
-                i += 1;
-            }
-            Fate::Goes(_) => {
-                i += 1;
-            }
+    for i in 0..n {
+        if fate_at(ring, end, i).is_none() {
+            staying += 1;
         }
     }
     staying
@@ -56,19 +49,16 @@ fn write_mended(ring: &[f64], end: usize, room: &mut [f64], dropped: &mut [u64],
     let n = ring.len() / 2;
     let mut staying = 0;
     let mut gone = 0;
-    let mut i = 0;
-    while i < n {
+    for i in 0..n {
         match fate_at(ring, end, i) {
-            Fate::Stays => {
+            None => {
                 put(room, staying, point_at(ring, i));
                 staying += 1;
-                i += 1;
             }
-            Fate::Goes(why) => {
+            Some(why) => {
                 put_why(dropped, gone, i, why);
                 put(points, gone, point_at(ring, i));
                 gone += 1;
-                i += 1;
             }
         }
     }

@@ -11,8 +11,9 @@ use lib.Ieee.{Float, binary64, of_bits}
 use Rattle.ring.specs.Room.{laid}
 use Rattle.refusals.specs.Refusals.{passed}
 use Rattle.refusals.specs.Refusals.{Told}
-use Rattle.refusals.specs.declared.answer.Count.{Count}
-use Rattle.refusals.specs.declared.answer.Count.TheVariants.{Is, Refused}
+use Rattle.std.specs.Prelude.{Result, Ok, Err}
+use Rattle.refusals.specs.Answers.{tells}
+use Rattle.refusals.specs.declared.Refusal.{Refusal}
 use Rattle.refusals.specs.Rings.{vertices_least, vertices_most, rings_most, within, total, sized_all}
 use Rattle.book_layout.specs.Layout.{numbers_most, counts_of, parts_of}
 use Rattle.book_layout.specs.Faults.{◌passes, book_check}
@@ -77,8 +78,8 @@ pub record Pair (f : List ℕ) (x : List Float) (n : List ℕ) : Type 0 where
   pub stationary_is : first_part x (get_or n 0 0) ≡ stationary_in f
   pub orbiting_is : second_part x (get_or n 0 0) (get_or n 1 0) ≡ orbiting_in f
 
-module _ (f : List ℕ) (bytes : (i : ℕ) → get_or f i 0 < 256) (x : List Float) (n q : List ℕ) (r : Count) (p : Promised f room counts parts r x n q) where
-  module _ (k : ℕ) (e : r ≡ Is k) where
+module _ (f : List ℕ) (bytes : (i : ℕ) → get_or f i 0 < 256) (x : List Float) (n q : List ℕ) (r : Result ℕ Refusal) (p : Promised f room counts parts r x n q) where
+  module _ (k : ℕ) (e : r ≡ Ok k) where
     held : Held (numbers_of f) (counts_of f) (parts_of f)
     held = book_held f bytes room x counts n parts q r p k e
 
@@ -121,12 +122,12 @@ module _ (f : List ℕ) (bytes : (i : ℕ) → get_or f i 0 < 256) (x : List Flo
       orbiting_is = orbiting;
     }
 
-  module _ (told : Told) (e : r ≡ Refused told) where
-    pub fault_read : (passed (book_check f) ≡ false) × (told ≡ book_check f)
+  module _ (why : Refusal) (e : r ≡ Err why) where
+    pub fault_read : (passed (book_check f) ≡ false) × (tells why ≡ book_check f)
     fault_read =
         let l = length-replicate numbers_most (of_bits binary64 0) in
         let m = length-replicate {A = ℕ} rings_most 0 in
-        no_book f bytes room x counts n parts q r p (omega (arith, l)) (omega (arith, m)) (omega (arith, m)) told e
+        no_book f bytes room x counts n parts q r p (omega (arith, l)) (omega (arith, m)) (omega (arith, m)) why e
 
 -- ---- what is said of a book: its two polygons in one way, or its fault in another
 

@@ -10,10 +10,9 @@ pub fn put_text(room: &mut [u8], at: usize, text: &[u8]) -> usize
     requires { at + length text.now ≤ length room.old }
     ensures { Put room.old at text.now room.new result }
 {
-    for i in 0..text.len() {
-        room[at + i] = text[i];
-    }
-    at + text.len()
+    let end = at + text.len();
+    room[at..end].copy_from_slice(text);
+    end
 }
 
 // The byte of a digit.

@@ -110,8 +110,8 @@ fn rule_of(list: &[u64], from: Spot, to: Spot, how: u32) -> Rule
     Rule {
         way: way_of(how),
         w: width_of(how),
-        from: from,
-        to: to,
+        from,
+        to,
         x: middle_of(0, list, from, to),
         y: middle_of(1, list, from, to),
         across: middle_of(2, list, from, to),
@@ -153,10 +153,10 @@ fn step_by(east: u64, west: u64, north: u64, south: u64) -> Step
     ensures { result ≡ step_by east west north south }
 {
     Step {
-        east: east,
-        west: west,
-        north: north,
-        south: south,
+        east,
+        west,
+        north,
+        south,
     }
 }
 

@@ -56,8 +56,8 @@ fn fill(ring: &[f64], room: &mut [u64])
     requires ring_in_bounds { length ring.now ≤ length room.old }
     ensures { Keyed room.new ring.now }
 {
-    for i in 0..ring.len() {
-        room[i] = key(kept_bits(ring[i]));
+    for (i, &x) in ring.iter().enumerate() {
+        room[i] = key(kept_bits(x));
     }
 }
 

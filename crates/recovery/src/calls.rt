@@ -6,8 +6,7 @@ ghost use Rattle.refusals.specs.Answers.{answered};
 ghost use Rattle.recovery.specs.Calls.{recover_call};
 
 use plane::Point;
-use refusals::Refusal;
-use refusals::row;
+use refusals::{Refusal, row};
 
 // Where the orbiting polygon, lent where it is, is moved to from its current position to touch the stationary one again, or nothing.
 pub fn recover_contact(

@@ -18,7 +18,5 @@ pub fn copy(list: &[f64], len: usize, room: &mut [f64])
     requires { (len ≤ length list.now) × (len ≤ length room.old) }
     ensures { room.new ≡ laid (take len list.now) room.old }
 {
-    for i in 0..len {
-        room[i] = list[i];
-    }
+    room[..len].copy_from_slice(&list[..len]);
 }

@@ -68,12 +68,10 @@ fn to_ring(p: Point, ring: &[f64], before: f64) -> f64
     let first = point_at(ring, 0);
     let mut least = before;
     let mut a = first;
-    let mut i = 0;
-    while i + 1 < n {
-        let b = point_at(ring, i + 1);
+    for i in 1..n {
+        let b = point_at(ring, i);
         least = to_edge(p, a, b, least);
         a = b;
-        i += 1;
     }
     to_edge(p, a, first, least)
 }

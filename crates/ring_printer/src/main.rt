@@ -57,8 +57,8 @@ fn put_rings(xs: &[f64], counts: &[u32], parts: &[u32], out: &mut [u8], from: us
 {
     let mut next = from;
     let mut at = 0;
-    for i in 0..counts.len() {
-        let n = counts[i] as usize;
+    for (i, &n) in counts.iter().enumerate() {
+        let n = n as usize;
         let end = at + 2 * n;
         next = put_ring(&xs[at..end], i, n, parts[i], out, next);
         at = end;

@@ -1,7 +1,6 @@
 // Where the slide starts: stationary's lowest vertex against orbiting's highest: `find_start_position` of `nfp_sliding.rs`.
 #![tactic(auto)]
 
-pub mod answer;
 pub mod calls;
 
 ghost use Rattle.std.specs.Prelude.{◌≡◌, ◌<◌};

@@ -12,7 +12,7 @@ use plane::Point;
 use refusals::Refusal;
 use refusals::row::rooms;
 use vectors::fit::next_kept;
-use vectors::{Place, Step, TranslationVector};
+use vectors::{Place, TranslationVector};
 
 // How many there are.
 pub fn count_vectors(
@@ -32,19 +32,11 @@ pub fn count_vectors(
         side: 0,
         source: 0,
     };
-    loop {
-        match next_kept(stationary, orbiting, tol, from, visited, at) {
-            Step::End => return n,
-            Step::Vector {
-                vector: _,
-                source: _,
-                rest,
-            } => {
-                n += 1;
-                at = rest;
-            }
-        }
+    while let Some(step) = next_kept(stationary, orbiting, tol, from, visited, at) {
+        n += 1;
+        at = step.rest;
     }
+    n
 }
 
 // A vector's direction and distance, from at on.
@@ -82,20 +74,11 @@ pub fn write_vectors(
         side: 0,
         source: 0,
     };
-    loop {
-        match next_kept(stationary, orbiting, tol, from, visited, at) {
-            Step::End => return,
-            Step::Vector {
-                vector,
-                source,
-                rest,
-            } => {
-                put_vector(vectors, 3 * n, vector);
-                sources[n] = source as u64;
-                n += 1;
-                at = rest;
-            }
-        }
+    while let Some(step) = next_kept(stationary, orbiting, tol, from, visited, at) {
+        put_vector(vectors, 3 * n, step.vector);
+        sources[n] = step.source as u64;
+        n += 1;
+        at = step.rest;
     }
 }
 

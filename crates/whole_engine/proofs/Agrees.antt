@@ -89,7 +89,7 @@ module _ (a b c : Point) (ax ay bx by cx cy : ℤ) (A : DrawnPoint a ax ay) (B :
       → Placed a (spot_of ax ay) × Placed b (spot_of bx by) × Placed c (spot_of cx cy)
   placed p =
       let l = ax ∷ ay ∷ bx ∷ by ∷ cx ∷ cy ∷ [] in
-      let w = all_within l {n = wrong_whole l} refl refl p in (
+      let w = all_within l p in (
         stands a ax ay A (within_at l 0 w (lit< tt)) (within_at l 1 w (lit< tt)),
         stands b bx by B (within_at l 2 w (lit< tt)) (within_at l 3 w (lit< tt)),
         stands c cx cy C (within_at l 4 w (lit< tt)) (within_at l 5 w (lit< tt)),
@@ -132,7 +132,7 @@ module _ (a b c d : Point) (x1 y1 x2 y2 x3 y3 x4 y4 : ℤ)
       alike _ _ _ _ same_refusal4
       (λ p.
       let l = x1 ∷ y1 ∷ x2 ∷ y2 ∷ x3 ∷ y3 ∷ x4 ∷ y4 ∷ [] in
-      let w = all_within l {n = wrong_whole l} refl refl p in
+      let w = all_within l p in
       intersect a b c d _ _ _ _
       (stands a x1 y1 A (within_at l 0 w (lit< tt)) (within_at l 1 w (lit< tt)))
       (stands b x2 y2 B (within_at l 2 w (lit< tt)) (within_at l 3 w (lit< tt)))
@@ -153,7 +153,7 @@ module _ (r : List Float) (zs : List ℤ) (D : Drawn r zs) where
   simple_agrees =
       alike _ _ _ _ same_row
       (λ p.
-      let w = ring_within zs {n = of_whole_ring zs} refl refl p in
+      let w = ring_within zs p in
       simple r (spot_in zs) (ring_stands r zs D w.1) ∙ ap (whole_simple (spot_in zs)) same_count)
 
   pub area_agrees : SameNumber (area2_call r) (whole_area2_call zs)
@@ -163,7 +163,7 @@ module _ (r : List Float) (zs : List ℤ) (D : Drawn r zs) where
     where
       go : (p : Bool) → passed (of_whole_ring zs) ≡ p → SameNumber (outcome (of_whole_ring zs) (area2_of r)) (whole_area2_call zs)
       go true q =
-          let w = ring_within zs {n = of_whole_ring zs} refl refl q in
+          let w = ring_within zs q in
           let at = spot_in zs in
           let P = ring_stands r zs D w.1 in
           let few : count r ≤ 256 = omega (arith, same_length r zs D, w.0) in

@@ -4,10 +4,10 @@
 ghost use Rattle.std.specs.Prelude.{◌≡◌};
 ghost use Rattle.refusals.specs.Answers.{answered, turn};
 ghost use Rattle.whole_engine.specs.Calls.{whole_turn_call, whole_orientation_call, whole_on_segment_call, whole_intersect_call};
-ghost use Rattle.whole_engine.specs.Calls.{whole_simple_call, whole_area2_call, integer};
+ghost use Rattle.whole_engine.specs.Calls.{whole_simple_call, whole_area2_call};
 
-use crate::answer::Whole;
 use crate::row;
+use plane::Orientation;
 use refusals::Refusal;
 use shifted::spot_of;
 
@@ -20,7 +20,14 @@ pub fn turn(ax: i32, ay: i32, bx: i32, by: i32, cx: i32, cy: i32) -> Result<Orie
 }
 
 // The same: where no margin is left, the orientation is the turn.
-pub fn orientation(ax: i32, ay: i32, bx: i32, by: i32, cx: i32, cy: i32) -> Result<Orientation, Refusal>
+pub fn orientation(
+    ax: i32,
+    ay: i32,
+    bx: i32,
+    by: i32,
+    cx: i32,
+    cy: i32,
+) -> Result<Orientation, Refusal>
     ensures { turn result ≡ whole_orientation_call ax ay bx by cx cy }
 {
     turn(ax, ay, bx, by, cx, cy)
@@ -65,8 +72,8 @@ pub fn is_simple_polygon(ring: &[i32]) -> Result<bool, Refusal>
 }
 
 // Twice the signed area of a ring: above 0 where its order is counter-clockwise.
-pub fn signed_area2(ring: &[i32]) -> Whole
-    ensures { integer result ≡ whole_area2_call ring.now }
+pub fn signed_area2(ring: &[i32]) -> Result<i64, Refusal>
+    ensures { answered result ≡ whole_area2_call ring.now }
 {
     row::ring(ring)?;
     Ok(crate::signed_area2(ring))

@@ -43,11 +43,9 @@ pub fn lift_moved(list: &[i32], dx: i32, dy: i32, room: &mut [u64])
 {
     let mut d = dx;
     let mut e = dy;
-    for i in 0..list.len() {
-        room[i] = up_moved(list[i], d);
-        let f = d;
-        d = e;
-        e = f;
+    for (i, &z) in list.iter().enumerate() {
+        room[i] = up_moved(z, d);
+        (d, e) = (e, d);
     }
 }
 
@@ -57,13 +55,11 @@ pub fn are_moved_within(list: &[i32], dx: i32, dy: i32) -> bool
 {
     let mut d = dx;
     let mut e = dy;
-    for i in 0..list.len() {
-        if !is_moved_within(list[i], d) {
+    for &z in list {
+        if !is_moved_within(z, d) {
             return false;
         }
-        let f = d;
-        d = e;
-        e = f;
+        (d, e) = (e, d);
     }
     true
 }
@@ -82,7 +78,7 @@ pub fn lower(list: &[u64], n: usize, room: &mut [i32])
     requires by_index { (i : ℕ) → i < n → get_or list.now i 0 ≤ 2000000 }
     ensures { room.new ≡ laid (map down_of (take n list.now)) room.old }
 {
-    for i in 0..n {
-        room[i] = down(list[i]);
+    for (i, &u) in list[..n].iter().enumerate() {
+        room[i] = down(u);
     }
 }

@@ -2,7 +2,7 @@
 #![tactic(auto, using(refusals::proofs::Tests::refused))]
 
 ghost use Rattle.std.specs.Prelude.{◌≡◌, length};
-ghost use Rattle.refusals.specs.Answers.{answered};
+ghost use Rattle.refusals.specs.Answers.{answered, tested};
 ghost use Rattle.wkb_layout.specs.Writer.{write_wkb_refusal, write_wkb_call, write_wkb_room};
 
 use crate::store::put_drawing;
@@ -10,14 +10,12 @@ use refusals::screen::short;
 use refusals::{Refusal, row};
 use wkb_layout::{HEAD_BYTES, POINT_BYTES};
 
-// The refusal of the writer, for a room of so many bytes.
-fn refusal(ring: &[f64], size: usize) -> Refusal
-    ensures { result ≡ write_wkb_refusal ring.now size }
+// What refuses the writer, for a room of so many bytes.
+#[tactic(auto, using(refusals::proofs::Tests::refused), unfolding(wkb_layout::specs::Writer::write_wkb_refusal))]
+fn refusal(ring: &[f64], size: usize) -> Result<(), Refusal>
+    ensures { tested result ≡ write_wkb_refusal ring.now size }
 {
-    let no = row::polygon(ring);
-    if !no.passed() {
-        return no;
-    }
+    row::polygon(ring)?;
     short(HEAD_BYTES + POINT_BYTES * (ring.len() / 2 + 1), size)
 }
 

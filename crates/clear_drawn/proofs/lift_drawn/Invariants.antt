@@ -7,6 +7,3 @@ use Rattle.clear_drawn.proofs.lift_drawn.Given as goal
 
 abbrev pub invariant-loop-i : goal.invariant-loop-i
 invariant-loop-i l = Written (λ x. up_of (nearest l.units x)) l.list l.initial.room l.room l.i
-
-abbrev pub decreases-loop-i : goal.decreases-loop-i
-decreases-loop-i l = length l.list - l.i

@@ -12,26 +12,26 @@ is_passed-requires c =
     let r = c.requires in
     omega (arith, r.room, r.few.edges)
 
-pub loop-e-smaller-then-is_passed : goal.loop-e-smaller-then-is_passed
-loop-e-smaller-then-is_passed c = omega (arith, c.chain_end-to.ensures.0)
-
-pub loop-e-preserved-then-is_passed : goal.loop-e-preserved-then-is_passed
-loop-e-preserved-then-is_passed c =
-    let end = c.chain_end-to.ensures in (
-      end.1,
-      and_then c.loop-e.invariant.1
-          (onward_missed _ _ _ _ _ _ _ _ (omega (arith, end.0)) (chain_passed _ _ _ _ _ _ c.requires c.is_passed.ensures c.if-is_passed.true end.2 end.1)),
-    )
-
 pub row-best-requires : goal.row-best-requires
 row-best-requires c = let end = c.chain_end-to.ensures in (omega (arith, end.0), end.1)
+
+pub loop-e-smaller-then-not-is_passed : goal.loop-e-smaller-then-not-is_passed
+loop-e-smaller-then-not-is_passed c = omega (arith, c.chain_end-to.ensures.0)
 
 pub loop-e-smaller : goal.loop-e-smaller
 loop-e-smaller c = omega (arith, c.chain_end-to.ensures.0)
 
+pub loop-e-preserved-then-not-is_passed : goal.loop-e-preserved-then-not-is_passed
+loop-e-preserved-then-not-is_passed c =
+    (c.chain_end-to.ensures.1, and_then c.loop-e.invariant.1 c.row-best.ensures)
+
 pub loop-e-preserved : goal.loop-e-preserved
 loop-e-preserved c =
-    (c.chain_end-to.ensures.1, and_then c.loop-e.invariant.1 c.row-best.ensures)
+    let end = c.chain_end-to.ensures in (
+      end.1,
+      and_then c.loop-e.invariant.1
+          (onward_missed _ _ _ _ _ _ _ _ (omega (arith, end.0)) (chain_passed _ _ _ _ _ _ c.requires c.is_passed.ensures c.if-not-is_passed.false end.2 end.1)),
+    )
 
 pub returns : goal.returns
 returns c =

@@ -12,21 +12,21 @@ fault no_one = number_line no_one.number
 
 pub put_rings-requires-clause-n_le_vertices_most : goal.put_rings-requires-clause-n_le_vertices_most
 put_rings-requires-clause-n_le_vertices_most c =
-    let p = pair_read c.args.book.now (λ i. omega (arith, c.type_inv.book i)) _ _ _ c.read_book.result c.read_book.ensures c.in-Is.field-0 c.in-Is.is in
+    let p = pair_read c.args.book.now (λ i. omega (arith, c.type_inv.book i)) _ _ _ c.read_book.result c.read_book.ensures c.in-Ok.field-0 c.in-Ok.is in
     (p.first_most, p.second_most, p.both_inside)
 
-pub returns-in-Is : goal.returns-in-Is
+pub returns-in-Ok : goal.returns-in-Ok
 unfolding explained_book_text
-returns-in-Is c =
+returns-in-Ok c =
     let a = c.args in
     let f = a.book.now in
-    let p = pair_read f (λ i. omega (arith, c.type_inv.book i)) _ _ _ c.read_book.result c.read_book.ensures c.in-Is.field-0 c.in-Is.is in
+    let p = pair_read f (λ i. omega (arith, c.type_inv.book i)) _ _ _ c.read_book.result c.read_book.ensures c.in-Ok.field-0 c.in-Ok.is in
     reads (pair_said (λ (st orb : List Float). explained_text st orb a.translation a.tolerance) fault f p) c.put_rings.ensures
 
-pub returns-in-Refused : goal.returns-in-Refused
+pub returns-in-Err : goal.returns-in-Err
 unfolding explained_book_text
-returns-in-Refused c =
+returns-in-Err c =
     let a = c.args in
     let f = a.book.now in
-    let q = fault_read f (λ i. omega (arith, c.type_inv.book i)) _ _ _ _ c.read_book.ensures c.in-Refused.no c.in-Refused.is in
+    let q = fault_read f (λ i. omega (arith, c.type_inv.book i)) _ _ _ _ c.read_book.ensures c.in-Err.no c.in-Err.is in
     reads (fault_said (λ (st orb : List Float). explained_text st orb a.translation a.tolerance) fault f q) c.put_number.ensures

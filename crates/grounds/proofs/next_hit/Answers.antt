@@ -20,14 +20,6 @@ loop-e-init c = (omega arith, omega arith, none_missed _ _ _ _ _)
 pub is_passed-requires : goal.is_passed-requires
 is_passed-requires c = let r = ready (up-At-loop-e _ _ _ _ _ _ c.before.before.before.before) in omega (arith, r.room, r.few.edges)
 
-pub loop-e-smaller-then-is_passed : goal.loop-e-smaller-then-is_passed
-loop-e-smaller-then-is_passed c = omega (arith, c.chain_end-to.ensures.0)
-
-pub loop-e-preserved-then-is_passed : goal.loop-e-preserved-then-is_passed
-loop-e-preserved-then-is_passed c =
-    let end = c.chain_end-to.ensures in
-    (omega (arith, c.loop-e.invariant.0, end.0), end.1, more_missed _ _ _ _ _ _ _ c.loop-e.invariant.2 (chain_passed _ _ _ _ _ _ (ready (up-At-loop-e _ _ _ _ _ _ c.before.before.before.before.before.before)) c.is_passed.ensures c.if-is_passed.true end.2 end.1))
-
 pub first_hit-met-requires : goal.first_hit-met-requires
 first_hit-met-requires c = let end = c.chain_end-to.ensures in (omega (arith, end.0), end.1)
 
@@ -38,15 +30,23 @@ returns-then-met-to c =
     let h = c.first_hit-met.ensures in
     record { not_before = omega (arith, i.0, h.not_before); not_after = omega (arith, h.not_after, end.1); misses = more_missed _ _ _ _ _ _ _ i.2 h.misses; hits = λ z. h.hits c.if-met-to.true }
 
+pub loop-e-smaller-else-met-to : goal.loop-e-smaller-else-met-to
+loop-e-smaller-else-met-to c = omega (arith, c.chain_end-to.ensures.0)
+
+pub loop-e-preserved-else-met-to : goal.loop-e-preserved-else-met-to
+loop-e-preserved-else-met-to c =
+    let i = c.loop-e.invariant in
+    let end = c.chain_end-to.ensures in
+    let h = c.first_hit-met.ensures in
+    (omega (arith, i.0, end.0), end.1, more_missed _ _ _ _ _ _ _ i.2 (λ k l z. h.misses k l (omega (arith, z, c.if-met-to.false))))
+
 pub loop-e-smaller : goal.loop-e-smaller
 loop-e-smaller c = omega (arith, c.chain_end-to.ensures.0)
 
 pub loop-e-preserved : goal.loop-e-preserved
 loop-e-preserved c =
-    let i = c.loop-e.invariant in
     let end = c.chain_end-to.ensures in
-    let h = c.first_hit-met.ensures in
-    (omega (arith, i.0, end.0), end.1, more_missed _ _ _ _ _ _ _ i.2 (λ k l z. h.misses k l (omega (arith, z, c.if-met-to.false))))
+    (omega (arith, c.loop-e.invariant.0, end.0), end.1, more_missed _ _ _ _ _ _ _ c.loop-e.invariant.2 (chain_passed _ _ _ _ _ _ (ready (up-At-loop-e _ _ _ _ _ _ c.before.before.before.before.before.before)) c.is_passed.ensures c.if-not-is_passed.false end.2 end.1))
 
 pub returns : goal.returns
 returns c =

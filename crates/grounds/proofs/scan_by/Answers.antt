@@ -46,7 +46,7 @@ loop-v-preserved-then-is_nearer c = (
   c.loop-v.invariant.0,
   omega (arith, c.if-k-m.true),
   λ z. absurd (omega (arith, z, c.loop-v-test.true)),
-  next_pair _ _ _ _ _ _ _ c.loop-v.invariant.3 c.point_at.ensures c.next_hit-met.ensures c.if-k-m.true c.in-At.is
+  next_pair _ _ _ _ _ _ _ c.loop-v.invariant.3 c.point_at.ensures c.next_hit-met.ensures c.if-k-m.true c.in-Some.is
       (fields _ _ _ _ _ _ c.pair-new.ensures (kept_new _ _ c.is_nearer.ensures c.if-is_nearer.true) c.others_after-others.ensures c.one_more-near.ensures c.one_more-between.ensures c.in_between.ensures
       c.one_more-far.ensures c.too_far.ensures),
 )
@@ -60,7 +60,7 @@ loop-v-preserved-else-is_nearer c = (
   c.loop-v.invariant.0,
   omega (arith, c.if-k-m.true),
   λ z. absurd (omega (arith, z, c.loop-v-test.true)),
-  next_pair _ _ _ _ _ _ _ c.loop-v.invariant.3 c.point_at.ensures c.next_hit-met.ensures c.if-k-m.true c.in-At.is
+  next_pair _ _ _ _ _ _ _ c.loop-v.invariant.3 c.point_at.ensures c.next_hit-met.ensures c.if-k-m.true c.in-Some.is
       (fields _ _ _ _ _ _ c.pair-new.ensures (kept_best _ _ c.is_nearer.ensures c.if-is_nearer.false) c.others_after-others.ensures c.one_more-near.ensures c.one_more-between.ensures c.in_between.ensures
       c.one_more-far.ensures c.too_far.ensures),
 )

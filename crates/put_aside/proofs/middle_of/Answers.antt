@@ -16,7 +16,7 @@ level-low-requires c =
 pub loop-i-init : goal.loop-i-init
 loop-i-init c =
     let e = ap (level c.args.axis c.args.from c.args.to) c.spot_at.ensures in
-    (omega arith, start _ _ (c.level-low.ensures.0 ∙ e) c.level-low.ensures.1)
+    start _ _ (c.level-low.ensures.0 ∙ e) c.level-low.ensures.1
 
 pub level-k-requires : goal.level-k-requires
 level-k-requires c =
@@ -26,16 +26,13 @@ level-k-requires c =
 
 pub loop-i-preserved : goal.loop-i-preserved
 loop-i-preserved c =
-    let e = ap (level c.args.axis c.args.from c.args.to) c.spot_at-in-loop-i.ensures in (
-      omega arith,
-      turn _ _ c.loop-i.invariant.1 (c.level-k.ensures.0 ∙ e) c.level-k.ensures.1
-          c.smaller-low.ensures c.larger-high.ensures,
-    )
+    let e = ap (level c.args.axis c.args.from c.args.to) c.spot_at-in-loop-i.ensures in
+    turn _ _ c.loop-i.invariant (c.level-k.ensures.0 ∙ e) c.level-k.ensures.1 c.smaller-low.ensures c.larger-high.ensures
 
 pub overflow_add-result : goal.overflow_add-result
-overflow_add-result c = let v = c.loop-i.invariant.1 in omega (arith, v.low_fits, v.high_fits)
+overflow_add-result c = let v = c.loop-i.invariant in omega (arith, v.low_fits, v.high_fits)
 
 pub returns : goal.returns
 returns c =
     let e : c.loop-i.i ≡ length c.args.list.now / 2 = omega arith in
-    done _ _ e c.loop-i.invariant.1
+    done _ _ e c.loop-i.invariant

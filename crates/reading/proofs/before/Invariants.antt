@@ -9,7 +9,4 @@ abbrev pub invariant-loop-j : goal.invariant-loop-j
 invariant-loop-j l =
     let p = choice (ring_of l.ring) l.a in
     let q = choice (ring_of l.ring) l.b in
-    (l.j ≤ length l.ring) × (earlier p q ≡ less (drop l.j (flat p)) (drop l.j (flat q)))
-
-abbrev pub decreases-loop-j : goal.decreases-loop-j
-decreases-loop-j l = length l.ring - l.j
+    earlier p q ≡ less (drop l.j (flat p)) (drop l.j (flat q))

@@ -5,7 +5,4 @@ use Rattle.reasons.specs.Lowest.{lowest}
 use Rattle.reason_check.proofs.lowest.Given as goal
 
 abbrev pub invariant-loop-i : goal.invariant-loop-i
-invariant-loop-i l = (l.i ≤ l.n) × (l.low ≡ lowest (spot_at l.a) (spot_at l.b) l.i)
-
-abbrev pub decreases-loop-i : goal.decreases-loop-i
-decreases-loop-i l = l.n - l.i
+invariant-loop-i l = l.low ≡ lowest (spot_at l.a) (spot_at l.b) l.i

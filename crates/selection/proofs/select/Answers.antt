@@ -23,12 +23,12 @@ turn vs previous ccw i h ev es e = over_turn above _ _ _ h (rw (es, ev)) e
 
 pub loop-i-init : goal.loop-i-init
 unfolding over
-loop-i-init c = (omega arith, c.start-best.ensures)
+loop-i-init c = c.start-best.ensures
 
 pub loop-i-preserved : goal.loop-i-preserved
 loop-i-preserved c =
-    (omega arith, turn _ _ _ _ c.loop-i.invariant.1 c.vector_at.ensures c.score-s.ensures c.keep-best.ensures)
+    turn _ _ _ _ c.loop-i.invariant c.vector_at.ensures c.score-s.ensures c.keep-best.ensures
 
 pub returns : goal.returns
 unfolding select_of
-returns c = ap (λ (b : Scored). b.index) (c.loop-i.invariant.1 ∙ ap (over above _ _) (omega arith))
+returns c = ap (λ (b : Scored). b.index) (c.loop-i.invariant ∙ ap (over above _ _) (omega arith))

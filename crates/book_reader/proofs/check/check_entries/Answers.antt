@@ -74,32 +74,32 @@ module _ (c : After-loop-i) where
   passed : entries_check c.args.k c.args.from 0 (drop c.args.from c.args.f.now) ≡ none
   passed =
       let s = c.args in
-      c.loop-i.invariant.2 ∙ entries_end s.f.now s.from s.k c.loop-i.i c.loop-i.before c.loop-i-test.false
+      c.loop-i.invariant.1 ∙ entries_end s.f.now s.from s.k c.loop-i.i c.loop-i.before c.loop-i-test.false
 
   summed : vertex_bytes * total (counts_in c.args.k (drop c.args.from c.args.f.now)) ≡ c.loop-i.before
   summed =
       let s = c.args in
-      omega (arith, c.loop-i.invariant.3, total_end s.f.now s.from s.k c.loop-i.i c.loop-i-test.false)
+      omega (arith, c.loop-i.invariant.2, total_end s.f.now s.from s.k c.loop-i.i c.loop-i-test.false)
 
 pub loop-i-init : goal.loop-i-init
 loop-i-init c =
     let a = c.args in
     let t : total (counts_in a.k (drop a.from a.f.now)) ≡ total (counts_in (a.k - 0) (drop (a.from + entry_bytes * 0) a.f.now)) = ap total (fields_start a.f.now field_bytes a.from a.k) in
-    ((omega arith), (omega arith), entries_start a.f.now a.from a.k, (omega arith))
+    ((omega arith), entries_start a.f.now a.from a.k, (omega arith))
 
 pub returns-then-not-is_right : goal.returns-then-not-is_right
 returns-then-not-is_right c =
     let here = up-After-is_right _ _ _ _ _ c.before.before.before in
     c.fault.ensures
     ∙ list_wrong (f here) (from here) (k here) (from here + entry_bytes * i here)
-    ((l here).loop-i.invariant.2 ∙ offset_bad (f here) (from here) (k here) (i here) (before here) (turn here) (sym (offset_asked here) ∙ not-true c.is_right.result (ap not c.if-not-is_right.true)))
+    ((l here).loop-i.invariant.1 ∙ offset_bad (f here) (from here) (k here) (i here) (before here) (turn here) (sym (offset_asked here) ∙ not-true c.is_right.result (ap not c.if-not-is_right.true)))
 
 pub returns-then-not-is_right-2 : goal.returns-then-not-is_right-2
 returns-then-not-is_right-2 c =
     let here = up-After-is_right _ _ _ _ _ c.before.before.before.before.before.before in
     c.fault-then-not-is_right-2.ensures
     ∙ list_wrong (f here) (from here) (k here) (from here + entry_bytes * i here + field_bytes)
-    ((l here).loop-i.invariant.2 ∙ count_bad (f here) (from here) (k here) (i here) (before here) (turn here) (offset_right (up-Else-not-is_right _ _ _ _ _ c.before.before.before.before.before)) (sym (vertices_asked (up-After-is_right-in-loop-i _ _ _ _ _ c.before.before.before)) ∙ not-true c.is_right-in-loop-i.result (ap not c.if-not-is_right-2.true)))
+    ((l here).loop-i.invariant.1 ∙ count_bad (f here) (from here) (k here) (i here) (before here) (turn here) (offset_right (up-Else-not-is_right _ _ _ _ _ c.before.before.before.before.before)) (sym (vertices_asked (up-After-is_right-in-loop-i _ _ _ _ _ c.before.before.before)) ∙ not-true c.is_right-in-loop-i.result (ap not c.if-not-is_right-2.true)))
 
 pub overflow_mul-before : goal.overflow_mul-before
 overflow_mul-before c = omega (arith, is_n c, small c)
@@ -110,12 +110,11 @@ overflow_add-before c = omega (arith, is_n c, small c)
 pub loop-i-preserved : goal.loop-i-preserved
 loop-i-preserved c =
     let here = up-After-is_right _ _ _ _ _ c.before.before.before.before.before in (
-      (omega arith),
-      (omega (arith, is_n c, small c, (l here).loop-i.invariant.1)),
-      (l here).loop-i.invariant.2
+      (omega (arith, is_n c, small c, (l here).loop-i.invariant.0)),
+      (l here).loop-i.invariant.1
           ∙ entry_good (f here) (from here) (k here) (i here) (before here) (turn here) (offset_right (up-Else-not-is_right _ _ _ _ _ c.before.before.before.before)) (right c)
           ∙ ap (λ (j : ℕ). entries_check (k here - (i here + 1)) (from here + entry_bytes * (i here + 1)) (before here + vertex_bytes * j) (drop (from here + entry_bytes * (i here + 1)) (f here))) (sym (is_n c)),
-      (omega (arith, is_n c, (l here).loop-i.invariant.3, total_left (f here) (from here) (k here) (i here) (before here) (turn here))),
+      (omega (arith, is_n c, (l here).loop-i.invariant.2, total_left (f here) (from here) (k here) (i here) (before here) (turn here))),
     )
 
 pub returns-then-before-from : goal.returns-then-before-from
@@ -126,6 +125,6 @@ returns-then-before-from c =
 
 pub returns : goal.returns
 returns c =
-    let here = up-After-loop-i _ _ _ _ _ c.before.before.before in
+    let here = up-After-loop-i _ _ _ _ _ c.before.before in
     let s = c.args in
-    c.none.ensures ∙ list_fine s.f.now s.from s.k (passed here) (omega (arith, c.if-before-from.false, summed here))
+    list_fine s.f.now s.from s.k (passed here) (omega (arith, c.if-before-from.false, summed here))

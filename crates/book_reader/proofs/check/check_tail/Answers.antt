@@ -44,5 +44,4 @@ returns-then-not-is_right-2 c =
 
 pub returns : goal.returns
 returns c =
-    c.none.ensures
-    ∙ good_end c.args.f.now c.if-len-lt-BOOK_LEAST.false c.if-len-gt-BOOK_MOST.false (count_right (up-Else-not-is_right _ _ _ c.before.before.before.before.before)) (sym (end_asked (up-After-is_right-2 _ _ _ c.before.before.before)) ∙ not-false c.is_right-2.result (ap not c.if-not-is_right-2.false))
+    good_end c.args.f.now c.if-len-lt-BOOK_LEAST.false c.if-len-gt-BOOK_MOST.false (count_right (up-Else-not-is_right _ _ _ c.before.before.before.before)) (sym (end_asked (up-After-is_right-2 _ _ _ c.before.before)) ∙ not-false c.is_right-2.result (ap not c.if-not-is_right-2.false))
