@@ -5,31 +5,23 @@ use mathlib.Core.Bool.{Bool, true, false}
 use mathlib.Core.List.{List, [], ◌∷◌, map}
 use native.Mathlib.Omega.{arith}
 use native.Mathlib.Numerals.{add-one}
-use lib.ListN.{length, get_or, drop, drop_of_length-le}
+use lib.ListN.{length, get_or, drop}
 use lib.Seq.{drop-cons}
 use lib.Dec.{leb, eqb}
 use lib.Ieee.{Float}
-use borrow.Author.Tests.{le-leb, lt-leb, eq-eqb, ne_eqb}
+use borrow.Author.Tests.{le-leb, eq-eqb}
 use Rattle.laws.proofs.Both.{both}
-use Rattle.refusals.specs.Refusals.{refused_length, refused_few, refused_many, none, refuse, passed, unless, first, first_of}
+use Rattle.refusals.specs.Refusals.{refused_length, refused_few, refused_many, none, passed, unless, first, first_of}
 use Rattle.refusals.specs.Rings.{vertices_least, vertices_most, within, sized_all}
 use Rattle.refusals.specs.Lists.{Extent, list_fault, faults_from, count_extent, vectors_extent}
 use Rattle.refusals.specs.Refusals.{Told}
-use Rattle.refusals.proofs.Tests.{first_passed, first_refused}
-use Rattle.refusals.specs.Answers.{tells}
-use Rattle.refusals.specs.declared.Refusal.{Refusal}
+use Rattle.refusals.proofs.Tests.{first_passed}
 use Rattle.refusals.proofs.Sized.{Fine, fine, row_parts}
 use Rattle.refusals.proofs.Counts.{within_true, is_within}
 
 -- ---- one list
 
 module _ (e : Extent) (at : ℕ) where
-  pub fault_length : (e.size % e.width ≡ 0 → ⊥) → refuse refused_length at ≡ list_fault e at
-  fault_length n = rw (ne_eqb (e.size % e.width) 0 n)
-
-  pub fault_few : e.size % e.width ≡ 0 → e.size / e.width < e.least → refuse refused_few at ≡ list_fault e at
-  fault_few w l = rw (eq-eqb (e.size % e.width) 0 w, lt-leb e.least (e.size / e.width) l)
-
   pub fault_rest : {r : Told} → e.size % e.width ≡ 0 → e.least ≤ e.size / e.width → r ≡ unless (leb (e.size / e.width) e.most) refused_many at
       → r ≡ list_fault e at
   fault_rest w l q = rw (eq-eqb (e.size % e.width) 0 w, le-leb e.least (e.size / e.width) l) q
@@ -70,12 +62,6 @@ module _ (ns : List ℕ) (i : ℕ) where
 
   pub counts_on : i < length ns → none ≡ list_fault (count_extent (get_or ns i 0)) i → counts_from i (drop i ns) ≡ counts_from (i + 1) (drop (i + 1) ns)
   counts_on h e = counts_here h ∙ first_passed _ _ e
-
-  pub counts_off : (r : Refusal) → i < length ns → tells r ≡ list_fault (count_extent (get_or ns i 0)) i → tells r ≡ counts_from i (drop i ns)
-  counts_off r h e = sym (counts_here h ∙ first_refused r _ _ e)
-
-  pub counts_end : length ns ≤ i → none ≡ counts_from i (drop i ns)
-  counts_end h = rw (drop_of_length-le ns h)
 
 -- no ring has a fault exactly if each has 3 to 256 vertices
 pub counts_sized : (at : ℕ) (ns : List ℕ) → passed (counts_from at ns) ≡ true → sized_all ns ≡ true

