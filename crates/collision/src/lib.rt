@@ -101,7 +101,13 @@ pub fn edge_ray(origin: Point, dir: Point, ring: &[f64], e: usize, tolerance: f6
 }
 
 // A ray's hit where it counts: above the tolerance and below the limit.
-fn counted(ray: Option<f64>, sweep: Sweep, kind: u8, stationary: usize, orbiting: usize) -> Option<Hit>
+fn counted(
+    ray: Option<f64>,
+    sweep: Sweep,
+    kind: u8,
+    stationary: usize,
+    orbiting: usize,
+) -> Option<Hit>
     ensures { result ≡ counted_of ray sweep kind stationary orbiting }
 {
     let Some(distance) = ray else {

@@ -6,8 +6,7 @@ ghost use Rattle.refusals.specs.Answers.{answered};
 ghost use Rattle.ring_distance.specs.Calls.{segment_distance_call, ring_distance_call};
 
 use plane::Point;
-use refusals::Refusal;
-use refusals::row;
+use refusals::{Refusal, row};
 
 // The distance of p from the segment a b.
 pub fn point_segment_distance(p: Point, a: Point, b: Point) -> Result<f64, Refusal>

@@ -5,8 +5,7 @@ ghost use Rattle.std.specs.Prelude.{◌≡◌};
 ghost use Rattle.refusals.specs.Answers.{answered};
 ghost use Rattle.signed_area.specs.Calls.{area2_call, robust_call};
 
-use refusals::Refusal;
-use refusals::row;
+use refusals::{Refusal, row};
 
 // Twice the signed area of a ring: above 0 where its order is counter-clockwise.
 pub fn signed_area2(ring: &[f64]) -> Result<f64, Refusal>

@@ -5,8 +5,7 @@ ghost use Rattle.std.specs.Prelude.{◌≡◌};
 ghost use Rattle.refusals.specs.Answers.{answered};
 ghost use Rattle.simple_polygon.specs.Calls.{is_simple_call};
 
-use refusals::Refusal;
-use refusals::row;
+use refusals::{Refusal, row};
 
 // Whether a ring is simple. Fewer than three vertices are not.
 pub fn is_simple_polygon(ring: &[f64]) -> Result<bool, Refusal>
