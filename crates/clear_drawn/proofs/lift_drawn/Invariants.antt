@@ -1,5 +1,3 @@
-use Prim.Native.Nat.{◌-◌}
-use lib.ListN.{length}
 use Rattle.ring.proofs.Mapped.{Written}
 use Rattle.shifted.specs.Shifted.{up_of}
 use Rattle.to_grid.specs.Grid.{nearest}

@@ -1,4 +1,4 @@
-use Prim.Native.Nat.{◌-◌, ◌≤◌}
+use Prim.Native.Nat.{◌-◌}
 use mathlib.Core.Path.{◌≡◌}
 use Rattle.clear_drawn_path.specs.Path.{deepened, legs_from}
 use Rattle.clear_drawn_path.specs.Lent.{leg_at}

@@ -1,6 +1,5 @@
 -- `clear_path::first_leg` meets its contract. The invariant: the legs from i on decide. Assumes nothing.
 use mathlib.Core.Path.{sym, ap, ◌∙◌}
-use native.Mathlib.Omega.{arith}
 use Rattle.reason_check.specs.Told.{ground}
 use Rattle.clear_path.proofs.Legs.{all_left, leg_on, leg_edge, leg_enclosed, leg_end}
 use Rattle.clear_path.proofs.first_leg.Goals as goal

@@ -1,4 +1,4 @@
-use Prim.Native.Nat.{◌-◌, ◌≤◌}
+use Prim.Native.Nat.{◌-◌}
 use mathlib.Core.Path.{◌≡◌}
 use Rattle.clear_path.specs.Path.{leg_found, first_leg}
 use Rattle.clear_path.proofs.first_leg.Given as goal

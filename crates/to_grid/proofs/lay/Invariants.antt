@@ -1,5 +1,3 @@
-use Prim.Native.Nat.{◌-◌}
-use lib.ListN.{length}
 use Rattle.ring.proofs.Mapped.{Written}
 use Rattle.to_grid.specs.Grid.{nearest}
 use Rattle.to_grid.proofs.lay.Given as goal

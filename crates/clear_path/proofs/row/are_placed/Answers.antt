@@ -1,7 +1,6 @@
 -- `clear_path::row::are_placed` meets its contract. The invariant: the points from i on decide. Assumes nothing.
 use Prim.Native.Nat.{◌+◌, ◌*◌}
 use mathlib.Core.Path.{◌≡◌, sym, ◌∙◌}
-use native.Mathlib.Omega.{arith}
 use lib.ListN.{get_or}
 use lib.IntN.{ℤ, pos}
 use Rattle.ring.proofs.Each.{each_on, each_off, each_end}
