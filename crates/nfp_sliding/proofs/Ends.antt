@@ -189,5 +189,5 @@ module _ (st orb : List Float) (s : Settings) (work : ℕ) where
           → (refusal_of (cond b (came_to t s.contact_tolerance) (denied (of_trace st orb s work result)))).number ≡ 5 → ⊥
       by true e h =
           fits t.full (brief t) s.contact_tolerance refl
-          (never_full (lent_ready st orb s work result refl refl e).0.limit w) h
+          (never_full (lent_ready st orb s work result e).0.limit w) h
       by false e h = lent_number result h

@@ -4,7 +4,7 @@
 ghost use Rattle.std.specs.Prelude.{◌≡◌, length};
 ghost use Rattle.nfp_sliding.specs.Calls.{traced, trace_call, trace_work, trace_result};
 
-use crate::answer::Traced;
+use crate::answer::{Trace, Untraced};
 use crate::trace::{finish, trace};
 use refusals::{Settings, row};
 
@@ -16,7 +16,7 @@ pub fn compute_nfp_sliding(
     settings: Settings,
     work: &mut [f64],
     res: &mut [f64],
-) -> Traced
+) -> Result<Trace, Untraced>
     ensures { (traced result ≡ trace_call stationary.now orbiting.now settings (length work.old)
         (length res.old))
         × (work.new ≡ trace_work stationary.now orbiting.now settings work.old
