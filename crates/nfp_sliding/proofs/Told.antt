@@ -1,7 +1,7 @@
 -- What a trace that ended answers, case by case; and two answers that are told alike are equal. Assumes nothing.
 use Prim.Native.Nat.{ℕ, ◌*◌, ◌%◌, ◌≤◌, ◌<◌}
 use native.Mathlib.Omega.{arith}
-use mathlib.Core.Path.{◌≡◌, refl}
+use mathlib.Core.Path.{◌≡◌, refl, sym, ap}
 use mathlib.Core.Bool.{Bool, true, false}
 use mathlib.Core.List.{List}
 use lib.ListN.{length, take}
@@ -17,7 +17,7 @@ use Rattle.std.specs.Prelude.{Result, Ok, Err}
 use Rattle.refusals.specs.Answers.{tells}
 use Rattle.refusals.specs.declared.Refusal.{Refusal}
 use Rattle.refusals.proofs.Calls.{answered_only}
-use Rattle.nfp_sliding.specs.Calls.{untraced, traced, came_to, result_after}
+use Rattle.nfp_sliding.specs.Calls.{Answer, traces, denied, overfull, too_short, untraced, traced, came_to, result_after}
 use Rattle.nfp_sliding.specs.declared.answer.Trace as answer
 use Rattle.nfp_sliding.specs.declared.answer.Untraced.{Untraced}
 use Rattle.nfp_sliding.specs.declared.answer.Untraced.TheVariants.{Refused, Full, Short}
@@ -71,18 +71,21 @@ untraced_only (Short x y) (Refused z) h = cc
 untraced_only (Short x y) (Full z) h = cc
 untraced_only (Short x y) (Short z w) h = cc
 
-traces_nothing : (t : answer.Trace) (e : Untraced) → traced (Ok t) ≡ untraced e → ⊥
-traces_nothing t (Refused z) h = cc
-traces_nothing t (Full z) h = cc
-traces_nothing t (Short z w) h = cc
+traces_nothing : (a : answer.Trace) (e : Untraced) → traced (Ok a) ≡ untraced e → ⊥
+traces_nothing a (Refused z) h = cc
+traces_nothing a (Full z) h = cc
+traces_nothing a (Short z w) h = cc
+
+-- the trace that an answer tells, and else another
+trace_told : answer.Trace → Answer → answer.Trace
+trace_told other (traces points stored passes stop) = record { points = points; stored = stored; passes = passes; stop = stop }
+trace_told other (denied r) = other
+trace_told other (overfull passes) = other
+trace_told other (too_short passes stop) = other
 
 pub traced_only : (a b : Result answer.Trace Untraced) → traced a ≡ traced b → a ≡ b
-traced_only (Ok t) (Ok u) h =
-    let p : t.points ≡ u.points = cc in
-    let s : t.stored ≡ u.stored = cc in
-    let q : t.passes ≡ u.passes = cc in
-    let r : t.stop ≡ u.stop = cc in
-    cc
-traced_only (Ok t) (Err e) h = absurd (traces_nothing t e h)
-traced_only (Err e) (Ok t) h = absurd (traces_nothing t e (sym h))
+unfolding trace_told
+traced_only (Ok a) (Ok b) h = ap (λ (o : Answer). Ok (trace_told a o)) h
+traced_only (Ok a) (Err e) h = absurd (traces_nothing a e h)
+traced_only (Err e) (Ok a) h = absurd (traces_nothing a e (sym h))
 traced_only (Err x) (Err y) h = ap Err (untraced_only x y h)
