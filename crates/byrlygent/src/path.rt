@@ -40,9 +40,12 @@ pub extern "C" fn byr_check_path(
         min_translation: smallest,
         max_iterations: limit,
     };
-    hand_refusal(hand_verdict(
-        path_check::calls::check_path(stationary, orbiting, settings, path),
-        fault,
-        index,
-    ), place)
+    hand_refusal(
+        hand_verdict(
+            path_check::calls::check_path(stationary, orbiting, settings, path),
+            fault,
+            index,
+        ),
+        place,
+    )
 }

@@ -4,8 +4,8 @@ ghost use Rattle.inspection.specs.Calls.{next_places_call, next_places_room};
 ghost use Rattle.handed.specs.Handed.{returned, told};
 ghost use Rattle.handed.specs.Places.{places_in, following_in};
 
-use handed::refusal::refusal_number;
 use handed::places::hand_inspected;
+use handed::refusal::refusal_number;
 
 // The next k places of a path of n, or all where n is smaller, from the start on, in the room: how many they are; the start becomes the following one.
 #[unsafe(no_mangle)]

@@ -115,7 +115,10 @@ pub extern "C" fn byr_mirror_polygon(
         place.old }
     ensures room_after { room.new ≡ mirror_room ring.now room.old }
 {
-    hand_refusal(hand_count(ring_copies::calls::mirror_polygon(ring, room), vertices), place)
+    hand_refusal(
+        hand_count(ring_copies::calls::mirror_polygon(ring, room), vertices),
+        place,
+    )
 }
 
 // The ring without its closing repeat, in the room: how many vertices it has.
@@ -132,7 +135,10 @@ pub extern "C" fn byr_open_ring(
         place.old }
     ensures room_after { room.new ≡ open_room ring.now room.old }
 {
-    hand_refusal(hand_count(ring_copies::calls::open_ring(ring, room), vertices), place)
+    hand_refusal(
+        hand_count(ring_copies::calls::open_ring(ring, room), vertices),
+        place,
+    )
 }
 
 // The ring mended in the room, and how many vertices remain; per dropped vertex its old index and why, 0 for one of a run and 1 for a trailing one,
@@ -162,11 +168,14 @@ pub extern "C" fn byr_mend_ring(
     ensures dropped_after { dropped.new ≡ mend_dropped ring.now room.old dropped.old points.old }
     ensures points_after { points.new ≡ mend_points ring.now room.old dropped.old points.old }
 {
-    hand_refusal(hand_mended(
-        mending::calls::mend_ring(ring, room, dropped, points),
-        vertices,
-        count,
-    ), place)
+    hand_refusal(
+        hand_mended(
+            mending::calls::mend_ring(ring, room, dropped, points),
+            vertices,
+            count,
+        ),
+        place,
+    )
 }
 
 // Whether a ring is simple. Fewer than three vertices are not.
@@ -176,7 +185,10 @@ pub extern "C" fn byr_is_simple_polygon(ring: &[f64], simple: &mut u32, place: &
     ensures simple_after { simple.new ≡ told flag (is_simple_call ring.now) simple.old }
     ensures place_after { place.new ≡ told_place (is_simple_call ring.now) place.old }
 {
-    hand_refusal(hand_truth(simple_polygon::calls::is_simple_polygon(ring), simple), place)
+    hand_refusal(
+        hand_truth(simple_polygon::calls::is_simple_polygon(ring), simple),
+        place,
+    )
 }
 
 // The shortest distance between the edges of two rings, +infinity where one has no vertex.
@@ -191,7 +203,10 @@ pub extern "C" fn byr_ring_distance(
     ensures distance_after { distance.new ≡ told itself (ring_distance_call a.now b.now) distance.old }
     ensures place_after { place.new ≡ told_place (ring_distance_call a.now b.now) place.old }
 {
-    hand_refusal(hand_number(ring_distance::calls::ring_distance(a, b), distance), place)
+    hand_refusal(
+        hand_number(ring_distance::calls::ring_distance(a, b), distance),
+        place,
+    )
 }
 
 // Twice the signed area of a ring: above 0 where its order is counter-clockwise.
@@ -201,7 +216,10 @@ pub extern "C" fn byr_signed_area2(ring: &[f64], area2: &mut f64, place: &mut u6
     ensures area2_after { area2.new ≡ told itself (area2_call ring.now) area2.old }
     ensures place_after { place.new ≡ told_place (area2_call ring.now) place.old }
 {
-    hand_refusal(hand_number(signed_area::calls::signed_area2(ring), area2), place)
+    hand_refusal(
+        hand_number(signed_area::calls::signed_area2(ring), area2),
+        place,
+    )
 }
 
 // The signed area of a ring by a compensated sum, 0.0 below three vertices.
@@ -211,5 +229,8 @@ pub extern "C" fn byr_signed_area_robust(ring: &[f64], area: &mut f64, place: &m
     ensures area_after { area.new ≡ told itself (robust_call ring.now) area.old }
     ensures place_after { place.new ≡ told_place (robust_call ring.now) place.old }
 {
-    hand_refusal(hand_number(signed_area::calls::signed_area_robust(ring), area), place)
+    hand_refusal(
+        hand_number(signed_area::calls::signed_area_robust(ring), area),
+        place,
+    )
 }

@@ -123,10 +123,13 @@ pub extern "C" fn byr_find_contacts(
     ensures points_after { points.new ≡ find_points stationary.now orbiting.now tolerance which.old
         points.old }
 {
-    hand_refusal(hand_count(
-        contacts_call::calls::find_contacts(stationary, orbiting, tolerance, which, points),
-        count,
-    ), place)
+    hand_refusal(
+        hand_count(
+            contacts_call::calls::find_contacts(stationary, orbiting, tolerance, which, points),
+            count,
+        ),
+        place,
+    )
 }
 
 // The vectors of those contacts, and how many there are: per vector its direction and its distance in `vectors`, its contact's index in `sources`.
@@ -154,12 +157,15 @@ pub extern "C" fn byr_compute_translation_vectors(
     ensures sources_after { sources.new ≡ sources_room stationary.now orbiting.now tolerance vectors.old
         sources.old }
 {
-    hand_refusal(hand_count(
-        vectors_call::calls::compute_translation_vectors(
-            stationary, orbiting, tolerance, vectors, sources,
+    hand_refusal(
+        hand_count(
+            vectors_call::calls::compute_translation_vectors(
+                stationary, orbiting, tolerance, vectors, sources,
+            ),
+            count,
         ),
-        count,
-    ), place)
+        place,
+    )
 }
 
 // Those of them that lead from the reference (rx, ry) to no visited position.
@@ -191,12 +197,15 @@ pub extern "C" fn byr_handle_perfect_fit(
         tolerance vectors.old sources.old }
 {
     let reference = Point { x: rx, y: ry };
-    hand_refusal(hand_count(
-        vectors_call::calls::handle_perfect_fit(
-            stationary, orbiting, reference, visited, tolerance, vectors, sources,
+    hand_refusal(
+        hand_count(
+            vectors_call::calls::handle_perfect_fit(
+                stationary, orbiting, reference, visited, tolerance, vectors, sources,
+            ),
+            count,
         ),
-        count,
-    ), place)
+        place,
+    )
 }
 
 // A previous direction: none where `has` is 0.
@@ -237,11 +246,14 @@ pub extern "C" fn byr_select_translation_vector(
     let before = previous(has, px, py);
     let centroid = Point { x: cx, y: cy };
     let position = Point { x, y };
-    hand_refusal(hand_selected(
-        selection::calls::select_translation_vector(vectors, before, centroid, position),
-        found,
-        index,
-    ), place)
+    hand_refusal(
+        hand_selected(
+            selection::calls::select_translation_vector(vectors, before, centroid, position),
+            found,
+            index,
+        ),
+        place,
+    )
 }
 
 // What orbiting, moved by (dx, dy), runs into first: nothing, or the hit's distance, its kind and both indices.
@@ -327,9 +339,12 @@ pub extern "C" fn byr_explain_collision(
 {
     let translation = Point { x: dx, y: dy };
     let answer = grounds::calls::explain_collision(stationary, orbiting, translation, tolerance);
-    hand_refusal(hand_explained(
-        answer, ground, distance, kind, si, oi, others, near, between, far,
-    ), place)
+    hand_refusal(
+        hand_explained(
+            answer, ground, distance, kind, si, oi, others, near, between, far,
+        ),
+        place,
+    )
 }
 
 // The first position toward a concave vertex at which the orbiting polygon, lent as drawn, does not overlap, or nothing; (x, y) is where it is now.
@@ -402,7 +417,10 @@ pub extern "C" fn byr_polygons_overlap(
     ensures overlap_after { overlap.new ≡ told flag (overlap_call a.now b.now) overlap.old }
     ensures place_after { place.new ≡ told_place (overlap_call a.now b.now) place.old }
 {
-    hand_refusal(hand_truth(overlap::calls::polygons_overlap(a, b), overlap), place)
+    hand_refusal(
+        hand_truth(overlap::calls::polygons_overlap(a, b), overlap),
+        place,
+    )
 }
 
 // The same with a lent tolerance.
@@ -419,10 +437,13 @@ pub extern "C" fn byr_polygons_overlap_with_tolerance(
     ensures place_after { place.new ≡ told_place (overlap_with_call a.now b.now tolerance)
         place.old }
 {
-    hand_refusal(hand_truth(
-        overlap::calls::polygons_overlap_with_tolerance(a, b, tolerance),
-        overlap,
-    ), place)
+    hand_refusal(
+        hand_truth(
+            overlap::calls::polygons_overlap_with_tolerance(a, b, tolerance),
+            overlap,
+        ),
+        place,
+    )
 }
 
 // The position of orbiting, as drawn, at which its highest vertex is stationary's lowest.
@@ -440,11 +461,14 @@ pub extern "C" fn byr_find_start_position(
     ensures place_after { place.new ≡ told_place (start_call stationary.now orbiting.now)
         place.old }
 {
-    hand_refusal(hand_start(
-        start_position::calls::find_start_position(stationary, orbiting),
-        x,
-        y,
-    ), place)
+    hand_refusal(
+        hand_start(
+            start_position::calls::find_start_position(stationary, orbiting),
+            x,
+            y,
+        ),
+        place,
+    )
 }
 
 // The list without its collinear points, in the room: how many points it has.
@@ -463,10 +487,13 @@ pub extern "C" fn byr_simplify_polygon(
         place.old }
     ensures room_after { room.new ≡ simplify_room list.now tolerance room.old }
 {
-    hand_refusal(hand_count(
-        simplify::calls::simplify_polygon(list, tolerance, room),
-        points,
-    ), place)
+    hand_refusal(
+        hand_count(
+            simplify::calls::simplify_polygon(list, tolerance, room),
+            points,
+        ),
+        place,
+    )
 }
 
 // The path of the orbiting polygon around the stationary one: traced in the work room, simplified in the result room; how many points both have, the passes

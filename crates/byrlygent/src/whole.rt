@@ -95,7 +95,10 @@ pub extern "C" fn byr_whole_is_simple_polygon(
     ensures simple_after { simple.new ≡ told flag (whole_simple_call ring.now) simple.old }
     ensures place_after { place.new ≡ told_place (whole_simple_call ring.now) place.old }
 {
-    hand_refusal(hand_truth(whole_engine::calls::is_simple_polygon(ring), simple), place)
+    hand_refusal(
+        hand_truth(whole_engine::calls::is_simple_polygon(ring), simple),
+        place,
+    )
 }
 
 // Twice the signed area of a ring: above 0 where its order is counter-clockwise.
@@ -105,5 +108,8 @@ pub extern "C" fn byr_whole_signed_area2(ring: &[i32], area2: &mut i64, place: &
     ensures area2_after { area2.new ≡ told itself (whole_area2_call ring.now) area2.old }
     ensures place_after { place.new ≡ told_place (whole_area2_call ring.now) place.old }
 {
-    hand_refusal(hand_integer(whole_engine::calls::signed_area2(ring), area2), place)
+    hand_refusal(
+        hand_integer(whole_engine::calls::signed_area2(ring), area2),
+        place,
+    )
 }

@@ -10,7 +10,6 @@ ghost use Rattle.clear_move.specs.Lines.{signed, field, reason_line, shared_line
 ghost use Rattle.clear_move.specs.Lines.{edge_line, ground_text, judged_text};
 
 use crate::shared::{count_lines, has, note_owners, put_ranges};
-
 use lines::put_refusal;
 use print::{put_decimal, put_text};
 use reason_check::Ground;

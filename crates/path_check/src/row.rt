@@ -22,7 +22,12 @@ fn path_lengths(stationary: &[f64], orbiting: &[f64], path: &[f64]) -> Result<()
 
 // Their numbers, and the settings.
 #[tactic(auto, using(refusals::proofs::Tests::refused), unfolding(crate::specs::Rows::path_numbers))]
-fn path_numbers(stationary: &[f64], orbiting: &[f64], s: Settings, path: &[f64]) -> Result<(), Refusal>
+fn path_numbers(
+    stationary: &[f64],
+    orbiting: &[f64],
+    s: Settings,
+    path: &[f64],
+) -> Result<(), Refusal>
     ensures { tested result ≡ path_numbers stationary.now orbiting.now s path.now }
 {
     numbers(stationary)?;
@@ -33,7 +38,12 @@ fn path_numbers(stationary: &[f64], orbiting: &[f64], s: Settings, path: &[f64])
 
 // All of this. The numbers are not read where a list has a fault.
 #[tactic(auto, using(refusals::proofs::Tests::refused), unfolding(crate::specs::Rows::of_path))]
-pub fn checking(stationary: &[f64], orbiting: &[f64], s: Settings, path: &[f64]) -> Result<(), Refusal>
+pub fn checking(
+    stationary: &[f64],
+    orbiting: &[f64],
+    s: Settings,
+    path: &[f64],
+) -> Result<(), Refusal>
     ensures { tested result ≡ of_path stationary.now orbiting.now s path.now }
 {
     path_lengths(stationary, orbiting, path)?;

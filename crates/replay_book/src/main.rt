@@ -13,7 +13,8 @@ use std::io::{BufReader, Read};
 fn told(answer: Result<usize, Refusal>, header: &[u8]) -> bool {
     match answer {
         Ok(n) => word(header, 40) == 0 && n as u64 == word(header, 48),
-        Err(no) => no.number() as u64 == word(header, 40) && no.place().unwrap_or(0) == word(header, 56),
+        Err(no) => no.number() as u64 == word(header, 40)
+            && no.place().unwrap_or(0) == word(header, 56),
     }
 }
 

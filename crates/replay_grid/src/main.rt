@@ -12,7 +12,8 @@ use std::io::{BufReader, Read};
 fn told(answer: Result<usize, Refusal>, header: &[u8]) -> bool {
     match answer {
         Ok(points) => word(header, 24) == 0 && points as u64 == word(header, 40),
-        Err(no) => no.number() as u64 == word(header, 24) && no.place().unwrap_or(0) == word(header, 32),
+        Err(no) => no.number() as u64 == word(header, 24)
+            && no.place().unwrap_or(0) == word(header, 32),
     }
 }
 
