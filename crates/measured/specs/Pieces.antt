@@ -9,7 +9,6 @@ use Rattle.contacts_call.specs.Calls.{find_call, find_which, find_points}
 use Rattle.collision.specs.Calls.{collision_call}
 use Rattle.pairs.specs.Pairs.{pair}
 use Rattle.collision.specs.Nearest.{pair_no, ray_at}
-use Rattle.collision.specs.declared.Ray.TheVariants.{At}
 use Rattle.simplify.specs.Simplify.{survivors}
 use Rattle.simplify.specs.Calls.{simplify_call, simplify_room}
 use Rattle.reading.specs.Reading.{least_reading}
@@ -56,7 +55,7 @@ unfoldable pub moves : List Piece
 moves =
     collision_call S beside (at 10 0) tolerance
     gives answers (Some (record { distance = real 3; kind = 0; stationary = 3; orbiting = 1 }))
-    ∷ ray_at S beside (at 10 0) tolerance (pair 0 3 2) gives At (real 3)
+    ∷ ray_at S beside (at 10 0) tolerance (pair 0 3 2) gives Some (real 3)
     ∷ pair_no S beside 7 gives pair 0 3 1
     ∷ pair_no S beside 11 gives pair 0 3 2
     ∷ collision_call S beside (at 3 0) tolerance gives answers None

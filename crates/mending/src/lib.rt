@@ -25,6 +25,7 @@ fn trail(ring: &[f64]) -> usize
 {
     let first = point_at(ring, 0);
     let mut end = ring.len() / 2;
+    // A while: where it ends is the answer, so a `for` over the vertices from the last on would be no plainer.
     while 1 < end && same(first, point_at(ring, end - 1)) {
         end -= 1;
     }
