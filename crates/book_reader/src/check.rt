@@ -2,11 +2,11 @@
 ghost use Rattle.std.specs.Prelude.{◌≡◌, ◌+◌, ◌*◌, ◌/◌, ◌≤◌, length, drop};
 ghost use Rattle.reading.specs.Reading.{vertices, is_least};
 ghost use Rattle.refusals.specs.Answers.{tells, tested};
-ghost use Rattle.refusals.specs.Rings.{vertices_least, vertices_most, rings_most};
+ghost use Rattle.refusals.specs.Rings.{vertices_least, vertices_most, rings_most, within};
 ghost use Rattle.book_layout.specs.Layout.{coordinate_bytes, vertex_bytes, entry_bytes, tail_bytes, book_most, coordinate_bits, coords_in, counts_in};
 ghost use Rattle.book_layout.specs.Faults.{fault_at, ◌passes, coords_check, least_check, book_check};
 ghost use Rattle.book_layout.specs.Reader.{read_refusal};
-ghost use Rattle.book_reader.specs.Parts.{field_ok, tail_check, list_check};
+ghost use Rattle.book_reader.specs.Parts.{tail_check, list_check};
 
 use crate::load::load;
 use crate::tail::{entry_offset, ring_count};
@@ -26,29 +26,18 @@ fn fault(place: usize) -> Refusal
     Refusal::Book(place as u64)
 }
 
-// Whether the field with a code is right: 0 a ring's offset, which is told; 1 its vertices; 2 the ring count; 3 the end of the entries,
-// which is told.
-fn is_right(code: u32, value: usize, told: usize) -> bool
-    ensures { result ≡ field_ok code value told }
+// Whether a ring may have so many vertices.
+fn is_number_of_vertices(n: usize) -> bool
+    ensures { result ≡ within vertices_least vertices_most n }
 {
-    match code {
-        0 | 3 => value == told,
-        1 => {
-            if value < VERTICES_LEAST {
-                false
-            } else {
-                value <= VERTICES_MOST
-            }
-        }
-        2 => {
-            if value < 1 {
-                false
-            } else {
-                value <= RINGS_MOST
-            }
-        }
-        _ => false,
-    }
+    (VERTICES_LEAST..=VERTICES_MOST).contains(&n)
+}
+
+// Whether a book may have so many rings.
+fn is_number_of_rings(k: usize) -> bool
+    ensures { result ≡ within 1 rings_most k }
+{
+    (1..=RINGS_MOST).contains(&k)
 }
 
 // Whether a bit pattern is one that a book stores: a coordinate's, and as it is kept.
@@ -74,11 +63,11 @@ fn check_entries(f: &[u8], from: usize, k: usize) -> Result<(), Refusal>
     for i in 0..k {
         let at = from + ENTRY_BYTES * i;
         let offset = number4(f, at) as usize;
-        if !is_right(0, offset, before) {
+        if offset != before {
             return Err(fault(at));
         }
         let n = number4(f, at + FIELD_BYTES) as usize;
-        if !is_right(1, n, 0) {
+        if !is_number_of_vertices(n) {
             return Err(fault(at + FIELD_BYTES));
         }
         before += VERTEX_BYTES * n;
@@ -133,6 +122,7 @@ fn check_rings(f: &[u8], from: usize, k: usize) -> Result<(), Refusal>
 }
 
 // The length of a file, its ring count, and the offset of its first entry.
+#[tactic(auto, using(refusals::proofs::Tests::refused), unfolding(crate::specs::Parts::tail_check))]
 fn check_tail(f: &[u8]) -> Result<(), Refusal>
     ensures { tested result ≡ tail_check f.now }
 {
@@ -144,11 +134,11 @@ fn check_tail(f: &[u8]) -> Result<(), Refusal>
         return Err(fault(0));
     }
     let k = ring_count(f);
-    if !is_right(2, k, 0) {
+    if !is_number_of_rings(k) {
         return Err(fault(len - TAIL_BYTES));
     }
     let end = entry_offset(f) + ENTRY_BYTES * k + TAIL_BYTES;
-    if !is_right(3, end, len) {
+    if end != len {
         return Err(fault(len - FIELD_BYTES));
     }
     Ok(())
