@@ -25,7 +25,6 @@ use handed::trace::hand_traced;
 use handed::value::{hand_count, hand_number, hand_projected, hand_start, hand_truth};
 use plane::Point;
 use refusals::Settings;
-use selection::Previous;
 
 // The parameter of the foot of p on the segment a b, 0 at a and 1 at b, and where the foot sits.
 #[unsafe(no_mangle)]
@@ -209,13 +208,13 @@ pub extern "C" fn byr_handle_perfect_fit(
 }
 
 // A previous direction: none where `has` is 0.
-fn previous(has: u32, x: f64, y: f64) -> Previous
+fn previous(has: u32, x: f64, y: f64) -> Option<Point>
     ensures { result ≡ previous_of has x y }
 {
     if has == 0 {
-        Previous::None
+        None
     } else {
-        Previous::Direction(Point { x, y })
+        Some(Point { x, y })
     }
 }
 

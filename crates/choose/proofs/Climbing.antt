@@ -20,7 +20,6 @@ use Rattle.vectors.specs.declared.TranslationVector.{TranslationVector}
 use Rattle.vectors.proofs.Numbers.{numbers_length}
 use Rattle.selection.specs.Score.{score_of}
 use Rattle.selection.specs.Select.{vector_at, score_at, scored_at, above, unscored, select_of}
-use Rattle.selection.specs.declared.Previous.{Previous}
 use Rattle.selection.specs.declared.Scored.{Scored}
 use Rattle.choose.specs.Choose.{vector_no, choice_of, Standing, stands, standing, unset, raised, weigh_of, raised_by, weighed_by, taken_by, climb_of}
 use Rattle.vectors.specs.Courses.{vector_is}
@@ -58,7 +57,7 @@ rest_at (x ∷ xs) (suc k) e = rest_at xs k e
 abbrev pub chosen_by : Standing → Option TranslationVector
 chosen_by b = cond b.found (Some b.best) None
 
-module _ (vs : List Sourced) (previous : Previous) (ccw : Point) where
+module _ (vs : List Sourced) (previous : Option Point) (ccw : Point) where
   abbrev till : ℕ → Scored
   till k = over above (scored_at (vector_numbers vs) previous ccw) unscored k
 
@@ -129,14 +128,14 @@ module _ (vs : List Sourced) (previous : Previous) (ccw : Point) where
       by true f = sym (i.vector_same f)
       by false f = none_in vs _ (omega (arith, e, i.none_yet f))
 
-pub climbed : (vs : List Sourced) (previous : Previous) (ccw : Point) → chosen_by (climb_of previous ccw unset vs) ≡ choice_of vs previous ccw
+pub climbed : (vs : List Sourced) (previous : Option Point) (ccw : Point) → chosen_by (climb_of previous ccw unset vs) ≡ choice_of vs previous ccw
 unfolding choice_of select_of
 climbed vs previous ccw =
     let z : 0 + length vs ≡ length (vector_numbers vs) / 3 = omega (arith, numbers_length vs) in
     ends vs previous ccw (length (vector_numbers vs) / 3) {b = climb_of previous ccw unset vs} (omega (arith, numbers_length vs)) (rw (← z) (climbs vs previous ccw vs 0 refl (begin vs previous ccw)))
 
 -- the vectors of one contact
-module _ (keep : TranslationVector → Bool) (previous : Previous) (ccw : Point) where
+module _ (keep : TranslationVector → Bool) (previous : Option Point) (ccw : Point) where
   weighs : (b : Standing) (s : Sourced) (rest : List Sourced)
       → climb_of previous ccw b (kept_vectors keep (s ∷ rest)) ≡ climb_of previous ccw (weigh_of keep previous ccw b s.slide) (kept_vectors keep rest)
   unfolding kept_vectors climb_of weigh_of
@@ -148,7 +147,7 @@ module _ (keep : TranslationVector → Bool) (previous : Previous) (ccw : Point)
       by false t = rw t refl
 
 -- what a vector makes of the best: nothing where its score does not raise it, visited or not
-module _ (keep : TranslationVector → Bool) (previous : Previous) (ccw : Point) (found : Bool) (top : Float) (v : TranslationVector) {s : Float} {w : Option Float}
+module _ (keep : TranslationVector → Bool) (previous : Option Point) (ccw : Point) (found : Bool) (top : Float) (v : TranslationVector) {s : Float} {w : Option Float}
     (e : s ≡ score_of v previous ccw) (h : w ≡ raised_by found top s) where
   pub not_raised : w ≡ None → None ≡ weighed_by keep previous ccw found top v
   unfolding weighed_by
@@ -162,13 +161,13 @@ module _ (keep : TranslationVector → Bool) (previous : Previous) (ccw : Point)
   unfolding weighed_by
   raised_kept k l = rw (l, ← e, ← h, k) refl
 
-pub visited_passed : (keep : TranslationVector → Bool) (previous : Previous) (ccw : Point) (found : Bool) (top : Float) (v : TranslationVector)
+pub visited_passed : (keep : TranslationVector → Bool) (previous : Option Point) (ccw : Point) (found : Bool) (top : Float) (v : TranslationVector)
     → keep v ≡ false → None ≡ weighed_by keep previous ccw found top v
 unfolding weighed_by
 visited_passed keep previous ccw found top v l = rw l refl
 
 -- both steps of weighing
-taken_is : (keep : TranslationVector → Bool) (previous : Previous) (ccw : Point) (b : Standing) (v : TranslationVector)
+taken_is : (keep : TranslationVector → Bool) (previous : Option Point) (ccw : Point) (b : Standing) (v : TranslationVector)
     → taken_by (weighed_by keep previous ccw b.found b.score v) b v ≡ weigh_of keep previous ccw b v
 unfolding taken_by weighed_by raised_by weigh_of raised
 taken_is keep previous ccw b v = by (keep v) (lt b.score (score_of v previous ccw)) b.found
@@ -182,7 +181,7 @@ taken_is keep previous ccw b v = by (keep v) (lt b.score (score_of v previous cc
     by true false true = refl
     by true false false = refl
 
-module _ (keep : TranslationVector → Bool) (previous : Previous) (ccw : Point) where
+module _ (keep : TranslationVector → Bool) (previous : Option Point) (ccw : Point) where
   one_side : (b r : Best) (c : Course) {w : Option Float} {v : TranslationVector}
       → w ≡ weighed_by keep previous ccw (eqb b.found 1) b.score (vector_is c) → standing r ≡ taken_by w (standing b) (vector_is c) → vector_is c ≡ v
       → standing r ≡ weigh_of keep previous ccw (standing b) v
@@ -196,7 +195,7 @@ module _ (keep : TranslationVector → Bool) (previous : Previous) (ccw : Point)
       one_side f r d h' k' e' ∙ ap (λ (z : Standing). weigh_of keep previous ccw z u) (one_side b f c h k e)
 
 -- the loop of `climb`: from where it is on, the vectors left give what all of them give from nothing
-module _ (st orb : List Float) (tol : Float) (keep : TranslationVector → Bool) (previous : Previous) (ccw : Point) where
+module _ (st orb : List Float) (tol : Float) (keep : TranslationVector → Bool) (previous : Option Point) (ccw : Point) where
   abbrev all : Standing
   all = climb_of previous ccw unset (kept_vectors keep (vectors_of st orb tol))
 
@@ -231,7 +230,7 @@ module _ (st orb : List Float) (tol : Float) (keep : TranslationVector → Bool)
     top e = sym (i.same ∙ (rw e refl))
 
 -- what `choose` makes of the best
-module _ (vs : List Sourced) (previous : Previous) (ccw : Point) (b : Best) (e : standing b ≡ climb_of previous ccw unset vs) where
+module _ (vs : List Sourced) (previous : Option Point) (ccw : Point) (b : Best) (e : standing b ≡ climb_of previous ccw unset vs) where
   all_told : chosen_by (standing b) ≡ choice_of vs previous ccw
   all_told = ap chosen_by e ∙ climbed vs previous ccw
 

@@ -17,7 +17,7 @@ use pairs::{Pair, pair_at};
 use plane::Point;
 use plane::vector::{ahead, dot, minus};
 use ring::point_at;
-use selection::{Previous, continued, start};
+use selection::{continued, start};
 use vectors::TranslationVector;
 use vectors::course::{Course, course_by, direction_of, is_below, over, reach, to_vector};
 use vectors::fit::is_visited;
@@ -39,7 +39,7 @@ fn is_kept(course: Course, from: Point, visited: &[f64], tol: f64) -> bool
 }
 
 // The score of a vector.
-fn score(course: Course, previous: Previous, ccw: Point) -> f64
+fn score(course: Course, previous: Option<Point>, ccw: Point) -> f64
     ensures { result ≡ score_of (vector_is course) previous ccw }
 {
     let dir = direction_of(course);
@@ -66,7 +66,7 @@ fn weigh(
     from: Point,
     visited: &[f64],
     tol: f64,
-    previous: Previous,
+    previous: Option<Point>,
     ccw: Point,
 ) -> Option<f64>
     ensures { result ≡ weighed_by (keeps from visited.now tol) previous ccw found top (vector_is course) }
@@ -118,7 +118,7 @@ fn weigh_both(
     from: Point,
     visited: &[f64],
     tol: f64,
-    previous: Previous,
+    previous: Option<Point>,
     ccw: Point,
 ) -> Best
     requires { along ≡ along_by kind e }
@@ -163,7 +163,7 @@ fn weigh_contact(
     from: Point,
     visited: &[f64],
     tol: f64,
-    previous: Previous,
+    previous: Option<Point>,
     ccw: Point,
 ) -> Best
     requires sides { Sides (count stationary.now) (count orbiting.now) }
@@ -191,7 +191,7 @@ fn climb(
     tol: f64,
     from: Point,
     visited: &[f64],
-    previous: Previous,
+    previous: Option<Point>,
     ccw: Point,
 ) -> Best
     requires sides { Sides (count stationary.now) (count orbiting.now) }
@@ -227,7 +227,7 @@ pub fn choose(
     tol: f64,
     from: Point,
     visited: &[f64],
-    previous: Previous,
+    previous: Option<Point>,
     ccw: Point,
 ) -> Option<TranslationVector>
     requires sides { Sides (count stationary.now) (count orbiting.now) }

@@ -24,6 +24,7 @@ pub enum Fault {
 }
 
 // What is wrong at the point i, at which the orbiting polygon is `moved`, or on the leg that leads on from it.
+#[tactic(auto, unfolding(crate::specs::Path::fault_by, crate::specs::Path::leg_by))]
 fn fault_by(stationary: &[f64], moved: &[f64], tol: f64, leg: Point, i: usize) -> Option<Fault>
     requires { Sides (count stationary.now) (count moved.now) }
     ensures { result ≡ fault_by stationary.now moved.now tol leg i }

@@ -6,17 +6,16 @@ mod told;
 
 use plane::Point;
 use replay::{is_same, list_length, load, word};
-use selection::Previous;
 use std::io;
 use std::io::{BufReader, Read};
 use told::Told;
 
 // The previous direction of a selection: the first extra word is 0 for none.
-fn previous(x: &[f64; 8]) -> Previous {
+fn previous(x: &[f64; 8]) -> Option<Point> {
     if x[0] == 0.0 {
-        Previous::None
+        None
     } else {
-        Previous::Direction(Point { x: x[1], y: x[2] })
+        Some(Point { x: x[1], y: x[2] })
     }
 }
 

@@ -19,11 +19,11 @@ loop-i-init c = start _ _ _ _
 
 pub loop-i-preserved : goal.loop-i-preserved
 loop-i-preserved c =
-    c.loop-i.invariant ∙ fault_on _ _ _ c.loop-i-test.true c.fault_at.ensures c.in-Nothing.is
+    c.loop-i.invariant ∙ fault_on _ _ _ c.loop-i-test.true c.fault_at.ensures c.in_default.is
 
-pub returns-in_default : goal.returns-in_default
-returns-in_default c =
-    sym (c.loop-i.invariant ∙ fault_here _ _ _ _ c.loop-i-test.true c.fault_at.ensures c.in_default.not-Nothing)
+pub returns-in-Some : goal.returns-in-Some
+returns-in-Some c =
+    sym (c.loop-i.invariant ∙ fault_here _ _ _ c.loop-i-test.true c.fault_at.ensures c.in-Some.is)
 
 pub returns : goal.returns
 returns c = sym (c.loop-i.invariant ∙ fault_none _ _ _ c.loop-i-test.false)
