@@ -211,11 +211,7 @@ pub extern "C" fn byr_handle_perfect_fit(
 fn previous(has: u32, x: f64, y: f64) -> Option<Point>
     ensures { result ≡ previous_of has x y }
 {
-    if has == 0 {
-        None
-    } else {
-        Some(Point { x, y })
-    }
+    if has == 0 { None } else { Some(Point { x, y }) }
 }
 
 // The index of the vector to slide along, or nothing for an empty list, by the previous direction (px, py) where `has` is not 0, the centroid (cx, cy) and the

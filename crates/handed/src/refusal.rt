@@ -1,5 +1,5 @@
 // What a caller is told of a refusal.
-#![tactic(auto, unfolding(crate::specs::Handed::place_of))]
+#![tactic(auto, unfolding(crate::specs::Handed::place_of, refusals::specs::Refusals::tells_place))]
 
 ghost use Rattle.std.specs.Prelude.{◌≡◌};
 ghost use Rattle.refusals.specs.Answers.{tested};
@@ -22,10 +22,11 @@ pub fn hand_refusal(handed: Result<(), Refusal>, place: &mut u64) -> u32
     ensures value { result ≡ (tested handed).number }
     ensures place_after { place.new ≡ place_of (tested handed) place.old }
 {
-    if let Err(refusal) = handed {
-        if let Some(at) = refusal.place() {
-            *place = at;
+    match handed {
+        Ok(()) => 0,
+        Err(refusal) => {
+            *place = refusal.place().unwrap_or(*place);
+            refusal.number()
         }
     }
-    refusal_number(handed)
 }

@@ -1,5 +1,5 @@
 // The answer of a trace: the counts, the passes and the stop reason, of which the passes are told with refusal 5, and both the last with 6.
-#![tactic(auto, unfolding(crate::specs::Traces::points_told, crate::specs::Traces::stored_told, crate::specs::Traces::passes_told, crate::specs::Traces::stop_told))]
+#![tactic(auto, unfolding(nfp_sliding::specs::Calls::refusal_of, crate::specs::Traces::points_told, crate::specs::Traces::stored_told, crate::specs::Traces::passes_told, crate::specs::Traces::stop_told))]
 
 ghost use Rattle.std.specs.Prelude.{◌≡◌};
 ghost use Rattle.refusals.specs.Answers.{tested};

@@ -3,9 +3,8 @@
 #![tactic(auto, unfolding(handed::specs::Handed::refusal_in, handed::specs::Handed::told, handed::specs::Handed::told_found, crate::specs::Drawn::least_ground, crate::specs::Drawn::least_depth, crate::specs::Drawn::least_put, crate::specs::Drawn::least_edge, crate::specs::Drawn::path_ground, crate::specs::Drawn::path_depth, crate::specs::Drawn::path_leg, crate::specs::Drawn::path_edge))]
 
 ghost use Rattle.std.specs.Prelude.{◌≡◌};
-ghost use Rattle.refusals.specs.Answers.{tested};
+ghost use Rattle.refusals.specs.Answers.{answered, tested};
 ghost use Rattle.clear_drawn.specs.Calls.{judged};
-ghost use Rattle.clear_drawn_path.specs.Calls.{path_judged};
 ghost use Rattle.handed.specs.Handed.{refusal_in, told, told_found, itself};
 ghost use Rattle.handed_drawn.specs.Drawn.{part_in, least_ground, least_depth, least_put, least_edge};
 ghost use Rattle.handed_drawn.specs.Drawn.{path_ground, path_depth, path_leg, path_edge};
@@ -73,7 +72,7 @@ pub fn hand_path_judged(
     leg: &mut u64,
     edge: &mut u64,
 ) -> Result<(), Refusal>
-    ensures { let o = path_judged answer in
+    ensures { let o = answered answer in
         (tested result ≡ refusal_in o)
         × (ground.new ≡ told path_ground o ground.old)
         × (depth.new ≡ told_found itself (part_in path_depth o) depth.old)

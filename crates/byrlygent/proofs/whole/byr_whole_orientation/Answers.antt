@@ -10,5 +10,5 @@ returns c =
     let e =
     c.orientation.ensures
     ∙ six_read whole_orientation_call _ _ _ _ _ _ c.ranges.ax c.ranges.ay c.ranges.bx c.ranges.by c.ranges.cx c.ranges.cy in
-    let h = c.hand_turn-no.ensures in
-    record { value = number_told e h.0 refl; turn_after = rw (← e) h.1 }
+    let h = c.hand_turn.ensures in
+    record { value = number_told e h.0 c.refusal_number.ensures; turn_after = rw (← e) h.1 }
