@@ -1,5 +1,5 @@
 -- `explain_move::put_book` meets its contract: the two rings that the reader hands out, or its refusal. Assumes nothing.
-use Rattle.std.proofs.Common.{ℕ, List, Float, arith}
+use Rattle.std.proofs.Common.{ℕ, List, Float, arith, ap, ◌∙◌}
 use Rattle.refusals.specs.Refusals.{Told}
 use Rattle.lines.specs.Lines.{number_line}
 use Rattle.print.proofs.Puts.{reads}
@@ -29,4 +29,4 @@ returns-in-Err c =
     let a = c.args in
     let f = a.book.now in
     let q = fault_read f (λ i. omega (arith, c.type_inv.book i)) _ _ _ _ c.read_book.ensures c.in-Err.no c.in-Err.is in
-    reads (fault_said (λ (st orb : List Float). explained_text st orb a.translation a.tolerance) fault f q) c.put_number.ensures
+    reads (ap number_line c.number.ensures ∙ fault_said (λ (st orb : List Float). explained_text st orb a.translation a.tolerance) fault f q) c.put_number.ensures

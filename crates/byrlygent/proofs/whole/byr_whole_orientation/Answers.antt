@@ -1,5 +1,5 @@
 -- `byrlygent::whole::byr_whole_orientation` meets its contract: the call's answer, handed over. Assumes nothing.
-use mathlib.Core.Path.{refl, ◌∙◌}
+use mathlib.Core.Path.{◌∙◌}
 use Rattle.handed.proofs.Told.{number_told}
 use Rattle.whole_engine.specs.Calls.{whole_orientation_call}
 use Rattle.whole_engine.proofs.Read.{six_read}
