@@ -1,7 +1,9 @@
 // What the replay programs share: the words of a record of the oracle's answers, and the loop over all records.
 #![tactic(auto)]
 
-ghost use Rattle.std.specs.Prelude.{◌≤◌};
+ghost use Rattle.std.specs.Prelude.{◌≡◌, ◌≤◌, ◌↔◌, IsTrue};
+ghost use Rattle.std.specs.Float.{binary64};
+ghost use Rattle.std.specs.Float.Ieee.{to_bits};
 
 use number_bytes::{bits_of, float_of, number8};
 use std::io;
@@ -28,14 +30,20 @@ pub fn list_length(header: &[u8], at: usize, most: usize) -> usize
 
 // What a word of a record stands for.
 pub trait Item: Copy {
+    // When two items are the same, bit for bit.
+    ghost Same: { Self → Self → Type 0 };
+
     // The item that a word stands for.
     fn from_word(word: u64) -> Self;
 
     // Whether two items are the same, bit for bit.
-    fn is_same(self, other: Self) -> bool;
+    fn is_same(self, other: Self) -> bool
+        ensures { IsTrue result ↔ Same self other };
 }
 
 impl Item for f64 {
+    ghost Same = { λ x y. to_bits binary64 x ≡ to_bits binary64 y };
+
     fn from_word(word: u64) -> f64 {
         float_of(word)
     }
@@ -46,6 +54,8 @@ impl Item for f64 {
 }
 
 impl Item for u64 {
+    ghost Same = { λ x y. x ≡ y };
+
     fn from_word(word: u64) -> u64 {
         word
     }
@@ -57,6 +67,8 @@ impl Item for u64 {
 
 // A count is the low half of a word.
 impl Item for u32 {
+    ghost Same = { λ x y. x ≡ y };
+
     fn from_word(word: u64) -> u32 {
         (word & 0xffff_ffff) as u32
     }
@@ -68,6 +80,8 @@ impl Item for u32 {
 
 // An integer is the low half of a word, in two's complement.
 impl Item for i32 {
+    ghost Same = { λ x y. x ≡ y };
+
     fn from_word(word: u64) -> i32 {
         u32::from_word(word).cast_signed()
     }
