@@ -37,8 +37,8 @@ fn lay(n: u64, start: u64, m: usize, room: &mut [u64]) -> u64
     ensures room_after { room.new ≡ laid (places_from n start m) room.old }
 {
     let mut place = start;
-    for i in 0..m {
-        room[i] = place;
+    for slot in &mut room[..m] {
+        *slot = place;
         place = next_place(n, place);
     }
     place
