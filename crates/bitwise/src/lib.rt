@@ -9,20 +9,15 @@ use plane::Point;
 pub fn same_number(a: f64, b: f64) -> bool
     ensures { Same result a b }
 {
-    if a == a {
-        if b == b {
-            return f64::to_bits(a) == f64::to_bits(b);
-        }
+    if a == a && b == b {
+        return f64::to_bits(a) == f64::to_bits(b);
     }
     false
 }
 
+// Whether two points are the same, bit for bit. One with a NaN is not.
 pub fn same_point(a: Point, b: Point) -> bool
     ensures { Same result a b }
 {
-    if same_number(a.x, b.x) {
-        same_number(a.y, b.y)
-    } else {
-        false
-    }
+    same_number(a.x, b.x) && same_number(a.y, b.y)
 }

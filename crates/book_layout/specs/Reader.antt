@@ -6,7 +6,7 @@ use Rattle.ring.specs.Room.{laid}
 use Rattle.refusals.specs.Answers.{Outcome, outcome, left}
 use Rattle.refusals.specs.Refusals.{first_of}
 use Rattle.refusals.specs.Screens.{wrong_book_rooms}
-use Rattle.refusals.specs.declared.Refusal.{Refusal}
+use Rattle.refusals.specs.Refusals.{Told}
 use Rattle.book_layout.specs.Layout.{coords_of, counts_of, parts_of}
 use Rattle.book_layout.specs.Faults.{book_check}
 
@@ -19,7 +19,7 @@ abbrev pub holds_all : List ℕ → ℕ → ℕ → ℕ → Bool
 holds_all f room counts parts = leb (length (numbers_of f)) room && (leb (length (counts_of f)) counts && leb (length (counts_of f)) parts)
 
 -- the first of the tests that fails: 7 before 4
-unfoldable pub read_refusal : List ℕ → ℕ → ℕ → ℕ → Refusal
+unfoldable pub read_refusal : List ℕ → ℕ → ℕ → ℕ → Told
 read_refusal f room counts parts =
     first_of (book_check f ∷ wrong_book_rooms (length (numbers_of f)) room (length (counts_of f)) counts parts ∷ [])
 

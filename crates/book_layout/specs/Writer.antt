@@ -8,7 +8,7 @@ use Rattle.refusals.specs.Refusals.{first_of}
 use Rattle.refusals.specs.Screens.{short_room}
 use Rattle.refusals.specs.Rows.{of_rings}
 use Rattle.refusals.specs.Bounds.{coordinates}
-use Rattle.refusals.specs.declared.Refusal.{Refusal}
+use Rattle.refusals.specs.Refusals.{Told}
 use Rattle.number_bytes.specs.Bytes.{Each, Formed}
 use Rattle.reading.specs.Reading.{Vertex, vertices}
 use Rattle.reading.specs.Lent.{ring_of}
@@ -35,7 +35,7 @@ abbrev pub book_size : List ℕ → ℕ
 book_size ns = vertex_bytes * total ns + entry_bytes * length ns + tail_bytes
 
 -- the first of the tests that fails, for a room of so many bytes
-unfoldable pub write_refusal : List Float → List ℕ → List ℕ → ℕ → Refusal
+unfoldable pub write_refusal : List Float → List ℕ → List ℕ → ℕ → Told
 write_refusal xs ns ps size = first_of (of_rings xs ns ps ∷ short_room (book_size ns) size ∷ [])
 
 -- what the call answers, and the room as it leaves it

@@ -8,7 +8,7 @@ use lib.ListN.{take, drop, set}
 use lib.Seq.{sets, drop-drop}
 use lib.Ieee.{Float, binary64, of_bits}
 use Rattle.refusals.specs.Refusals.{none, passed, first}
-use Rattle.refusals.specs.declared.Refusal.{Refusal}
+use Rattle.refusals.specs.Refusals.{Told}
 use Rattle.number_bytes.specs.Bytes.{number_of}
 use Rattle.book_layout.specs.Layout.{coordinate_bytes, coordinate_bits, coords_in}
 use Rattle.book_layout.specs.Faults.{fault_at, fault, ◌passes, coords_check}
@@ -23,7 +23,7 @@ module _ (f : List ℕ) (at m j : ℕ) (h : j < m) where
   abbrev b : ℕ
   b = number_of (take coordinate_bytes (drop (at + coordinate_bytes * j) f))
 
-  abbrev later : Refusal
+  abbrev later : Told
   later = coords_check (m - (j + 1)) (at + coordinate_bytes * (j + 1)) (drop (at + coordinate_bytes * (j + 1)) f)
 
   more : m - j ≡ suc (m - (j + 1))

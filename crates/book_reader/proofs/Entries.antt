@@ -9,7 +9,7 @@ use lib.Seq.{sets, drop-drop}
 use lib.Dec.{eqb}
 use borrow.Author.Tests.{eq-eqb, ne_eqb, eqb-true}
 use Rattle.refusals.specs.Refusals.{none, passed, first}
-use Rattle.refusals.specs.declared.Refusal.{Refusal}
+use Rattle.refusals.specs.Refusals.{Told}
 use Rattle.number_bytes.specs.Bytes.{number_of}
 use Rattle.refusals.specs.Rings.{vertices_least, vertices_most, within, total}
 use Rattle.book_layout.specs.Layout.{field_bytes, vertex_bytes, entry_bytes, fields_in, counts_in}
@@ -51,7 +51,7 @@ module _ (f : List ℕ) (from k i before : ℕ) (h : i < k) where
   abbrev n : ℕ
   n = number_of (take field_bytes (drop (from + entry_bytes * i + field_bytes) f))
 
-  abbrev later : Refusal
+  abbrev later : Told
   later = entries_check (k - (i + 1)) (from + entry_bytes * (i + 1)) (before + vertex_bytes * n) (drop (from + entry_bytes * (i + 1)) f)
 
   abbrev rest : List ℕ

@@ -1,48 +1,17 @@
--- The fields of a book by their codes, and the bit patterns of coordinates. Assumes nothing.
-use Prim.Native.Nat.{ℕ, zero, suc, ◌%◌, ◌*◌, ◌^◌, ◌≤◌, ◌<◌}
+-- The bit patterns of coordinates. Assumes nothing.
+use Prim.Native.Nat.{ℕ, ◌%◌, ◌*◌, ◌^◌, ◌≤◌, ◌<◌}
 use native.Mathlib.Omega.{arith}
 use mathlib.Core.Path.{◌≡◌, refl, sym, subst, ◌∙◌}
-use mathlib.Core.Logic.{◌⊎◌, inl, inr}
 use mathlib.Core.Bool.{Bool, true, false, not}
-use lib.Dec.{T, leb, ltb, eqb, not_T, ltb→lt}
+use lib.Dec.{T, ltb, eqb, not_T, ltb→lt}
 use lib.Ieee.{Float, nan, inf, fin, binary64, is_nan, nan_bits, of_bits}
 use lib.Ieee.Bits.{nan_bits_is, nan_bits_above}
-use borrow.Author.Tests.{le-leb, lt-leb, lt-ltb}
+use borrow.Author.Tests.{lt-ltb}
 use Rattle.refusals.specs.Bounds.{coordinate}
-use Rattle.refusals.specs.Rings.{vertices_least, vertices_most, rings_most}
 use Rattle.reading.specs.Lent.{kept}
 use Rattle.book_layout.specs.Layout.{coordinate_bits}
 use Rattle.book_layout.proofs.Lent.{stored}
 use Rattle.refusals.proofs.Coordinate.{coordinate_number}
-use Rattle.book_reader.specs.Parts.{field_ok}
-
--- ---- the fields
-
-module _ (code v t : ℕ) where
-  pub is_told : (code ≡ 0) ⊎ (code ≡ 3) → eqb v t ≡ field_ok code v t
-  is_told (inl e) = rw e
-  is_told (inr e) = rw e
-
-  pub few_vertices : code ≡ 1 → v < vertices_least → false ≡ field_ok code v t
-  few_vertices e h = rw (e, lt-leb vertices_least v h)
-
-  pub most_vertices : code ≡ 1 → vertices_least ≤ v → leb v vertices_most ≡ field_ok code v t
-  most_vertices e h = rw (e, le-leb vertices_least v h)
-
-  pub few_rings : code ≡ 2 → v < 1 → false ≡ field_ok code v t
-  few_rings e h = rw (e, lt-leb 1 v h)
-
-  pub most_rings : code ≡ 2 → 1 ≤ v → leb v rings_most ≡ field_ok code v t
-  most_rings e h = rw (e, le-leb 1 v h)
-
-pub no_field : (code v t : ℕ) → ((code ≡ 0) ⊎ (code ≡ 3) → ⊥) → (code ≡ 1 → ⊥) → (code ≡ 2 → ⊥) → false ≡ field_ok code v t
-no_field zero v t a b d = absurd (a (inl refl))
-no_field (suc zero) v t a b d = absurd (b refl)
-no_field (suc (suc zero)) v t a b d = absurd (d refl)
-no_field (suc (suc (suc zero))) v t a b d = absurd (a (inr refl))
-no_field (suc (suc (suc (suc code)))) v t a b d = refl
-
--- ---- the coordinates
 
 -- what is no coordinate is no pattern of one, and of one it is asked whether it is as it is kept
 pub no_coordinate : (b : ℕ) → coordinate (of_bits binary64 b) ≡ false → false ≡ coordinate_bits b

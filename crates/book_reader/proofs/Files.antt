@@ -1,6 +1,5 @@
 -- A whole file, part by part: its last fields, its checks in order, and the reader's refusal, answer and rooms. Assumes nothing.
 use Prim.Native.Nat.{ℕ, ◌+◌, ◌-◌, ◌*◌, ◌/◌, ◌≤◌, ◌<◌}
-use native.Mathlib.Omega.{arith}
 use mathlib.Core.Path.{◌≡◌, refl, sym, ap, ◌∙◌}
 use mathlib.Core.Bool.{true, false, ◌&&◌}
 use mathlib.Core.List.{List}
@@ -10,9 +9,10 @@ use lib.Ieee.{Float}
 use borrow.Author.Tests.{le-leb, lt-leb, leb-true, eqb-true}
 use Rattle.refusals.specs.Refusals.{none, passed, first}
 use Rattle.refusals.specs.Screens.{wrong_book_rooms}
-use Rattle.refusals.specs.Answers.{counted}
+use Rattle.std.specs.Prelude.{Result}
+use Rattle.refusals.specs.Answers.{answered}
+use Rattle.refusals.specs.Refusals.{Told}
 use Rattle.refusals.specs.declared.Refusal.{Refusal}
-use Rattle.refusals.specs.declared.answer.Count.{Count}
 use Rattle.refusals.proofs.First.{first_assoc}
 use Rattle.refusals.specs.Rings.{rings_most, within, total}
 use Rattle.book_layout.specs.Layout.{field_bytes, coordinate_bytes, vertex_bytes, entry_bytes, tail_bytes, book_least, book_most, ring_count, entry_offset, counts_in, counts_of}
@@ -23,7 +23,7 @@ use Rattle.refusals.proofs.Counts.{is_within}
 use Rattle.refusals.proofs.Sized.{row_parts, holds}
 use Rattle.book_layout.proofs.Passing.{held}
 use Rattle.book_layout.proofs.Lent.{length_numbers, length_counts}
-use Rattle.refusals.proofs.Calls.{unique, count_only}
+use Rattle.refusals.proofs.Calls.{unique, answered_only}
 use Rattle.book_reader.specs.Parts.{tail_check, list_check}
 
 -- ---- the last fields
@@ -78,10 +78,10 @@ tail_passed f h =
 
 -- ---- the checks in order, in the four parts that `check_book` makes
 
-abbrev pub after_list : List ℕ → Refusal
+abbrev pub after_list : List ℕ → Told
 after_list f = first (coords_check (entry_offset f / coordinate_bytes) 0 f) (least_check (counts_in (ring_count f) (drop (entry_offset f) f)) 0 f)
 
-abbrev pub after_tail : List ℕ → Refusal
+abbrev pub after_tail : List ℕ → Told
 after_tail f = first (list_check f (entry_offset f) (ring_count f)) (after_list f)
 
 pub book_is : (f : List ℕ) → book_check f ≡ first (tail_check f) (after_tail f)
@@ -97,7 +97,7 @@ book_is f =
     let v6 = first (coords_check (e / coordinate_bytes) 0 f) (least_check (counts_in k (drop e f)) 0 f) in
     sym
     (first_assoc t1 (first t2 t3) (first (first v4 t5) v6)
-    ∙ ap (first t1) (first_assoc t2 t3 (first (first v4 t5) v6) ∙ ap (λ (v : Refusal). first t2 (first t3 v)) (first_assoc v4 t5 v6)))
+    ∙ ap (first t1) (first_assoc t2 t3 (first (first v4 t5) v6) ∙ ap (λ (v : Told). first t2 (first t3 v)) (first_assoc v4 t5 v6)))
 
 -- ---- the refusal
 
@@ -107,7 +107,7 @@ module _ (f : List ℕ) (room counts parts : ℕ) where
   at_fault h = rw h
 
   module _ (ok : book_check f passes) where
-    pub rooms_read : {n k : ℕ} {r : Refusal} → n ≡ entry_offset f → k ≡ ring_count f → r ≡ wrong_book_rooms (n / coordinate_bytes) room k counts parts
+    pub rooms_read : {n k : ℕ} {r : Told} → n ≡ entry_offset f → k ≡ ring_count f → r ≡ wrong_book_rooms (n / coordinate_bytes) room k counts parts
         → r ≡ read_refusal f room counts parts
     unfolding read_refusal
     rooms_read a b e = rw (ok, length_numbers f, length_counts f, ← a, ← b) e
@@ -125,18 +125,18 @@ module _ (f : List ℕ) (room counts parts : ℕ) where
 -- ---- the answer and the rooms
 
 -- what `read_book` promises of its answer and of the three rooms that it leaves
-abbrev pub Promised : List ℕ → List Float → List ℕ → List ℕ → Count → List Float → List ℕ → List ℕ → Type 0
+abbrev pub Promised : List ℕ → List Float → List ℕ → List ℕ → Result ℕ Refusal → List Float → List ℕ → List ℕ → Type 0
 Promised f room counts parts r x n p =
-    (counted r ≡ read_call f (length room) (length counts) (length parts))
+    (answered r ≡ read_call f (length room) (length counts) (length parts))
     × (x ≡ read_room f room (length counts) (length parts))
     × (n ≡ read_counts f (length room) counts (length parts))
     × (p ≡ read_parts f (length room) (length counts) parts)
 
 -- Two answers of the reader that meet its promise are equal, and so are the rooms.
-pub read_only : (f : List ℕ) (room : List Float) (counts parts : List ℕ) (r r' : Count) (x x' : List Float) (n n' p p' : List ℕ)
+pub read_only : (f : List ℕ) (room : List Float) (counts parts : List ℕ) (r r' : Result ℕ Refusal) (x x' : List Float) (n n' p p' : List ℕ)
     → Promised f room counts parts r x n p → Promised f room counts parts r' x' n' p' → (r ≡ r') × (x ≡ x') × (n ≡ n') × (p ≡ p')
 read_only f room counts parts r r' x x' n n' p p' h k = (
-  unique counted count_only (read_call f (length room) (length counts) (length parts)) r r' h.0 k.0,
+  unique answered answered_only (read_call f (length room) (length counts) (length parts)) r r' h.0 k.0,
   h.1 ∙ sym k.1,
   h.2 ∙ sym k.2,
   h.3 ∙ sym k.3,

@@ -1,11 +1,12 @@
-// The checks of a file: each answers refusal 7 with the place of the first fault that it finds, or no refusal.
+// The checks of a file: each refuses it by refusal 7 with the place of the first fault that it finds.
 ghost use Rattle.std.specs.Prelude.{◌≡◌, ◌+◌, ◌*◌, ◌/◌, ◌≤◌, length, drop};
 ghost use Rattle.reading.specs.Reading.{vertices, is_least};
-ghost use Rattle.refusals.specs.Rings.{vertices_least, vertices_most, rings_most};
+ghost use Rattle.refusals.specs.Answers.{tells, tested};
+ghost use Rattle.refusals.specs.Rings.{vertices_least, vertices_most, rings_most, within};
 ghost use Rattle.book_layout.specs.Layout.{coordinate_bytes, vertex_bytes, entry_bytes, tail_bytes, book_most, coordinate_bits, coords_in, counts_in};
 ghost use Rattle.book_layout.specs.Faults.{fault_at, ◌passes, coords_check, least_check, book_check};
 ghost use Rattle.book_layout.specs.Reader.{read_refusal};
-ghost use Rattle.book_reader.specs.Parts.{field_ok, tail_check, list_check};
+ghost use Rattle.book_reader.specs.Parts.{tail_check, list_check};
 
 use crate::load::load;
 use crate::tail::{entry_offset, ring_count};
@@ -16,38 +17,27 @@ use number_bytes::{number4, number8};
 use reading::{is_least, kept_bits};
 use refusals::screen::book_rooms;
 use refusals::test::is_coordinate;
-use refusals::{REFUSED_BOOK, RINGS_MOST, Refusal, VERTICES_LEAST, VERTICES_MOST};
+use refusals::{RINGS_MOST, Refusal, VERTICES_LEAST, VERTICES_MOST};
 
 // Refusal 7 with a place.
 fn fault(place: usize) -> Refusal
-    ensures { result ≡ fault_at place }
+    ensures { tells result ≡ fault_at place }
 {
-    Refusal::new(REFUSED_BOOK, place as u64)
+    Refusal::Book(place as u64)
 }
 
-// Whether the field with a code is right: 0 a ring's offset, which is told; 1 its vertices; 2 the ring count; 3 the end of the entries,
-// which is told.
-fn is_right(code: u32, value: usize, told: usize) -> bool
-    ensures { result ≡ field_ok code value told }
+// Whether a ring may have so many vertices.
+fn is_number_of_vertices(n: usize) -> bool
+    ensures { result ≡ within vertices_least vertices_most n }
 {
-    match code {
-        0 | 3 => value == told,
-        1 => {
-            if value < VERTICES_LEAST {
-                false
-            } else {
-                value <= VERTICES_MOST
-            }
-        }
-        2 => {
-            if value < 1 {
-                false
-            } else {
-                value <= RINGS_MOST
-            }
-        }
-        _ => false,
-    }
+    (VERTICES_LEAST..=VERTICES_MOST).contains(&n)
+}
+
+// Whether a book may have so many rings.
+fn is_number_of_rings(k: usize) -> bool
+    ensures { result ≡ within 1 rings_most k }
+{
+    (1..=RINGS_MOST).contains(&k)
 }
 
 // Whether a bit pattern is one that a book stores: a coordinate's, and as it is kept.
@@ -65,45 +55,41 @@ fn are_coordinate_bits(b: u64) -> bool
 }
 
 // The k entries from f[from] on, and that the rings end where they begin.
-fn check_entries(f: &[u8], from: usize, k: usize) -> Refusal
+fn check_entries(f: &[u8], from: usize, k: usize) -> Result<(), Refusal>
     requires { (from + entry_bytes * k + tail_bytes ≡ length f.now) × (k ≤ rings_most) × (length f.now ≤ book_most) }
-    ensures { result ≡ list_check f.now from k }
+    ensures { tested result ≡ list_check f.now from k }
 {
     let mut before: usize = 0;
-    let mut i = 0;
-    while i < k {
+    for i in 0..k {
         let at = from + ENTRY_BYTES * i;
         let offset = number4(f, at) as usize;
-        if !is_right(0, offset, before) {
-            return fault(at);
+        if offset != before {
+            return Err(fault(at));
         }
         let n = number4(f, at + FIELD_BYTES) as usize;
-        if !is_right(1, n, 0) {
-            return fault(at + FIELD_BYTES);
+        if !is_number_of_vertices(n) {
+            return Err(fault(at + FIELD_BYTES));
         }
         before += VERTEX_BYTES * n;
-        i += 1;
     }
     if before != from {
-        return fault(f.len() - FIELD_BYTES);
+        return Err(fault(f.len() - FIELD_BYTES));
     }
-    Refusal::none()
+    Ok(())
 }
 
 // The m coordinates from the file's front on.
-fn check_coords(f: &[u8], m: usize) -> Refusal
+fn check_coords(f: &[u8], m: usize) -> Result<(), Refusal>
     requires { (coordinate_bytes * m ≤ length f.now) × (length f.now ≤ book_most) }
-    ensures { result ≡ coords_check m 0 f.now }
+    ensures { tested result ≡ coords_check m 0 f.now }
 {
-    let mut j = 0;
-    while j < m {
+    for j in 0..m {
         let at = COORDINATE_BYTES * j;
         if !are_coordinate_bits(number8(f, at)) {
-            return fault(at);
+            return Err(fault(at));
         }
-        j += 1;
     }
-    Refusal::none()
+    Ok(())
 }
 
 // Whether the ring of n vertices from f[at] on is its own least reading.
@@ -119,75 +105,62 @@ fn is_least_at(f: &[u8], at: usize, n: usize) -> bool
 }
 
 // The rings of the k entries from f[from] on.
-fn check_rings(f: &[u8], from: usize, k: usize) -> Refusal
+fn check_rings(f: &[u8], from: usize, k: usize) -> Result<(), Refusal>
     requires tail_bytes_value { (from + entry_bytes * k + tail_bytes ≡ length f.now) × (k ≤ rings_most) × (length f.now ≤ book_most) }
     requires list_check { (list_check f.now from k passes) × (coords_check (from / coordinate_bytes) 0 f.now passes) }
-    ensures { result ≡ least_check (counts_in k (drop from f.now)) 0 f.now }
+    ensures { tested result ≡ least_check (counts_in k (drop from f.now)) 0 f.now }
 {
     let mut at: usize = 0;
-    let mut i = 0;
-    while i < k {
+    for i in 0..k {
         let n = number4(f, from + ENTRY_BYTES * i + FIELD_BYTES) as usize;
         if !is_least_at(f, at, n) {
-            return fault(at);
+            return Err(fault(at));
         }
         at += VERTEX_BYTES * n;
-        i += 1;
     }
-    Refusal::none()
+    Ok(())
 }
 
 // The length of a file, its ring count, and the offset of its first entry.
-fn check_tail(f: &[u8]) -> Refusal
-    ensures { result ≡ tail_check f.now }
+#[tactic(auto, using(refusals::proofs::Tests::refused), unfolding(crate::specs::Parts::tail_check))]
+fn check_tail(f: &[u8]) -> Result<(), Refusal>
+    ensures { tested result ≡ tail_check f.now }
 {
     let len = f.len();
     if len < BOOK_LEAST {
-        return fault(0);
+        return Err(fault(0));
     }
     if BOOK_MOST < len {
-        return fault(0);
+        return Err(fault(0));
     }
     let k = ring_count(f);
-    if !is_right(2, k, 0) {
-        return fault(len - TAIL_BYTES);
+    if !is_number_of_rings(k) {
+        return Err(fault(len - TAIL_BYTES));
     }
     let end = entry_offset(f) + ENTRY_BYTES * k + TAIL_BYTES;
-    if !is_right(3, end, len) {
-        return fault(len - FIELD_BYTES);
+    if end != len {
+        return Err(fault(len - FIELD_BYTES));
     }
-    Refusal::none()
+    Ok(())
 }
 
 // The first fault of a file.
-fn check_book(f: &[u8]) -> Refusal
-    ensures { result ≡ book_check f.now }
+fn check_book(f: &[u8]) -> Result<(), Refusal>
+    ensures { tested result ≡ book_check f.now }
 {
-    let tail = check_tail(f);
-    if !tail.passed() {
-        return tail;
-    }
+    check_tail(f)?;
     let from = entry_offset(f);
     let k = ring_count(f);
-    let list = check_entries(f, from, k);
-    if !list.passed() {
-        return list;
-    }
-    let coords = check_coords(f, from / COORDINATE_BYTES);
-    if !coords.passed() {
-        return coords;
-    }
+    check_entries(f, from, k)?;
+    check_coords(f, from / COORDINATE_BYTES)?;
     check_rings(f, from, k)
 }
 
-// The refusal of the reader, for rooms of so many numbers, so many counts and so many parts.
-pub fn refusal(f: &[u8], room: usize, counts: usize, parts: usize) -> Refusal
-    ensures { result ≡ read_refusal f.now room counts parts }
+// What refuses the reader, for rooms of so many numbers, so many counts and so many parts.
+pub fn refusal(f: &[u8], room: usize, counts: usize, parts: usize) -> Result<(), Refusal>
+    ensures { tested result ≡ read_refusal f.now room counts parts }
 {
-    let no = check_book(f);
-    if !no.passed() {
-        return no;
-    }
+    check_book(f)?;
     let numbers = entry_offset(f) / COORDINATE_BYTES;
     book_rooms(numbers, room, ring_count(f), counts, parts)
 }

@@ -19,11 +19,9 @@ pub fn load(f: &[u8], at: usize, m: usize, room: &mut [f64])
     requires coords_check { coords_check m at (drop at f.now) passes }
     ensures { room.new ≡ sets room.old 0 (map (of_bits binary64) (coords_in m (drop at f.now))) }
 {
-    let mut j = 0;
-    while j < m {
+    for j in 0..m {
         let b = number8(f, at + COORDINATE_BYTES * j);
         room[j] = f64::from_bits(b);
-        j += 1;
     }
 }
 
@@ -33,10 +31,8 @@ fn load_fields(f: &[u8], from: usize, k: usize, p: usize, room: &mut [u32])
     requires field_bytes_bound { p + field_bytes ≤ entry_bytes }
     ensures { room.new ≡ sets room.old 0 (fields_in p k (drop from f.now)) }
 {
-    let mut i = 0;
-    while i < k {
+    for i in 0..k {
         room[i] = number4(f, from + ENTRY_BYTES * i + p) as u32;
-        i += 1;
     }
 }
 

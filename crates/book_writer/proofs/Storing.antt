@@ -4,8 +4,8 @@ use Prim.Native.Nat.{ℕ, suc, ◌+◌, ◌*◌, ◌≤◌, ◌<◌}
 use native.Mathlib.Omega.{arith}
 use native.Mathlib.Numerals.{add-one}
 use mathlib.Core.Path.{◌≡◌, sym, ap, ap₂, ◌∙◌}
-use mathlib.Core.List.{List, [], ◌∷◌, ◌++◌, map}
-use lib.ListN.{length, get_or, take, drop, set, length-drop, drop_of_length-le}
+use mathlib.Core.List.{List, ◌++◌, map}
+use lib.ListN.{length, get_or, take, drop, length-drop, drop_of_length-le}
 use lib.Seq.{sets, drop-cons, drop-drop}
 use lib.Ieee.{Float}
 use Rattle.reading.specs.Reading.{flat, least_reading}

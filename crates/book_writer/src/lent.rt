@@ -1,6 +1,7 @@
 // The refusal of what the writer is lent, and how many bytes a book has.
 ghost use Rattle.std.specs.Prelude.{◌≡◌, true, ◌≤◌, length};
 ghost use Rattle.refusals.specs.Rings.{rings_most, sized_all};
+ghost use Rattle.refusals.specs.Answers.{tested};
 ghost use Rattle.book_layout.specs.Writer.{book_size, write_refusal};
 
 use book_layout::{ENTRY_BYTES, TAIL_BYTES, VERTEX_BYTES};
@@ -15,13 +16,11 @@ pub fn size_of(counts: &[u32]) -> usize
     VERTEX_BYTES * sum_of(counts) + ENTRY_BYTES * counts.len() + TAIL_BYTES
 }
 
-// The refusal of the writer, for a room of so many bytes.
-pub fn refusal(xs: &[f64], counts: &[u32], parts: &[u32], size: usize) -> Refusal
-    ensures { result ≡ write_refusal xs.now counts.now parts.now size }
+// What refuses the writer, for a room of so many bytes.
+#[tactic(auto, using(refusals::proofs::Tests::refused), unfolding(book_layout::specs::Writer::write_refusal))]
+pub fn refusal(xs: &[f64], counts: &[u32], parts: &[u32], size: usize) -> Result<(), Refusal>
+    ensures { tested result ≡ write_refusal xs.now counts.now parts.now size }
 {
-    let no = rings::lent(xs, counts, parts);
-    if !no.passed() {
-        return no;
-    }
+    rings::lent(xs, counts, parts)?;
     screen::short(size_of(counts), size)
 }

@@ -20,11 +20,9 @@ fn put_ring(ring: &[f64], c: usize, room: &mut [u8], at: usize)
     requires c_in_bounds { (c < length ring.now) × (at + coordinate_bytes * length ring.now ≤ length room.old) }
     ensures { room.new ≡ sets room.old at (coord_bytes (flat (choice (ring_of ring.now) c))) }
 {
-    let mut j = 0;
-    while j < ring.len() {
+    for j in 0..ring.len() {
         let b = coordinate(ring, c, j);
         put(room, at + COORDINATE_BYTES * j, COORDINATE_BYTES, b);
-        j += 1;
     }
 }
 
@@ -45,13 +43,10 @@ fn put_rings(xs: &[f64], counts: &[u32], room: &mut [u8])
     ensures { room.new ≡ sets room.old 0 (body (map least_reading (rings_from counts.now xs.now))) }
 {
     let mut at = 0;
-    let mut i = 0;
-    while i < counts.len() {
-        let n = counts[i] as usize;
-        let end = at + 2 * n;
+    for &n in counts {
+        let end = at + 2 * n as usize;
         put_least(&xs[at..end], room, COORDINATE_BYTES * at);
         at = end;
-        i += 1;
     }
 }
 
@@ -62,15 +57,13 @@ fn put_entries(counts: &[u32], parts: &[u32], room: &mut [u8], from: usize)
     ensures { room.new ≡ sets room.old from (entries 0 counts.now parts.now) }
 {
     let mut before: usize = 0;
-    let mut i = 0;
-    while i < counts.len() {
-        let n = counts[i] as usize;
+    for (i, &n) in counts.iter().enumerate() {
+        let n = n as usize;
         let at = from + ENTRY_BYTES * i;
         put(room, at, FIELD_BYTES, before as u64);
         put(room, at + FIELD_BYTES, FIELD_BYTES, n as u64);
         put(room, at + 2 * FIELD_BYTES, FIELD_BYTES, parts[i] as u64);
         before += VERTEX_BYTES * n;
-        i += 1;
     }
 }
 

@@ -24,11 +24,13 @@ pub extern "C" fn byr_write_book(
         (write_call coordinates.now counts.now parts.now (length room.old)) place.old }
     ensures room_after { room.new ≡ write_room coordinates.now counts.now parts.now room.old }
 {
-    let no = hand_count(
-        book_writer::calls::write_book(coordinates, counts, parts, room),
-        bytes,
-    );
-    hand_refusal(no, place)
+    hand_refusal(
+        hand_count(
+            book_writer::calls::write_book(coordinates, counts, parts, room),
+            bytes,
+        ),
+        place,
+    )
 }
 
 // The rings of a book as stored, in the room for coordinates, their vertex counts in the room for counts and their parts in the room for
@@ -55,9 +57,11 @@ pub extern "C" fn byr_read_book(
     ensures parts_after { parts.new
         ≡ read_parts book.now (length coordinates.old) (length counts.old) parts.old }
 {
-    let no = hand_count(
-        book_reader::calls::read_book(book, coordinates, counts, parts),
-        rings,
-    );
-    hand_refusal(no, place)
+    hand_refusal(
+        hand_count(
+            book_reader::calls::read_book(book, coordinates, counts, parts),
+            rings,
+        ),
+        place,
+    )
 }

@@ -33,12 +33,14 @@ pub extern "C" fn byr_whole_clear_move(
         place.old }
     ensures reason_after { reason.new ≡ clear_move_room stationary.now orbiting.now dx dy reason.old }
 {
-    let no = hand_judged(
-        clear_calls::calls::clear_move(stationary, orbiting, dx, dy, reason),
-        ground,
-        edge,
-    );
-    hand_refusal(no, place)
+    hand_refusal(
+        hand_judged(
+            clear_calls::calls::clear_move(stationary, orbiting, dx, dy, reason),
+            ground,
+            edge,
+        ),
+        place,
+    )
 }
 
 // Whether a reason that is lent holds. Else the first edge whose line does not part it, or that they are not balanced.
@@ -64,12 +66,14 @@ pub extern "C" fn byr_whole_check_reason(
         (check_reason_call stationary.now orbiting.now dx dy reason.now)
         place.old }
 {
-    let no = hand_judged(
-        clear_calls::calls::check_reason(stationary, orbiting, dx, dy, reason),
-        ground,
-        edge,
-    );
-    hand_refusal(no, place)
+    hand_refusal(
+        hand_judged(
+            clear_calls::calls::check_reason(stationary, orbiting, dx, dy, reason),
+            ground,
+            edge,
+        ),
+        place,
+    )
 }
 
 // Whether every leg of a path is clear, that from the last point to the first included. Else the first that is not, with its ground and the edge.
@@ -93,11 +97,13 @@ pub extern "C" fn byr_whole_clear_path(
     ensures place_after { place.new ≡ told_place
         (clear_path_call stationary.now orbiting.now path.now) place.old }
 {
-    let no = hand_path_judged(
-        clear_path::calls::clear_path(stationary, orbiting, path),
-        ground,
-        leg,
-        edge,
-    );
-    hand_refusal(no, place)
+    hand_refusal(
+        hand_path_judged(
+            clear_path::calls::clear_path(stationary, orbiting, path),
+            ground,
+            leg,
+            edge,
+        ),
+        place,
+    )
 }

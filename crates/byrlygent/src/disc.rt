@@ -4,6 +4,7 @@ ghost use Rattle.plane.specs.Vector.{point};
 ghost use Rattle.handed.specs.Handed.{returned, told, itself};
 ghost use Rattle.discs.specs.Calls.{disc_call, disc_room};
 
+use handed::refusal::refusal_number;
 use handed::value::hand_count;
 use plane::Point;
 
@@ -22,9 +23,8 @@ pub extern "C" fn byr_make_disc(
     ensures room_after { room.new ≡ disc_room (point cx cy) radius m room.old }
 {
     let centre = Point { x: cx, y: cy };
-    let no = hand_count(
+    refusal_number(hand_count(
         discs::calls::make_disc(centre, radius, m as usize, room),
         vertices,
-    );
-    no.number
+    ))
 }

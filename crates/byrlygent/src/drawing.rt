@@ -43,14 +43,16 @@ pub extern "C" fn byr_clear_move(
 {
     let from = Point { x: fx, y: fy };
     let to = Point { x: tx, y: ty };
-    let no = hand_judged(
-        clear_drawn::calls::clear_move(stationary, orbiting, from, to, units, reason),
-        ground,
-        depth,
-        how,
-        edge,
-    );
-    hand_refusal(no, place)
+    hand_refusal(
+        hand_judged(
+            clear_drawn::calls::clear_move(stationary, orbiting, from, to, units, reason),
+            ground,
+            depth,
+            how,
+            edge,
+        ),
+        place,
+    )
 }
 
 // Whether a reason that is lent holds, for the disc put by `how`. Else the first edge whose line does not part it, or that they are
@@ -81,13 +83,15 @@ pub extern "C" fn byr_check_reason(
 {
     let from = Point { x: fx, y: fy };
     let to = Point { x: tx, y: ty };
-    let no = hand_checked(
-        clear_drawn::calls::check_reason(stationary, orbiting, from, to, units, how, reason),
-        ground,
-        depth,
-        edge,
-    );
-    hand_refusal(no, place)
+    hand_refusal(
+        hand_checked(
+            clear_drawn::calls::check_reason(stationary, orbiting, from, to, units, how, reason),
+            ground,
+            depth,
+            edge,
+        ),
+        place,
+    )
 }
 
 // Whether every leg of a path is clear but for a depth, where `closed` is not 0 that from the last point to the first too. Else
@@ -114,12 +118,14 @@ pub extern "C" fn byr_clear_path(
         × (edge.new ≡ told_found itself (part_in path_edge o) edge.old)
         × (place.new ≡ told_place o place.old) }
 {
-    let no = hand_path_judged(
-        clear_drawn_path::calls::clear_path(stationary, orbiting, path, closed != 0, units),
-        ground,
-        depth,
-        leg,
-        edge,
-    );
-    hand_refusal(no, place)
+    hand_refusal(
+        hand_path_judged(
+            clear_drawn_path::calls::clear_path(stationary, orbiting, path, closed != 0, units),
+            ground,
+            depth,
+            leg,
+            edge,
+        ),
+        place,
+    )
 }

@@ -21,6 +21,8 @@ pub extern "C" fn byr_to_grid(
         × (place.new ≡ told_place o place.old) }
     ensures room_after { room.new ≡ to_grid_room points.now units room.old }
 {
-    let no = hand_count(to_grid::calls::to_grid(points, units, room), count);
-    hand_refusal(no, place)
+    hand_refusal(
+        hand_count(to_grid::calls::to_grid(points, units, room), count),
+        place,
+    )
 }

@@ -40,10 +40,12 @@ pub extern "C" fn byr_check_path(
         min_translation: smallest,
         max_iterations: limit,
     };
-    let no = hand_verdict(
-        path_check::calls::check_path(stationary, orbiting, settings, path),
-        fault,
-        index,
-    );
-    hand_refusal(no, place)
+    hand_refusal(
+        hand_verdict(
+            path_check::calls::check_path(stationary, orbiting, settings, path),
+            fault,
+            index,
+        ),
+        place,
+    )
 }

@@ -5,6 +5,7 @@ ghost use Rattle.handed.specs.Handed.{returned, told};
 ghost use Rattle.handed.specs.Places.{places_in, following_in};
 
 use handed::places::hand_inspected;
+use handed::refusal::refusal_number;
 
 // The next k places of a path of n, or all where n is smaller, from the start on, in the room: how many they are; the start becomes the following one.
 #[unsafe(no_mangle)]
@@ -23,10 +24,9 @@ pub extern "C" fn byr_next_places(
     ensures room_after { room.new ≡ next_places_room n k start.old room.old }
 {
     let from = *start;
-    let no = hand_inspected(
+    refusal_number(hand_inspected(
         inspection::calls::next_places(n, k, from, room),
         start,
         count,
-    );
-    no.number
+    ))
 }

@@ -11,7 +11,7 @@ ghost use Rattle.ring_distance.specs.Calls.{segment_distance_call, ring_distance
 ghost use Rattle.signed_area.specs.Calls.{area2_call, robust_call};
 
 use handed::mended::hand_mended;
-use handed::refusal::hand_refusal;
+use handed::refusal::{hand_refusal, refusal_number};
 use handed::value::{hand_count, hand_number, hand_truth, hand_turn};
 use plane::Point;
 
@@ -32,8 +32,7 @@ pub extern "C" fn byr_orientation(
     let a = Point { x: ax, y: ay };
     let b = Point { x: bx, y: by };
     let c = Point { x: cx, y: cy };
-    let no = hand_turn(segments::calls::orientation(a, b, c), turn);
-    no.number
+    refusal_number(hand_turn(segments::calls::orientation(a, b, c), turn))
 }
 
 // Whether p, known to be collinear with the segment a b, lies on it.
@@ -53,8 +52,7 @@ pub extern "C" fn byr_on_segment(
     let a = Point { x: ax, y: ay };
     let b = Point { x: bx, y: by };
     let p = Point { x: px, y: py };
-    let no = hand_truth(segments::calls::on_segment(a, b, p), on);
-    no.number
+    refusal_number(hand_truth(segments::calls::on_segment(a, b, p), on))
 }
 
 // Whether the closed segments 1 2 and 3 4 meet.
@@ -77,8 +75,7 @@ pub extern "C" fn byr_segments_intersect(
     let p2 = Point { x: x2, y: y2 };
     let p3 = Point { x: x3, y: y3 };
     let p4 = Point { x: x4, y: y4 };
-    let no = hand_truth(segments::calls::segments_intersect(p1, p2, p3, p4), meet);
-    no.number
+    refusal_number(hand_truth(segments::calls::segments_intersect(p1, p2, p3, p4), meet))
 }
 
 // The distance of p from the segment a b.
@@ -98,11 +95,10 @@ pub extern "C" fn byr_point_segment_distance(
     let p = Point { x: px, y: py };
     let a = Point { x: ax, y: ay };
     let b = Point { x: bx, y: by };
-    let no = hand_number(
+    refusal_number(hand_number(
         ring_distance::calls::point_segment_distance(p, a, b),
         distance,
-    );
-    no.number
+    ))
 }
 
 // The ring mirrored in the y axis, its order reversed, in the room: how many vertices it has.
@@ -119,8 +115,10 @@ pub extern "C" fn byr_mirror_polygon(
         place.old }
     ensures room_after { room.new ≡ mirror_room ring.now room.old }
 {
-    let no = hand_count(ring_copies::calls::mirror_polygon(ring, room), vertices);
-    hand_refusal(no, place)
+    hand_refusal(
+        hand_count(ring_copies::calls::mirror_polygon(ring, room), vertices),
+        place,
+    )
 }
 
 // The ring without its closing repeat, in the room: how many vertices it has.
@@ -137,8 +135,10 @@ pub extern "C" fn byr_open_ring(
         place.old }
     ensures room_after { room.new ≡ open_room ring.now room.old }
 {
-    let no = hand_count(ring_copies::calls::open_ring(ring, room), vertices);
-    hand_refusal(no, place)
+    hand_refusal(
+        hand_count(ring_copies::calls::open_ring(ring, room), vertices),
+        place,
+    )
 }
 
 // The ring mended in the room, and how many vertices remain; per dropped vertex its old index and why, 0 for one of a run and 1 for a trailing one,
@@ -168,12 +168,14 @@ pub extern "C" fn byr_mend_ring(
     ensures dropped_after { dropped.new ≡ mend_dropped ring.now room.old dropped.old points.old }
     ensures points_after { points.new ≡ mend_points ring.now room.old dropped.old points.old }
 {
-    let no = hand_mended(
-        mending::calls::mend_ring(ring, room, dropped, points),
-        vertices,
-        count,
-    );
-    hand_refusal(no, place)
+    hand_refusal(
+        hand_mended(
+            mending::calls::mend_ring(ring, room, dropped, points),
+            vertices,
+            count,
+        ),
+        place,
+    )
 }
 
 // Whether a ring is simple. Fewer than three vertices are not.
@@ -183,8 +185,10 @@ pub extern "C" fn byr_is_simple_polygon(ring: &[f64], simple: &mut u32, place: &
     ensures simple_after { simple.new ≡ told flag (is_simple_call ring.now) simple.old }
     ensures place_after { place.new ≡ told_place (is_simple_call ring.now) place.old }
 {
-    let no = hand_truth(simple_polygon::calls::is_simple_polygon(ring), simple);
-    hand_refusal(no, place)
+    hand_refusal(
+        hand_truth(simple_polygon::calls::is_simple_polygon(ring), simple),
+        place,
+    )
 }
 
 // The shortest distance between the edges of two rings, +infinity where one has no vertex.
@@ -199,8 +203,10 @@ pub extern "C" fn byr_ring_distance(
     ensures distance_after { distance.new ≡ told itself (ring_distance_call a.now b.now) distance.old }
     ensures place_after { place.new ≡ told_place (ring_distance_call a.now b.now) place.old }
 {
-    let no = hand_number(ring_distance::calls::ring_distance(a, b), distance);
-    hand_refusal(no, place)
+    hand_refusal(
+        hand_number(ring_distance::calls::ring_distance(a, b), distance),
+        place,
+    )
 }
 
 // Twice the signed area of a ring: above 0 where its order is counter-clockwise.
@@ -210,8 +216,10 @@ pub extern "C" fn byr_signed_area2(ring: &[f64], area2: &mut f64, place: &mut u6
     ensures area2_after { area2.new ≡ told itself (area2_call ring.now) area2.old }
     ensures place_after { place.new ≡ told_place (area2_call ring.now) place.old }
 {
-    let no = hand_number(signed_area::calls::signed_area2(ring), area2);
-    hand_refusal(no, place)
+    hand_refusal(
+        hand_number(signed_area::calls::signed_area2(ring), area2),
+        place,
+    )
 }
 
 // The signed area of a ring by a compensated sum, 0.0 below three vertices.
@@ -221,6 +229,8 @@ pub extern "C" fn byr_signed_area_robust(ring: &[f64], area: &mut f64, place: &m
     ensures area_after { area.new ≡ told itself (robust_call ring.now) area.old }
     ensures place_after { place.new ≡ told_place (robust_call ring.now) place.old }
 {
-    let no = hand_number(signed_area::calls::signed_area_robust(ring), area);
-    hand_refusal(no, place)
+    hand_refusal(
+        hand_number(signed_area::calls::signed_area_robust(ring), area),
+        place,
+    )
 }

@@ -20,12 +20,11 @@ ghost use Rattle.byrlygent.specs.Lent.{previous_of, settings_of};
 
 use handed::explained::hand_explained;
 use handed::found::{hand_checked, hand_position, hand_selected};
-use handed::refusal::hand_refusal;
+use handed::refusal::{hand_refusal, refusal_number};
 use handed::trace::hand_traced;
 use handed::value::{hand_count, hand_number, hand_projected, hand_start, hand_truth};
 use plane::Point;
 use refusals::Settings;
-use selection::Previous;
 
 // The parameter of the foot of p on the segment a b, 0 at a and 1 at b, and where the foot sits.
 #[unsafe(no_mangle)]
@@ -46,12 +45,11 @@ pub extern "C" fn byr_project_point_to_segment(
     let p = Point { x: px, y: py };
     let a = Point { x: ax, y: ay };
     let b = Point { x: bx, y: by };
-    let no = hand_projected(
+    refusal_number(hand_projected(
         projection::calls::project_point_to_segment(p, a, b),
         parameter,
         foot,
-    );
-    no.number
+    ))
 }
 
 // The distance of p from the segment a b.
@@ -71,11 +69,10 @@ pub extern "C" fn byr_point_to_segment_distance(
     let p = Point { x: px, y: py };
     let a = Point { x: ax, y: ay };
     let b = Point { x: bx, y: by };
-    let no = hand_number(
+    refusal_number(hand_number(
         projection::calls::point_to_segment_distance(p, a, b),
         distance,
-    );
-    no.number
+    ))
 }
 
 // Whether p is nearer to the segment a b than the tolerance.
@@ -96,8 +93,7 @@ pub extern "C" fn byr_point_on_segment(
     let p = Point { x: px, y: py };
     let a = Point { x: ax, y: ay };
     let b = Point { x: bx, y: by };
-    let no = hand_truth(projection::calls::point_on_segment(p, a, b, tolerance), on);
-    no.number
+    refusal_number(hand_truth(projection::calls::point_on_segment(p, a, b, tolerance), on))
 }
 
 // The contacts of two polygons, and how many there are: per contact kind, stationary index, orbiting index and foot in `which`, x and y in
@@ -126,11 +122,13 @@ pub extern "C" fn byr_find_contacts(
     ensures points_after { points.new ≡ find_points stationary.now orbiting.now tolerance which.old
         points.old }
 {
-    let no = hand_count(
-        contacts_call::calls::find_contacts(stationary, orbiting, tolerance, which, points),
-        count,
-    );
-    hand_refusal(no, place)
+    hand_refusal(
+        hand_count(
+            contacts_call::calls::find_contacts(stationary, orbiting, tolerance, which, points),
+            count,
+        ),
+        place,
+    )
 }
 
 // The vectors of those contacts, and how many there are: per vector its direction and its distance in `vectors`, its contact's index in `sources`.
@@ -158,13 +156,15 @@ pub extern "C" fn byr_compute_translation_vectors(
     ensures sources_after { sources.new ≡ sources_room stationary.now orbiting.now tolerance vectors.old
         sources.old }
 {
-    let no = hand_count(
-        vectors_call::calls::compute_translation_vectors(
-            stationary, orbiting, tolerance, vectors, sources,
+    hand_refusal(
+        hand_count(
+            vectors_call::calls::compute_translation_vectors(
+                stationary, orbiting, tolerance, vectors, sources,
+            ),
+            count,
         ),
-        count,
-    );
-    hand_refusal(no, place)
+        place,
+    )
 }
 
 // Those of them that lead from the reference (rx, ry) to no visited position.
@@ -196,24 +196,22 @@ pub extern "C" fn byr_handle_perfect_fit(
         tolerance vectors.old sources.old }
 {
     let reference = Point { x: rx, y: ry };
-    let no = hand_count(
-        vectors_call::calls::handle_perfect_fit(
-            stationary, orbiting, reference, visited, tolerance, vectors, sources,
+    hand_refusal(
+        hand_count(
+            vectors_call::calls::handle_perfect_fit(
+                stationary, orbiting, reference, visited, tolerance, vectors, sources,
+            ),
+            count,
         ),
-        count,
-    );
-    hand_refusal(no, place)
+        place,
+    )
 }
 
 // A previous direction: none where `has` is 0.
-fn previous(has: u32, x: f64, y: f64) -> Previous
+fn previous(has: u32, x: f64, y: f64) -> Option<Point>
     ensures { result ≡ previous_of has x y }
 {
-    if has == 0 {
-        Previous::None
-    } else {
-        Previous::Direction(Point { x, y })
-    }
+    if has == 0 { None } else { Some(Point { x, y }) }
 }
 
 // The index of the vector to slide along, or nothing for an empty list, by the previous direction (px, py) where `has` is not 0, the centroid (cx, cy) and the
@@ -243,12 +241,14 @@ pub extern "C" fn byr_select_translation_vector(
     let before = previous(has, px, py);
     let centroid = Point { x: cx, y: cy };
     let position = Point { x, y };
-    let no = hand_selected(
-        selection::calls::select_translation_vector(vectors, before, centroid, position),
-        found,
-        index,
-    );
-    hand_refusal(no, place)
+    hand_refusal(
+        hand_selected(
+            selection::calls::select_translation_vector(vectors, before, centroid, position),
+            found,
+            index,
+        ),
+        place,
+    )
 }
 
 // What orbiting, moved by (dx, dy), runs into first: nothing, or the hit's distance, its kind and both indices.
@@ -287,8 +287,7 @@ pub extern "C" fn byr_check_translation_collision(
         translation,
         tolerance,
     );
-    let no = hand_checked(answer, found, distance, kind, si, oi);
-    hand_refusal(no, place)
+    hand_refusal(hand_checked(answer, found, distance, kind, si, oi), place)
 }
 
 // What orbiting, moved by (dx, dy), runs into first, or why into nothing: ground 0 and the hit with the other pairs at its distance, or ground
@@ -335,10 +334,12 @@ pub extern "C" fn byr_explain_collision(
 {
     let translation = Point { x: dx, y: dy };
     let answer = grounds::calls::explain_collision(stationary, orbiting, translation, tolerance);
-    let no = hand_explained(
-        answer, ground, distance, kind, si, oi, others, near, between, far,
-    );
-    hand_refusal(no, place)
+    hand_refusal(
+        hand_explained(
+            answer, ground, distance, kind, si, oi, others, near, between, far,
+        ),
+        place,
+    )
 }
 
 // The first position toward a concave vertex at which the orbiting polygon, lent as drawn, does not overlap, or nothing; (x, y) is where it is now.
@@ -368,8 +369,7 @@ pub extern "C" fn byr_detect_interlocking_opportunity(
     let answer = interlocking::calls::detect_interlocking_opportunity(
         stationary, orbiting, current, tolerance,
     );
-    let no = hand_position(answer, found, tox, toy);
-    hand_refusal(no, place)
+    hand_refusal(hand_position(answer, found, tox, toy), place)
 }
 
 // Where the orbiting polygon, lent where it is, is moved to from its position (x, y) to touch the stationary one again, or nothing.
@@ -397,8 +397,7 @@ pub extern "C" fn byr_recover_contact(
 {
     let current = Point { x, y };
     let recovered = recovery::calls::recover_contact(stationary, orbiting, current, tolerance);
-    let no = hand_position(recovered, found, tox, toy);
-    hand_refusal(no, place)
+    hand_refusal(hand_position(recovered, found, tox, toy), place)
 }
 
 // Whether two polygons overlap, or lie no more than 1e-6 apart.
@@ -413,8 +412,10 @@ pub extern "C" fn byr_polygons_overlap(
     ensures overlap_after { overlap.new ≡ told flag (overlap_call a.now b.now) overlap.old }
     ensures place_after { place.new ≡ told_place (overlap_call a.now b.now) place.old }
 {
-    let no = hand_truth(overlap::calls::polygons_overlap(a, b), overlap);
-    hand_refusal(no, place)
+    hand_refusal(
+        hand_truth(overlap::calls::polygons_overlap(a, b), overlap),
+        place,
+    )
 }
 
 // The same with a lent tolerance.
@@ -431,11 +432,13 @@ pub extern "C" fn byr_polygons_overlap_with_tolerance(
     ensures place_after { place.new ≡ told_place (overlap_with_call a.now b.now tolerance)
         place.old }
 {
-    let no = hand_truth(
-        overlap::calls::polygons_overlap_with_tolerance(a, b, tolerance),
-        overlap,
-    );
-    hand_refusal(no, place)
+    hand_refusal(
+        hand_truth(
+            overlap::calls::polygons_overlap_with_tolerance(a, b, tolerance),
+            overlap,
+        ),
+        place,
+    )
 }
 
 // The position of orbiting, as drawn, at which its highest vertex is stationary's lowest.
@@ -453,12 +456,14 @@ pub extern "C" fn byr_find_start_position(
     ensures place_after { place.new ≡ told_place (start_call stationary.now orbiting.now)
         place.old }
 {
-    let no = hand_start(
-        start_position::calls::find_start_position(stationary, orbiting),
-        x,
-        y,
-    );
-    hand_refusal(no, place)
+    hand_refusal(
+        hand_start(
+            start_position::calls::find_start_position(stationary, orbiting),
+            x,
+            y,
+        ),
+        place,
+    )
 }
 
 // The list without its collinear points, in the room: how many points it has.
@@ -477,11 +482,13 @@ pub extern "C" fn byr_simplify_polygon(
         place.old }
     ensures room_after { room.new ≡ simplify_room list.now tolerance room.old }
 {
-    let no = hand_count(
-        simplify::calls::simplify_polygon(list, tolerance, room),
-        points,
-    );
-    hand_refusal(no, place)
+    hand_refusal(
+        hand_count(
+            simplify::calls::simplify_polygon(list, tolerance, room),
+            points,
+        ),
+        place,
+    )
 }
 
 // The path of the orbiting polygon around the stationary one: traced in the work room, simplified in the result room; how many points both have, the passes
@@ -531,6 +538,5 @@ pub extern "C" fn byr_compute_nfp_sliding(
         max_iterations: limit,
     };
     let traced = nfp_sliding::calls::compute_nfp_sliding(stationary, orbiting, settings, work, res);
-    let no = hand_traced(traced, points, stored, passes, stop);
-    hand_refusal(no, place)
+    hand_refusal(hand_traced(traced, points, stored, passes, stop), place)
 }

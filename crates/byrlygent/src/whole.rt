@@ -4,7 +4,7 @@ ghost use Rattle.handed.specs.Handed.{returned, told, told_place, itself, flag};
 ghost use Rattle.whole_engine.specs.Calls.{whole_turn_call, whole_orientation_call, whole_on_segment_call, whole_intersect_call};
 ghost use Rattle.whole_engine.specs.Calls.{whole_simple_call, whole_area2_call};
 
-use handed::refusal::hand_refusal;
+use handed::refusal::{hand_refusal, refusal_number};
 use handed::value::{hand_truth, hand_turn};
 use handed::whole::hand_integer;
 
@@ -22,8 +22,7 @@ pub extern "C" fn byr_whole_turn(
     ensures value { result ≡ returned (whole_turn_call ax ay bx by cx cy) }
     ensures turn_after { turn.new ≡ told itself (whole_turn_call ax ay bx by cx cy) turn.old }
 {
-    let no = hand_turn(whole_engine::calls::turn(ax, ay, bx, by, cx, cy), turn);
-    no.number
+    refusal_number(hand_turn(whole_engine::calls::turn(ax, ay, bx, by, cx, cy), turn))
 }
 
 // The orientation of a, b, c, which is their turn.
@@ -40,11 +39,10 @@ pub extern "C" fn byr_whole_orientation(
     ensures value { result ≡ returned (whole_orientation_call ax ay bx by cx cy) }
     ensures turn_after { turn.new ≡ told itself (whole_orientation_call ax ay bx by cx cy) turn.old }
 {
-    let no = hand_turn(
+    refusal_number(hand_turn(
         whole_engine::calls::orientation(ax, ay, bx, by, cx, cy),
         turn,
-    );
-    no.number
+    ))
 }
 
 // Whether p, known to be collinear with the segment a b, lies on it.
@@ -61,8 +59,7 @@ pub extern "C" fn byr_whole_on_segment(
     ensures value { result ≡ returned (whole_on_segment_call ax ay bx by px py) }
     ensures on_after { on.new ≡ told flag (whole_on_segment_call ax ay bx by px py) on.old }
 {
-    let no = hand_truth(whole_engine::calls::on_segment(ax, ay, bx, by, px, py), on);
-    no.number
+    refusal_number(hand_truth(whole_engine::calls::on_segment(ax, ay, bx, by, px, py), on))
 }
 
 // Whether the closed segments 1 2 and 3 4 meet.
@@ -81,11 +78,10 @@ pub extern "C" fn byr_whole_segments_intersect(
     ensures value { result ≡ returned (whole_intersect_call x1 y1 x2 y2 x3 y3 x4 y4) }
     ensures meet_after { meet.new ≡ told flag (whole_intersect_call x1 y1 x2 y2 x3 y3 x4 y4) meet.old }
 {
-    let no = hand_truth(
+    refusal_number(hand_truth(
         whole_engine::calls::segments_intersect(x1, y1, x2, y2, x3, y3, x4, y4),
         meet,
-    );
-    no.number
+    ))
 }
 
 // Whether a ring is simple. Fewer than three vertices are not.
@@ -99,8 +95,10 @@ pub extern "C" fn byr_whole_is_simple_polygon(
     ensures simple_after { simple.new ≡ told flag (whole_simple_call ring.now) simple.old }
     ensures place_after { place.new ≡ told_place (whole_simple_call ring.now) place.old }
 {
-    let no = hand_truth(whole_engine::calls::is_simple_polygon(ring), simple);
-    hand_refusal(no, place)
+    hand_refusal(
+        hand_truth(whole_engine::calls::is_simple_polygon(ring), simple),
+        place,
+    )
 }
 
 // Twice the signed area of a ring: above 0 where its order is counter-clockwise.
@@ -110,6 +108,8 @@ pub extern "C" fn byr_whole_signed_area2(ring: &[i32], area2: &mut i64, place: &
     ensures area2_after { area2.new ≡ told itself (whole_area2_call ring.now) area2.old }
     ensures place_after { place.new ≡ told_place (whole_area2_call ring.now) place.old }
 {
-    let no = hand_integer(whole_engine::calls::signed_area2(ring), area2);
-    hand_refusal(no, place)
+    hand_refusal(
+        hand_integer(whole_engine::calls::signed_area2(ring), area2),
+        place,
+    )
 }

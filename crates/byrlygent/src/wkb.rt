@@ -20,8 +20,10 @@ pub extern "C" fn byr_read_wkb(
     ensures place_after { place.new ≡ told_place (read_wkb_call wkb.now (length room.old)) place.old }
     ensures room_after { room.new ≡ read_wkb_room wkb.now room.old }
 {
-    let no = hand_count(wkb_reader::calls::read_wkb(wkb, room), vertices);
-    hand_refusal(no, place)
+    hand_refusal(
+        hand_count(wkb_reader::calls::read_wkb(wkb, room), vertices),
+        place,
+    )
 }
 
 // The drawing of a ring, little-endian and closed by its first vertex, at the front of the room: how many bytes it has.
@@ -37,6 +39,8 @@ pub extern "C" fn byr_write_wkb(
     ensures place_after { place.new ≡ told_place (write_wkb_call ring.now (length room.old)) place.old }
     ensures room_after { room.new ≡ write_wkb_room ring.now room.old }
 {
-    let no = hand_count(wkb_writer::calls::write_wkb(ring, room), bytes);
-    hand_refusal(no, place)
+    hand_refusal(
+        hand_count(wkb_writer::calls::write_wkb(ring, room), bytes),
+        place,
+    )
 }

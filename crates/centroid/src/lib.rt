@@ -40,10 +40,8 @@ fn gathered(ring: &[f64]) -> Moments
         x: 0.0,
         y: 0.0,
     };
-    let mut i = 0;
-    while i < n {
+    for i in 0..n {
         m = grown(m, point_at(ring, i), point_at(ring, next(i, n)));
-        i += 1;
     }
     m
 }
@@ -54,10 +52,8 @@ fn total(ring: &[f64]) -> Point
 {
     let n = ring.len() / 2;
     let mut sum = Point { x: 0.0, y: 0.0 };
-    let mut i = 0;
-    while i < n {
+    for i in 0..n {
         sum = plus(sum, point_at(ring, i));
-        i += 1;
     }
     sum
 }

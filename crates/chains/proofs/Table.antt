@@ -1,5 +1,5 @@
 -- A table of chains: the chain that was written is read, and the others stay. The invariant of the loop that fills it: every edge before e is bounded by its chain. Assumes nothing.
-use Prim.Native.Nat.{ℕ, ◌+◌, ◌*◌, ◌/◌, ◌%◌, ◌≤◌, ◌<◌}
+use Prim.Native.Nat.{ℕ, ◌+◌, ◌*◌, ◌/◌, ◌%◌, ◌≤◌, ◌<◌, min}
 use native.Mathlib.Omega.{arith}
 use native.Mathlib.Decide.{dec_lt}
 use mathlib.Core.Path.{◌≡◌, sym, ap, subst, ◌∙◌}
@@ -105,6 +105,14 @@ one_tabled t d r e to b {u} before whole room end bounds is =
     (λ k h. ap (λ (w : List Float). chain_at w k) is ∙ chain_there t (e / 8) k b h)
     (ap (λ (w : List Float). chain_at w (e / 8)) is ∙ chain_here t (e / 8) b room)
     bounds
+
+-- where the chain c of n edges ends
+pub chain_to : (c n to : ℕ) → to ≤ n → to ≤ 8 * (8 * c / 8) + 8 → (to < n → to ≡ 8 * (8 * c / 8) + 8) → to ≡ min (8 * (c + 1)) n
+chain_to c n to a b h = go (dec_lt to n)
+  where
+    go : Dec (to < n) → to ≡ min (8 * (c + 1)) n
+    go (yes l) = omega (arith, h l)
+    go (no l) = omega (arith, l)
 
 -- ---- the test
 

@@ -74,13 +74,11 @@ fn chain_of(edges: &[f64], dir: Point, from: usize, to: usize) -> Chain
     let mut p = point_at(edges, from);
     let mut frame = frame_at(p);
     let mut far = 0.0;
-    let mut e = from;
-    while e < to {
+    for e in from..to {
         let q = point_at(edges, next(e, n));
         frame = with_point(frame, p);
         far = higher(far, width(dir, p, q));
         p = q;
-        e += 1;
     }
     bounds(frame, dir, far)
 }
@@ -114,11 +112,9 @@ pub fn fill(edges: &[f64], dir: Point, table: &mut [f64])
     ensures { Tabled table.new dir edges.now (count edges.now) }
 {
     let n = edges.len() / 2;
-    let mut e = 0;
-    while e < n {
-        let to = chain_end(e, n);
-        put_chain(table, e / 8, chain_of(edges, dir, e, to));
-        e = to;
+    for c in 0..n.div_ceil(8) {
+        let from = 8 * c;
+        put_chain(table, c, chain_of(edges, dir, from, chain_end(from, n)));
     }
 }
 

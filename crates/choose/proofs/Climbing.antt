@@ -1,6 +1,6 @@
 -- The vector chosen on the way, and the one that selection chooses from the list. The invariant over the first k vectors: the best has the score that
 -- selection's has, and, where one is found, is the vector with its index; none is found only where k is 0. Assumes nothing.
-use Prim.Native.Nat.{ℕ, zero, suc, ◌+◌, ◌*◌, ◌-◌, ◌/◌, ◌≤◌}
+use Prim.Native.Nat.{ℕ, zero, suc, ◌+◌, ◌*◌, ◌/◌, ◌≤◌}
 use mathlib.Core.Path.{◌≡◌, refl, sym, ap, ◌∙◌}
 use mathlib.Core.Bool.{Bool, true, false, cond, true≢false}
 use mathlib.Core.List.{List, [], ◌∷◌}
@@ -20,16 +20,12 @@ use Rattle.vectors.specs.declared.TranslationVector.{TranslationVector}
 use Rattle.vectors.proofs.Numbers.{numbers_length}
 use Rattle.selection.specs.Score.{score_of}
 use Rattle.selection.specs.Select.{vector_at, score_at, scored_at, above, unscored, select_of}
-use Rattle.selection.specs.declared.Previous.{Previous}
 use Rattle.selection.specs.declared.Scored.{Scored}
 use Rattle.choose.specs.Choose.{vector_no, choice_of, Standing, stands, standing, unset, raised, weigh_of, raised_by, weighed_by, taken_by, climb_of}
 use Rattle.vectors.specs.Courses.{vector_is}
 use Rattle.choose.specs.declared.Best.{Best}
-use Rattle.choose.specs.declared.Weighed.{Weighed}
-use Rattle.choose.specs.declared.Weighed.TheVariants.{Passed, Raised}
+use Rattle.std.specs.Prelude.{Option, Some, None}
 use Rattle.vectors.specs.declared.course.Course.{Course}
-use Rattle.choose.specs.declared.Choice.{Choice}
-use Rattle.choose.specs.declared.Choice.TheVariants.{Nothing, Vector}
 
 none_at : {A : Type 0} (k : ℕ) {s : Sourced} {ss : List Sourced} → drop k [] ≡ s ∷ ss → A
 none_at zero e = absurd (let q : ◌≡◌ {A = ℕ} 0 1 = cc in omega arith)
@@ -46,7 +42,7 @@ number_at (x ∷ xs) (suc k) e =
     let d : 3 * suc k + 2 ≡ suc (suc (suc (3 * k + 2))) = omega arith in
     rw (d, b, a) (number_at xs k e)
 
-vector_at_lem : (vs : List Sourced) (k : ℕ) {s : Sourced} {ss : List Sourced} → drop k vs ≡ s ∷ ss → vector_no vs k ≡ Vector s.slide
+vector_at_lem : (vs : List Sourced) (k : ℕ) {s : Sourced} {ss : List Sourced} → drop k vs ≡ s ∷ ss → vector_no vs k ≡ Some s.slide
 unfolding vector_no
 vector_at_lem [] k e = none_at k e
 vector_at_lem (x ∷ xs) zero e = cc
@@ -58,16 +54,16 @@ rest_at (x ∷ xs) zero e = cc
 rest_at (x ∷ xs) (suc k) e = rest_at xs k e
 
 -- what is chosen where the best stands so
-abbrev pub chosen_by : Standing → Choice
-chosen_by b = cond b.found (Vector b.best) Nothing
+abbrev pub chosen_by : Standing → Option TranslationVector
+chosen_by b = cond b.found (Some b.best) None
 
-module _ (vs : List Sourced) (previous : Previous) (ccw : Point) where
+module _ (vs : List Sourced) (previous : Option Point) (ccw : Point) where
   abbrev till : ℕ → Scored
   till k = over above (scored_at (vector_numbers vs) previous ccw) unscored k
 
   record Same (k : ℕ) (b : Standing) : Type 0 where
     score_same : (till k).score ≡ b.score
-    vector_same : b.found ≡ true → vector_no vs (till k).index ≡ Vector b.best
+    vector_same : b.found ≡ true → vector_no vs (till k).index ≡ Some b.best
     none_yet : b.found ≡ false → k ≡ 0
 
   begin : Same 0 unset
@@ -84,7 +80,7 @@ module _ (vs : List Sourced) (previous : Previous) (ccw : Point) where
       by false true e h = true≢false (sym e ∙ h)
       by false false e h = true≢false h
 
-  at_zero : (k : ℕ) {s : Sourced} {ss : List Sourced} → k ≡ 0 → drop k vs ≡ s ∷ ss → vector_no vs (till k).index ≡ Vector s.slide
+  at_zero : (k : ℕ) {s : Sourced} {ss : List Sourced} → k ≡ 0 → drop k vs ≡ s ∷ ss → vector_no vs (till k).index ≡ Some s.slide
   unfolding unscored over
   at_zero zero z e = vector_at_lem vs 0 e
   at_zero (suc k) z e = absurd (omega (arith, z))
@@ -124,22 +120,22 @@ module _ (vs : List Sourced) (previous : Previous) (ccw : Point) where
   ends : (n : ℕ) {b : Standing} → n ≡ length vs → Same n b → chosen_by b ≡ vector_no vs (till n).index
   ends n {b} e i = by b.found refl
     where
-      none_in : (l : List Sourced) (j : ℕ) → length l ≡ 0 → Nothing ≡ vector_no l j
+      none_in : (l : List Sourced) (j : ℕ) → length l ≡ 0 → None ≡ vector_no l j
       none_in [] j z = unfold vector_no in refl
       none_in (s ∷ ss) j z = absurd (omega (arith, z))
 
-      by : (f : Bool) → b.found ≡ f → cond f (Vector b.best) Nothing ≡ vector_no vs (till n).index
+      by : (f : Bool) → b.found ≡ f → cond f (Some b.best) None ≡ vector_no vs (till n).index
       by true f = sym (i.vector_same f)
       by false f = none_in vs _ (omega (arith, e, i.none_yet f))
 
-pub climbed : (vs : List Sourced) (previous : Previous) (ccw : Point) → chosen_by (climb_of previous ccw unset vs) ≡ choice_of vs previous ccw
+pub climbed : (vs : List Sourced) (previous : Option Point) (ccw : Point) → chosen_by (climb_of previous ccw unset vs) ≡ choice_of vs previous ccw
 unfolding choice_of select_of
 climbed vs previous ccw =
     let z : 0 + length vs ≡ length (vector_numbers vs) / 3 = omega (arith, numbers_length vs) in
     ends vs previous ccw (length (vector_numbers vs) / 3) {b = climb_of previous ccw unset vs} (omega (arith, numbers_length vs)) (rw (← z) (climbs vs previous ccw vs 0 refl (begin vs previous ccw)))
 
 -- the vectors of one contact
-module _ (keep : TranslationVector → Bool) (previous : Previous) (ccw : Point) where
+module _ (keep : TranslationVector → Bool) (previous : Option Point) (ccw : Point) where
   weighs : (b : Standing) (s : Sourced) (rest : List Sourced)
       → climb_of previous ccw b (kept_vectors keep (s ∷ rest)) ≡ climb_of previous ccw (weigh_of keep previous ccw b s.slide) (kept_vectors keep rest)
   unfolding kept_vectors climb_of weigh_of
@@ -151,27 +147,27 @@ module _ (keep : TranslationVector → Bool) (previous : Previous) (ccw : Point)
       by false t = rw t refl
 
 -- what a vector makes of the best: nothing where its score does not raise it, visited or not
-module _ (keep : TranslationVector → Bool) (previous : Previous) (ccw : Point) (found : Bool) (top : Float) (v : TranslationVector) {s : Float} {w : Weighed}
+module _ (keep : TranslationVector → Bool) (previous : Option Point) (ccw : Point) (found : Bool) (top : Float) (v : TranslationVector) {s : Float} {w : Option Float}
     (e : s ≡ score_of v previous ccw) (h : w ≡ raised_by found top s) where
-  pub not_raised : w ≡ Passed → Passed ≡ weighed_by keep previous ccw found top v
+  pub not_raised : w ≡ None → None ≡ weighed_by keep previous ccw found top v
   unfolding weighed_by
   not_raised k = rw (← e, ← h, k) (by (keep v))
     where
-      by : (b : Bool) → Passed ≡ cond b Passed Passed
+      by : (b : Bool) → ◌≡◌ {A = Option Float} None (cond b None None)
       by true = refl
       by false = refl
 
-  pub raised_kept : {t : Float} → w ≡ Raised t → keep v ≡ true → Raised t ≡ weighed_by keep previous ccw found top v
+  pub raised_kept : {t : Float} → w ≡ Some t → keep v ≡ true → Some t ≡ weighed_by keep previous ccw found top v
   unfolding weighed_by
   raised_kept k l = rw (l, ← e, ← h, k) refl
 
-pub visited_passed : (keep : TranslationVector → Bool) (previous : Previous) (ccw : Point) (found : Bool) (top : Float) (v : TranslationVector)
-    → keep v ≡ false → Passed ≡ weighed_by keep previous ccw found top v
+pub visited_passed : (keep : TranslationVector → Bool) (previous : Option Point) (ccw : Point) (found : Bool) (top : Float) (v : TranslationVector)
+    → keep v ≡ false → None ≡ weighed_by keep previous ccw found top v
 unfolding weighed_by
 visited_passed keep previous ccw found top v l = rw l refl
 
 -- both steps of weighing
-taken_is : (keep : TranslationVector → Bool) (previous : Previous) (ccw : Point) (b : Standing) (v : TranslationVector)
+taken_is : (keep : TranslationVector → Bool) (previous : Option Point) (ccw : Point) (b : Standing) (v : TranslationVector)
     → taken_by (weighed_by keep previous ccw b.found b.score v) b v ≡ weigh_of keep previous ccw b v
 unfolding taken_by weighed_by raised_by weigh_of raised
 taken_is keep previous ccw b v = by (keep v) (lt b.score (score_of v previous ccw)) b.found
@@ -179,19 +175,19 @@ taken_is keep previous ccw b v = by (keep v) (lt b.score (score_of v previous cc
     s : Float
     s = score_of v previous ccw
 
-    by : (k t f : Bool) → taken_by (cond k (cond t (Raised s) (cond f Passed (Raised b.score))) Passed) b v ≡ cond k (cond t (stands true s v) (cond f b (stands true b.score v))) b
+    by : (k t f : Bool) → taken_by (cond k (cond t (Some s) (cond f None (Some b.score))) None) b v ≡ cond k (cond t (stands true s v) (cond f b (stands true b.score v))) b
     by false t f = refl
     by true true f = refl
     by true false true = refl
     by true false false = refl
 
-module _ (keep : TranslationVector → Bool) (previous : Previous) (ccw : Point) where
-  one_side : (b r : Best) (c : Course) {w : Weighed} {v : TranslationVector}
+module _ (keep : TranslationVector → Bool) (previous : Option Point) (ccw : Point) where
+  one_side : (b r : Best) (c : Course) {w : Option Float} {v : TranslationVector}
       → w ≡ weighed_by keep previous ccw (eqb b.found 1) b.score (vector_is c) → standing r ≡ taken_by w (standing b) (vector_is c) → vector_is c ≡ v
       → standing r ≡ weigh_of keep previous ccw (standing b) v
   one_side b r c h k e = k ∙ (rw (h, ← e) (taken_is keep previous ccw (standing b) (vector_is c)))
 
-  pub both_sides : (b f r : Best) (c d : Course) {w x : Weighed} {v u : TranslationVector}
+  pub both_sides : (b f r : Best) (c d : Course) {w x : Option Float} {v u : TranslationVector}
       → w ≡ weighed_by keep previous ccw (eqb b.found 1) b.score (vector_is c) → standing f ≡ taken_by w (standing b) (vector_is c) → vector_is c ≡ v
       → x ≡ weighed_by keep previous ccw (eqb f.found 1) f.score (vector_is d) → standing r ≡ taken_by x (standing f) (vector_is d) → vector_is d ≡ u
       → standing r ≡ weigh_of keep previous ccw (weigh_of keep previous ccw (standing b) v) u
@@ -199,7 +195,7 @@ module _ (keep : TranslationVector → Bool) (previous : Previous) (ccw : Point)
       one_side f r d h' k' e' ∙ ap (λ (z : Standing). weigh_of keep previous ccw z u) (one_side b f c h k e)
 
 -- the loop of `climb`: from where it is on, the vectors left give what all of them give from nothing
-module _ (st orb : List Float) (tol : Float) (keep : TranslationVector → Bool) (previous : Previous) (ccw : Point) where
+module _ (st orb : List Float) (tol : Float) (keep : TranslationVector → Bool) (previous : Option Point) (ccw : Point) where
   abbrev all : Standing
   all = climb_of previous ccw unset (kept_vectors keep (vectors_of st orb tol))
 
@@ -234,12 +230,12 @@ module _ (st orb : List Float) (tol : Float) (keep : TranslationVector → Bool)
     top e = sym (i.same ∙ (rw e refl))
 
 -- what `choose` makes of the best
-module _ (vs : List Sourced) (previous : Previous) (ccw : Point) (b : Best) (e : standing b ≡ climb_of previous ccw unset vs) where
+module _ (vs : List Sourced) (previous : Option Point) (ccw : Point) (b : Best) (e : standing b ≡ climb_of previous ccw unset vs) where
   all_told : chosen_by (standing b) ≡ choice_of vs previous ccw
   all_told = ap chosen_by e ∙ climbed vs previous ccw
 
-  pub some_vector : {v : TranslationVector} → eqb b.found 1 ≡ true → v ≡ vector_is b.course → Vector v ≡ choice_of vs previous ccw
+  pub some_vector : {v : TranslationVector} → eqb b.found 1 ≡ true → v ≡ vector_is b.course → Some v ≡ choice_of vs previous ccw
   some_vector f q = rw q (rw f at all_told)
 
-  pub no_vector : eqb b.found 1 ≡ false → Nothing ≡ choice_of vs previous ccw
+  pub no_vector : eqb b.found 1 ≡ false → None ≡ choice_of vs previous ccw
   no_vector f = rw f at all_told

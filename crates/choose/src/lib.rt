@@ -11,23 +11,16 @@ ghost use Rattle.vectors.specs.Courses.{vector_is, along_by};
 ghost use Rattle.directions.specs.Directions.{Directed};
 ghost use Rattle.choose.specs.Choose.{standing, raised_by, weighed_by, taken_by, weigh_of, unset, climb_of, choice_of};
 
-use contacts::{Edges, Next, edges_of, frames_of, next_within};
+use contacts::{Edges, edges_of, frames_of, next_within};
 use directions::unit;
 use pairs::{Pair, pair_at};
 use plane::Point;
 use plane::vector::{ahead, dot, minus};
 use ring::point_at;
-use selection::{Previous, continued, start};
+use selection::{continued, start};
 use vectors::TranslationVector;
 use vectors::course::{Course, course_by, direction_of, is_below, over, reach, to_vector};
 use vectors::fit::is_visited;
-
-// A vector, or nothing.
-#[derive(Clone, Copy)]
-pub enum Choice {
-    Nothing,
-    Vector(TranslationVector),
-}
 
 // The best vector so far and its score; where none is found yet, -infinity. Found is 1, and else 0.
 #[derive(Clone, Copy)]
@@ -35,13 +28,6 @@ pub struct Best {
     pub found: u64,
     pub score: f64,
     pub course: Course,
-}
-
-// What a vector makes of the best so far: nothing, or it is the best, with this score.
-#[derive(Clone, Copy)]
-pub enum Weighed {
-    Passed,
-    Raised(f64),
 }
 
 // Whether a vector leads to no visited position.
@@ -53,7 +39,7 @@ fn is_kept(course: Course, from: Point, visited: &[f64], tol: f64) -> bool
 }
 
 // The score of a vector.
-fn score(course: Course, previous: Previous, ccw: Point) -> f64
+fn score(course: Course, previous: Option<Point>, ccw: Point) -> f64
     ensures { result ≡ score_of (vector_is course) previous ccw }
 {
     let dir = direction_of(course);
@@ -61,19 +47,15 @@ fn score(course: Course, previous: Previous, ccw: Point) -> f64
     if is_below(course, 1e-6) { s - 100.0 } else { s }
 }
 
-// What a vector of score s makes of the best so far, whose score is `top`: only a strictly greater score replaces, but the first is always
-// taken.
-fn raise(found: bool, top: f64, s: f64) -> Weighed
+// The score with which a vector of score s is the best, or nothing where it is not, with the best so far of score `top`: only a strictly
+// greater score replaces, but the first is always taken.
+fn raise(found: bool, top: f64, s: f64) -> Option<f64>
     ensures { result ≡ raised_by found top s }
 {
     if s > top {
-        return Weighed::Raised(s);
+        return Some(s);
     }
-    if found {
-        Weighed::Passed
-    } else {
-        Weighed::Raised(top)
-    }
+    if found { None } else { Some(top) }
 }
 
 // The same, where the vector leads to no visited position. The path is gone through only for a vector that would be the best.
@@ -84,30 +66,26 @@ fn weigh(
     from: Point,
     visited: &[f64],
     tol: f64,
-    previous: Previous,
+    previous: Option<Point>,
     ccw: Point,
-) -> Weighed
+) -> Option<f64>
     ensures { result ≡ weighed_by (keeps from visited.now tol) previous ccw found top (vector_is course) }
 {
-    match raise(found, top, score(course, previous, ccw)) {
-        Weighed::Passed => Weighed::Passed,
-        Weighed::Raised(s) => {
-            if is_kept(course, from, visited, tol) {
-                Weighed::Raised(s)
-            } else {
-                Weighed::Passed
-            }
-        }
+    let s = raise(found, top, score(course, previous, ccw))?;
+    if is_kept(course, from, visited, tol) {
+        Some(s)
+    } else {
+        None
     }
 }
 
 // The best, after a vector was weighed.
-fn taken(best: Best, course: Course, weighed: Weighed) -> Best
+fn taken(best: Best, course: Course, weighed: Option<f64>) -> Best
     ensures { standing result ≡ taken_by weighed (standing best) (vector_is course) }
 {
     match weighed {
-        Weighed::Passed => best,
-        Weighed::Raised(score) => Best {
+        None => best,
+        Some(score) => Best {
             found: 1,
             score,
             course,
@@ -140,7 +118,7 @@ fn weigh_both(
     from: Point,
     visited: &[f64],
     tol: f64,
-    previous: Previous,
+    previous: Option<Point>,
     ccw: Point,
 ) -> Best
     requires { along ≡ along_by kind e }
@@ -185,7 +163,7 @@ fn weigh_contact(
     from: Point,
     visited: &[f64],
     tol: f64,
-    previous: Previous,
+    previous: Option<Point>,
     ccw: Point,
 ) -> Best
     requires sides { Sides (count stationary.now) (count orbiting.now) }
@@ -213,7 +191,7 @@ fn climb(
     tol: f64,
     from: Point,
     visited: &[f64],
-    previous: Previous,
+    previous: Option<Point>,
     ccw: Point,
 ) -> Best
     requires sides { Sides (count stationary.now) (count orbiting.now) }
@@ -229,18 +207,13 @@ fn climb(
     };
     let frames = frames_of(stationary, orbiting);
     let mut k = 0;
-    loop {
-        match next_within(stationary, orbiting, frames, tol, k) {
-            Next::Nothing => return best,
-            Next::At(j) => {
-                best = weigh_contact(
-                    stationary, dirs, orbiting, drawn, headings, j, best, from, visited, tol,
-                    previous, ccw,
-                );
-                k = j + 1;
-            }
-        }
+    while let Some(j) = next_within(stationary, orbiting, frames, tol, k) {
+        best = weigh_contact(
+            stationary, dirs, orbiting, drawn, headings, j, best, from, visited, tol, previous, ccw,
+        );
+        k = j + 1;
     }
+    best
 }
 
 // The vector chosen, the first where no score is above -infinity, or nothing where all lead to visited positions. `drawn` is the orbiting
@@ -254,9 +227,9 @@ pub fn choose(
     tol: f64,
     from: Point,
     visited: &[f64],
-    previous: Previous,
+    previous: Option<Point>,
     ccw: Point,
-) -> Choice
+) -> Option<TranslationVector>
     requires sides { Sides (count stationary.now) (count orbiting.now) }
     requires directed { Directed dirs.now stationary.now }
     requires orbiting_value { (count orbiting.now ≡ count drawn.now) × Directed headings.now drawn.now }
@@ -267,8 +240,8 @@ pub fn choose(
     );
     if best.found == 1 {
         let course = best.course;
-        Choice::Vector(to_vector(course))
+        Some(to_vector(course))
     } else {
-        Choice::Nothing
+        None
     }
 }

@@ -16,7 +16,7 @@ use shifted::Spot;
 
 // What is found: clear with the disc put by this `how`; by none, and this is the first edge that is not parted with 0; the way is
 // enclosed, with this `how`.
-#[derive(Clone, Copy)]
+#[derive(Clone, Copy, Debug, PartialEq, Eq)]
 pub enum Found {
     Clear(u32),
     Edge(usize),
@@ -93,11 +93,10 @@ fn search_on(
     ensures result_value { least result ≡ least_from (found_by st.now a.now b.now from to) 1 20 (edge_first j) }
     ensures kept { Kept st.now a.now b.now from to result lines.new }
 {
-    let mut how = 1;
-    while how <= 20 {
+    for how in 1..=20 {
         match search_by(st, a, b, from, to, how, lines) {
             Ground::Clear => return Found::Clear(how),
-            Ground::Edge(_) => how += 1,
+            Ground::Edge(_) => {}
             Ground::Enclosed => return Found::Enclosed(how),
         }
     }

@@ -11,7 +11,7 @@ use borrow.Author.Tests.{eq-eqb, le-leb}
 use Rattle.refusals.specs.Refusals.{passed, first}
 use Rattle.refusals.specs.Lists.{list_fault}
 use Rattle.refusals.specs.Answers.{answers}
-use Rattle.refusals.specs.declared.Refusal.{Refusal}
+use Rattle.refusals.specs.Refusals.{Told}
 use Rattle.refusals.proofs.Sized.{row_parts}
 use Rattle.shifted.specs.Shifted.{up_of}
 use Rattle.whole_engine.specs.Rows.{all_in_bounds, wrong_whole}
@@ -51,7 +51,7 @@ downs_up (u ∷ us) h = rw (up_down u (h 0 (omega arith)), downs_up us (rest_low
 
 -- ---- rows that pass
 
-both_pass : (a b : Refusal) → passed a ≡ true → passed b ≡ true → passed (first a b) ≡ true
+both_pass : (a b : Told) → passed a ≡ true → passed b ≡ true → passed (first a b) ≡ true
 both_pass a b h k = rw (h, k)
 
 -- a reason of four numbers for each edge has no fault
@@ -134,7 +134,7 @@ module _ (st orb : List ℤ) (dx dy : ℤ) where
         rw (reason_passes st orb dx dy (reason_of st orb dx dy) h reason_length (downs_within taken low), downs_up taken low, checked)
 
   module _ (room : List ℤ) (c : clear_move_call st orb dx dy (length room) ≡ answers clear) where
-    abbrev row : Refusal
+    abbrev row : Told
     row = of_clear_move st orb dx dy (length room)
 
     told : (passed row ≡ true) × (found_of st orb dx dy ≡ clear)

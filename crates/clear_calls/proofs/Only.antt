@@ -1,11 +1,13 @@
 -- The map of the answer tells every two apart. Assumes nothing.
-use mathlib.Core.Path.{◌≡◌, refl}
+use mathlib.Core.Path.{◌≡◌, refl, ap}
+use Rattle.std.specs.Prelude.{Result, Ok, Err}
+use Rattle.refusals.specs.declared.Refusal.{Refusal}
+use Rattle.refusals.specs.Answers.{refuses, tells}
+use Rattle.refusals.proofs.Calls.{answered_only}
 use Rattle.reason_check.specs.Told.{ground}
 use Rattle.reason_check.specs.declared.Ground.{Ground}
 use Rattle.reason_check.specs.declared.Ground.TheVariants.{Clear, Edge, Enclosed}
 use Rattle.clear_calls.specs.Calls.{judged}
-use Rattle.clear_calls.specs.declared.answer.Judged.{Judged}
-use Rattle.clear_calls.specs.declared.answer.Judged.TheVariants.{Is, Refused}
 
 ground_only : (a b : Ground) → ground a ≡ ground b → a ≡ b
 ground_only Clear Clear h = refl
@@ -18,8 +20,10 @@ ground_only Enclosed Clear h = cc
 ground_only Enclosed (Edge j) h = cc
 ground_only Enclosed Enclosed h = refl
 
-pub judged_only : (a b : Judged) → judged a ≡ judged b → a ≡ b
-judged_only (Is g) (Is k) h = cc (ground_only g k (cc))
-judged_only (Is g) (Refused r) h = cc
-judged_only (Refused r) (Is k) h = cc
-judged_only (Refused r) (Refused s) h = cc
+pub judged_only : (a b : Result Ground Refusal) → judged a ≡ judged b → a ≡ b
+judged_only (Ok g) (Ok k) h = cc (ground_only g k (cc))
+judged_only (Ok g) (Err r) h = cc
+judged_only (Err r) (Ok k) h = cc
+judged_only (Err r) (Err s) h =
+    let t : tells r ≡ tells s = cc in
+    answered_only (Err r) (Err s) (ap refuses t)

@@ -1,15 +1,14 @@
 -- What the tests let pass, and how an i32 that is handed on stands. Assumes nothing.
 use native.Mathlib.Omega.{arith}
 use mathlib.Core.Path.{◌≡◌, refl}
-use mathlib.Core.Bool.{Bool, true}
+use mathlib.Core.Bool.{true}
 use mathlib.Core.List.{List}
 use lib.IntN.{ℤ}
 use mir.Syntax.{w32}
 use mir.Val.{to_z, of_z, SFits}
 use mir.ValLaws.{to_z-of_z}
-use Rattle.refusals.specs.Refusals.{refused_number, passed, first}
+use Rattle.refusals.specs.Refusals.{none, refused_number, passed, first}
 use Rattle.refusals.specs.Lists.{list_fault}
-use Rattle.refusals.specs.declared.Refusal.{Refusal}
 use Rattle.refusals.proofs.Sized.{row_parts, holds, Fine, fine}
 use Rattle.whole_engine.specs.Rows.{all_in_bounds, wrong_whole}
 use Rattle.whole_moves.specs.Moved.{moved_by}
@@ -77,9 +76,8 @@ module _ (st orb : List ℤ) (dx dy : ℤ) where
         }
 
 -- the same of what the code answers
-module _ {n : Refusal} {p : Bool} (h : p ≡ passed n) (t : p ≡ true) where
-  pub move_lent : (st orb : List ℤ) (dx dy : ℤ) → n ≡ of_whole_move st orb dx dy → WholeMove st orb dx dy
-  move_lent st orb dx dy e = move_passed st orb dx dy (rw (← e, ← h) t)
+pub move_lent : (st orb : List ℤ) (dx dy : ℤ) → none ≡ of_whole_move st orb dx dy → WholeMove st orb dx dy
+move_lent st orb dx dy e = move_passed st orb dx dy (rw (← e))
 
-  pub reason_lent : (st orb : List ℤ) (dx dy : ℤ) (ls : List ℤ) → n ≡ of_reason st orb dx dy ls → WholeReason st orb dx dy ls
-  reason_lent st orb dx dy ls e = reason_passed st orb dx dy ls (rw (← e, ← h) t)
+pub reason_lent : (st orb : List ℤ) (dx dy : ℤ) (ls : List ℤ) → none ≡ of_reason st orb dx dy ls → WholeReason st orb dx dy ls
+reason_lent st orb dx dy ls e = reason_passed st orb dx dy ls (rw (← e))

@@ -11,7 +11,7 @@ use lib.ListN.{length, length-map}
 use lib.IntN.{ℤ}
 use Rattle.refusals.specs.Refusals.{passed}
 use Rattle.refusals.specs.Answers.{Outcome, answers, refuses, outcome}
-use Rattle.refusals.specs.declared.Refusal.{Refusal}
+use Rattle.refusals.specs.Refusals.{Told}
 use Rattle.shifted.specs.Shifted.{up_of}
 use Rattle.whole_moves.specs.Moved.{moved_up}
 use Rattle.reasons.specs.Check.{clear, check_of}
@@ -25,7 +25,7 @@ use Rattle.clear_calls.specs.Told.{IsReason, Apart}
 use Rattle.clear_calls.proofs.Passed.{reason_passed}
 
 -- an answer that is no refusal
-pub answered : {A : Type 0} (r : Refusal) (a b : A) → outcome r a ≡ answers b → (passed r ≡ true) × (a ≡ b)
+pub answered : {A : Type 0} (r : Told) (a b : A) → outcome r a ≡ answers b → (passed r ≡ true) × (a ≡ b)
 answered {A} r a b = go (passed r) refl
   where
     go : (p : Bool) → passed r ≡ p → ◌≡◌ {A = Outcome A} (cond p (answers a) (refuses r)) (answers b) → (p ≡ true) × (a ≡ b)

@@ -1,23 +1,23 @@
 -- What the calls on whole moves answer, and what is left in the room for a reason. Definitions only.
-use Rattle.std.specs.Prelude.{ℕ, ◌*◌, ◌/◌, List, [], ◌∷◌, map, length, ℤ}
+use Rattle.std.specs.Prelude.{ℕ, ◌*◌, ◌/◌, List, [], ◌∷◌, map, length, ℤ, Result, Ok, Err}
 use Rattle.ring.specs.Room.{laid}
 use Rattle.refusals.specs.Refusals.{none, first_of}
 use Rattle.refusals.specs.Screens.{wrong_fit}
-use Rattle.refusals.specs.Answers.{Outcome, answers, refuses, outcome, left}
+use Rattle.refusals.specs.Answers.{Outcome, answers, refuses, tells, outcome, left}
+use Rattle.refusals.specs.Refusals.{Told}
 use Rattle.refusals.specs.declared.Refusal.{Refusal}
 use Rattle.shifted.specs.Shifted.{up_of}
 use Rattle.whole_moves.specs.Moved.{moved_up, down_of}
 use Rattle.reasons.specs.Check.{Ground, clear, edge, enclosed, check_of}
 use Rattle.reason_check.specs.Told.{ground}
+use Rattle.reason_check.specs.declared.Ground as answer
 use Rattle.reason_search.specs.Search.{search_of}
 use Rattle.reason_search.specs.Room.{lines_to}
 use Rattle.clear_calls.specs.Rows.{of_whole_move, of_reason}
-use Rattle.clear_calls.specs.declared.answer.Judged.{Judged}
-use Rattle.clear_calls.specs.declared.answer.Judged.TheVariants.{Is, Refused}
 
-abbrev pub judged : Judged → Outcome Ground
-judged (Is g) = answers (ground g)
-judged (Refused r) = refuses r
+abbrev pub judged : Result answer.Ground Refusal → Outcome Ground
+judged (Ok g) = answers (ground g)
+judged (Err r) = refuses (tells r)
 
 -- ---- `check_reason`
 
@@ -37,15 +37,15 @@ abbrev pub reason_of : List ℤ → List ℤ → ℤ → ℤ → List ℤ
 reason_of st orb dx dy = map down_of (lines_to (map up_of st) (map up_of orb) (moved_up orb dx dy) (length st / 2))
 
 -- 5: it is clear, and a room of so many numbers is too short for the lines
-unfoldable pub short_for : Ground → ℕ → ℕ → Refusal
+unfoldable pub short_for : Ground → ℕ → ℕ → Told
 short_for clear needed size = wrong_fit needed size
 short_for (edge j) needed size = none
 short_for enclosed needed size = none
 
-abbrev pub short_room : List ℤ → List ℤ → ℤ → ℤ → ℕ → Refusal
+abbrev pub short_room : List ℤ → List ℤ → ℤ → ℤ → ℕ → Told
 short_room st orb dx dy size = short_for (found_of st orb dx dy) (4 * (length st / 2)) size
 
-abbrev pub of_clear_move : List ℤ → List ℤ → ℤ → ℤ → ℕ → Refusal
+abbrev pub of_clear_move : List ℤ → List ℤ → ℤ → ℤ → ℕ → Told
 of_clear_move st orb dx dy size = first_of (of_whole_move st orb dx dy ∷ short_room st orb dx dy size ∷ [])
 
 abbrev pub clear_move_call : List ℤ → List ℤ → ℤ → ℤ → ℕ → Outcome Ground

@@ -1,7 +1,6 @@
 // Whether a whole move is clear, with the reason: the lent coordinates are moved up by a million, and then searched or checked.
 #![tactic(auto)]
 
-pub mod answer;
 pub mod calls;
 pub mod row;
 
@@ -15,8 +14,8 @@ ghost use Rattle.reason_search.specs.Room.{room_of};
 ghost use Rattle.clear_calls.specs.Lent.{WholeMove, WholeReason};
 ghost use Rattle.clear_calls.specs.Calls.{judged, found_of, short_room, written};
 
-use answer::Judged;
 use reason_check::Ground;
+use refusals::Refusal;
 use refusals::screen::fit;
 use shifted::lift;
 use whole_moves::{lift_moved, lower};
@@ -65,7 +64,13 @@ fn search(stationary: &[i32], orbiting: &[i32], dx: i32, dy: i32, lines: &mut [u
 }
 
 // What is found, and where it is clear the reason in the room, or the refusal of a room that is too short for it.
-fn judge(stationary: &[i32], orbiting: &[i32], dx: i32, dy: i32, reason: &mut [i32]) -> Judged
+fn judge(
+    stationary: &[i32],
+    orbiting: &[i32],
+    dx: i32,
+    dy: i32,
+    reason: &mut [i32],
+) -> Result<Ground, Refusal>
     requires { WholeMove stationary.now orbiting.now dx dy }
     ensures { (judged result ≡ outcome
         (short_room stationary.now orbiting.now dx dy (length reason.old))
@@ -79,14 +84,10 @@ fn judge(stationary: &[i32], orbiting: &[i32], dx: i32, dy: i32, reason: &mut [i
     match search(stationary, orbiting, dx, dy, &mut lines) {
         Ground::Clear => {
             let needed = 4 * (stationary.len() / 2);
-            let no = fit(needed, reason.len());
-            if no.passed() {
-                lower(&lines, needed, reason);
-                return Judged::Is(Ground::Clear);
-            }
-            Judged::Refused(no)
+            fit(needed, reason.len())?;
+            lower(&lines, needed, reason);
+            Ok(Ground::Clear)
         }
-        Ground::Edge(j) => Judged::Is(Ground::Edge(j)),
-        Ground::Enclosed => Judged::Is(Ground::Enclosed),
+        found => Ok(found),
     }
 }

@@ -1,15 +1,12 @@
 -- What an answer of the calls tells of the drawing: where it is clear, with the disc put by some how, the floats that were lent are
 -- apart but for the depth; where it is enclosed, within but for it. Assumes nothing.
-use Prim.Native.Nat.{ℕ, ◌/◌, ◌<◌}
+use Prim.Native.Nat.{ℕ}
 use native.Mathlib.Omega.{arith}
-use mathlib.Core.Path.{◌≡◌, refl, sym, ◌∙◌}
-use mathlib.Core.Bool.{true}
+use mathlib.Core.Path.{◌≡◌, refl}
 use mathlib.Core.List.{List, map}
-use lib.ListN.{length}
 use lib.IntN.{ℤ}
 use lib.Ieee.{Float}
 use Rattle.plane.specs.declared.Point.{Point}
-use Rattle.refusals.specs.Refusals.{passed}
 use Rattle.refusals.specs.Answers.{answers}
 use Rattle.refusals.proofs.Sized.{row_parts}
 use Rattle.shifted.specs.Shifted.{up_of}
@@ -25,7 +22,6 @@ use Rattle.drawn_rows.specs.Lent.{DrawnLent}
 use Rattle.drawn_rows.proofs.Passed.{move_passed, reason_passed}
 use Rattle.clear_drawn.specs.Legs.{leg_least, leg_checked}
 use Rattle.clear_drawn.specs.Calls.{move_of, move_least, move_checked, with_how, short_for, of_clear_move, clear_move_call}
-use Rattle.clear_drawn.specs.Calls.{check_reason_call}
 use Rattle.clear_drawn.specs.Told.{LeastTold, MoveTold, ReasonTold, HasPicture}
 
 module _ (xs ys : List Float) (from to : Point) (n : ℕ) (lent : DrawnLent xs ys (move_of from to) n) where

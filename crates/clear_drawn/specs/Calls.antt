@@ -1,10 +1,11 @@
 -- What the calls on drawn moves answer, and what is left in the room for a reason. Definitions only.
-use Rattle.std.specs.Prelude.{ℕ, ◌*◌, ◌/◌, List, [], ◌∷◌, map, length, ℤ, Float}
+use Rattle.std.specs.Prelude.{ℕ, ◌*◌, ◌/◌, List, [], ◌∷◌, map, length, ℤ, Float, Result, Ok, Err}
 use Rattle.plane.specs.declared.Point.{Point}
 use Rattle.ring.specs.Room.{laid}
 use Rattle.refusals.specs.Refusals.{none, first_of}
 use Rattle.refusals.specs.Screens.{wrong_fit}
-use Rattle.refusals.specs.Answers.{Outcome, answers, refuses, outcome, left}
+use Rattle.refusals.specs.Answers.{Outcome, answers, refuses, tells, outcome, left}
+use Rattle.refusals.specs.Refusals.{Told}
 use Rattle.refusals.specs.declared.Refusal.{Refusal}
 use Rattle.shifted.specs.Shifted.{up_of}
 use Rattle.whole_moves.specs.Moved.{down_of}
@@ -15,12 +16,10 @@ use Rattle.clear_aside.specs.Aside.{least}
 use Rattle.clear_aside.specs.declared.Found.{Found}
 use Rattle.drawn_rows.specs.Rows.{grid_of, of_drawn_move, of_drawn_reason}
 use Rattle.clear_drawn.specs.Legs.{leg_least, leg_checked, leg_lines, LegKept}
-use Rattle.clear_drawn.specs.declared.answer.Judged.{Judged}
-use Rattle.clear_drawn.specs.declared.answer.Judged.TheVariants.{Is, Refused}
 
-abbrev pub judged : Judged → Outcome Least
-judged (Is f) = answers (least f)
-judged (Refused r) = refuses r
+abbrev pub judged : Result Found Refusal → Outcome Least
+judged (Ok f) = answers (least f)
+judged (Err r) = refuses (tells r)
 
 -- a move as a path of two points
 abbrev pub move_of : Point → Point → List Float
@@ -42,12 +41,12 @@ module _ (xs ys path : List Float) (n : ℕ) where
   move_reason how = map down_of (leg_lines (ring_up n xs) (grid_of n ys) (grid_of n path) 0 1 how)
 
   -- 5: it is clear, and a room of so many numbers is too short for the lines
-  unfoldable pub short_for : Least → ℕ → Refusal
+  unfoldable pub short_for : Least → ℕ → Told
   short_for (clear_by how) size = wrong_fit (4 * (length xs / 2)) size
   short_for (edge_first j) size = none
   short_for (enclosed_by how) size = none
 
-  abbrev pub of_clear_move : ℕ → Refusal
+  abbrev pub of_clear_move : ℕ → Told
   of_clear_move size = first_of (of_drawn_move xs ys path n ∷ short_for move_least size ∷ [])
 
   -- the reason at the front of the room where it is clear, and else what the room held

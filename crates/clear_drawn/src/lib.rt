@@ -2,7 +2,6 @@
 // checked, with the disc put aside where that is needed.
 #![tactic(auto)]
 
-pub mod answer;
 pub mod calls;
 
 ghost use Rattle.std.specs.Prelude.{true, ◌≡◌, ◌≤◌, ◌<◌, ◌*◌, ◌/◌, length};
@@ -18,10 +17,10 @@ ghost use Rattle.drawn_rows.specs.Lent.{DrawnLent, LinesLent};
 ghost use Rattle.clear_drawn.specs.Legs.{leg_least, leg_checked, LegLent, LegKept};
 ghost use Rattle.clear_drawn.specs.Calls.{judged, move_least, MoveKept, short_for, written_for, with_how, move_checked};
 
-use answer::Judged;
 use clear_aside::{Found, check_aside, search_aside};
 use clear_path::place;
 use reason_check::Ground;
+use refusals::Refusal;
 use refusals::screen::fit;
 use shifted::{Spot, lift, spot_of, up};
 use to_grid::{lay, on_grid};
@@ -33,10 +32,8 @@ pub fn lift_drawn(list: &[f64], units: u32, room: &mut [u64])
     requires list_in_bounds { length list.now ≤ length room.old }
     ensures { room.new ≡ laid (ring_up units list.now) room.old }
 {
-    let mut i = 0;
-    while i < list.len() {
-        room[i] = up(on_grid(list[i], units));
-        i += 1;
+    for (i, &x) in list.iter().enumerate() {
+        room[i] = up(on_grid(x, units));
     }
 }
 
@@ -120,7 +117,7 @@ fn judge(
     path: &[f64],
     units: u32,
     reason: &mut [i32],
-) -> Judged
+) -> Result<Found, Refusal>
     requires { DrawnLent stationary.now orbiting.now path.now units × (length path.now ≡ 4) }
     ensures { let l = move_least stationary.now orbiting.now path.now units in
         let no = short_for stationary.now orbiting.now path.now units l (length reason.old) in
@@ -133,15 +130,11 @@ fn judge(
     match search_move(stationary, orbiting, path, units, &mut lines) {
         Found::Clear(how) => {
             let needed = 4 * (stationary.len() / 2);
-            let no = fit(needed, reason.len());
-            if no.passed() {
-                lower(&lines, needed, reason);
-                return Judged::Is(Found::Clear(how));
-            }
-            Judged::Refused(no)
+            fit(needed, reason.len())?;
+            lower(&lines, needed, reason);
+            Ok(Found::Clear(how))
         }
-        Found::Edge(j) => Judged::Is(Found::Edge(j)),
-        Found::Enclosed(how) => Judged::Is(Found::Enclosed(how)),
+        found => Ok(found),
     }
 }
 

@@ -1,17 +1,15 @@
 -- A drawing that passed the tests, put on the grid: what the search on the legs is lent, in the fronts of rooms, and that what is
 -- found there is what is found on the path. Assumes nothing.
-use Prim.Native.Nat.{ℕ, ◌-◌, ◌/◌, ◌≤◌, ◌<◌}
-use native.Mathlib.Nat.{mod-lt}
+use Prim.Native.Nat.{ℕ, ◌/◌, ◌≤◌, ◌<◌}
 use native.Mathlib.Omega.{arith}
-use mathlib.Core.Path.{◌≡◌, refl, sym, ap, ◌∙◌}
+use mathlib.Core.Path.{◌≡◌, ap, ◌∙◌}
 use mathlib.Core.Bool.{Bool, true, false}
 use mathlib.Core.List.{List}
 use lib.ListN.{length, length-map}
 use lib.IntN.{ℤ}
 use lib.Ieee.{Float}
 use Rattle.ring.specs.Ring.{next_of}
-use Rattle.refusals.specs.Refusals.{passed}
-use Rattle.refusals.specs.declared.Refusal.{Refusal}
+use Rattle.refusals.specs.Refusals.{none}
 use Rattle.whole_engine.proofs.Within.{small_lifted, small_in}
 use Rattle.to_grid.specs.Grid.{nearest}
 use Rattle.drawn_floats.proofs.Made.{all_stay}
@@ -83,6 +81,6 @@ module _ (xs ys path : List Float) (closed : Bool) (n : ℕ) {s : List ℕ} {d p
       → v ≡ path_found xs ys path closed n
   path_is {m} q h = h ∙ legs_same (leg_at s d p) (path_least xs ys path n) leg_same 0 m ∙ ap (legs_from (path_least xs ys path n) 0) q
 
-pub path_tested : (xs ys path : List Float) (n : ℕ) {no : Refusal} {p : Bool} → no ≡ of_drawn_path xs ys path n → p ≡ passed no
-    → p ≡ true → DrawnLent xs ys path n × (2 ≤ length path / 2) × (length path ≤ 20002)
-path_tested xs ys path n e h t = path_passed xs ys path n (rw (← e, ← h) t)
+pub path_tested : (xs ys path : List Float) (n : ℕ) → none ≡ of_drawn_path xs ys path n
+    → DrawnLent xs ys path n × (2 ≤ length path / 2) × (length path ≤ 20002)
+path_tested xs ys path n e = path_passed xs ys path n (rw (← e))

@@ -1,11 +1,10 @@
--- The map of the answer tells every two apart. Assumes nothing.
+-- Two answers that say the same of a path are equal. Assumes nothing.
 use mathlib.Core.Path.{◌≡◌}
-use Rattle.clear_drawn_path.specs.Calls.{path_judged}
-use Rattle.clear_drawn_path.specs.declared.answer.PathJudged.{PathJudged}
-use Rattle.clear_drawn_path.specs.declared.answer.PathJudged.TheVariants.{Is, Refused}
+use Rattle.std.specs.Prelude.{Result}
+use Rattle.refusals.specs.Answers.{answered}
+use Rattle.refusals.specs.declared.Refusal.{Refusal}
+use Rattle.refusals.proofs.Calls.{answered_only}
+use Rattle.clear_drawn_path.specs.declared.PathFound.{PathFound}
 
-pub path_judged_only : (a b : PathJudged) → path_judged a ≡ path_judged b → a ≡ b
-path_judged_only (Is f) (Is g) h = cc
-path_judged_only (Is f) (Refused r) h = cc
-path_judged_only (Refused r) (Is g) h = cc
-path_judged_only (Refused r) (Refused s) h = cc
+pub path_judged_only : (a b : Result PathFound Refusal) → answered a ≡ answered b → a ≡ b
+path_judged_only a b h = answered_only a b h

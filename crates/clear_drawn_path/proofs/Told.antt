@@ -1,16 +1,15 @@
 -- What an answer of the call tells of the drawing: clear, that on each leg the floats that were lent are apart but for the depth;
 -- else the first leg that is not clear, with what is found there, and each leg before it is clear. The induction goes over the
 -- legs that are left. Assumes nothing.
-use Prim.Native.Nat.{ℕ, zero, suc, ◌+◌, ◌*◌, ◌/◌, ◌≤◌, ◌<◌, max}
+use Prim.Native.Nat.{ℕ, zero, suc, ◌+◌, ◌*◌, ◌/◌, ◌≤◌, ◌<◌}
 use native.Mathlib.Nat.{eq-or-lt_of_le, le-max_left, le-max_right, le_trans, mul-le-mul_right, mod-lt}
 use native.Mathlib.Omega.{arith}
-use mathlib.Core.Path.{◌≡◌, refl, sym, ap, subst, ◌∙◌}
+use mathlib.Core.Path.{◌≡◌, refl, sym, subst, ◌∙◌}
 use mathlib.Core.Logic.{⊎_elim}
 use mathlib.Core.List.{List}
 use lib.ListN.{length}
 use lib.Ieee.{Float}
 use Rattle.ring.specs.Ring.{next_of}
-use Rattle.refusals.specs.Answers.{answers}
 use Rattle.reasons.specs.Check.{Ground}
 use Rattle.reasons.specs.Drawn.{DeepAt}
 use Rattle.reasons.specs.Moves.{Leg}

@@ -1,19 +1,13 @@
 -- What the call answers: the refusal of what is lent, or the first leg that is not clear. Definitions only.
 use Rattle.std.specs.Prelude.{ℕ, ◌/◌, Bool, List, length, Float}
 use Rattle.ring.specs.Ring.{next_of}
-use Rattle.refusals.specs.Answers.{Outcome, answers, refuses, outcome}
+use Rattle.refusals.specs.Answers.{Outcome, outcome}
 use Rattle.drawn_aside.specs.Found.{Least}
 use Rattle.drawn_rows.specs.Rows.{grid_of, of_drawn_path}
 use Rattle.clear_drawn.specs.Legs.{leg_least}
 use Rattle.drawn_aside.specs.Told.{ring_up}
 use Rattle.clear_drawn_path.specs.Path.{leg_count, legs_from}
 use Rattle.clear_drawn_path.specs.declared.PathFound.{PathFound}
-use Rattle.clear_drawn_path.specs.declared.answer.PathJudged.{PathJudged}
-use Rattle.clear_drawn_path.specs.declared.answer.PathJudged.TheVariants.{Is, Refused}
-
-abbrev pub path_judged : PathJudged → Outcome PathFound
-path_judged (Is f) = answers f
-path_judged (Refused r) = refuses r
 
 -- on the leg from the point i to the next, after the last to the first
 unfoldable pub path_least : List Float → List Float → List Float → ℕ → ℕ → Least

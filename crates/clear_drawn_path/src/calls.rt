@@ -1,10 +1,13 @@
 // The public call: clear_path.
-ghost use Rattle.std.specs.Prelude.{◌≡◌};
-ghost use Rattle.clear_drawn_path.specs.Calls.{path_judged, clear_path_call};
+#![tactic(auto, using(crate::proofs::Drawn::path_tested, refusals::proofs::Tests::refused))]
 
-use crate::answer::PathJudged;
-use crate::path_found;
+ghost use Rattle.std.specs.Prelude.{◌≡◌};
+ghost use Rattle.refusals.specs.Answers.{answered};
+ghost use Rattle.clear_drawn_path.specs.Calls.{clear_path_call};
+
+use crate::{PathFound, path_found};
 use drawn_rows::drawn_path;
+use refusals::Refusal;
 
 // Whether the disc, as drawn, is found to be clear of the stationary polygon on each leg of a path but for a depth, where it is
 // closed on that from the last point to the first too; else the first leg that is not, and why.
@@ -14,13 +17,9 @@ pub fn clear_path(
     path: &[f64],
     closed: bool,
     units: u32,
-) -> PathJudged
-    ensures { path_judged result ≡ clear_path_call stationary.now orbiting.now path.now closed units }
+) -> Result<PathFound, Refusal>
+    ensures { answered result ≡ clear_path_call stationary.now orbiting.now path.now closed units }
 {
-    let no = drawn_path(stationary, orbiting, path, units);
-    if no.passed() {
-        PathJudged::Is(path_found(stationary, orbiting, path, closed, units))
-    } else {
-        PathJudged::Refused(no)
-    }
+    drawn_path(stationary, orbiting, path, units)?;
+    Ok(path_found(stationary, orbiting, path, closed, units))
 }

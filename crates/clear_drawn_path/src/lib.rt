@@ -2,7 +2,6 @@
 // the grid once.
 #![tactic(auto)]
 
-pub mod answer;
 pub mod calls;
 
 ghost use Rattle.std.specs.Prelude.{◌≡◌, ◌/◌, ◌≤◌, ◌<◌, max, length};
@@ -21,18 +20,11 @@ use to_grid::lay;
 
 // What is found: every leg is clear but for this depth; this is the first leg that is not, and this edge the first that is not
 // parted there; it is, and the way is enclosed.
-#[derive(Clone, Copy)]
+#[derive(Clone, Copy, Debug, PartialEq, Eq)]
 pub enum PathFound {
     Clear(u32),
     Edge { leg: usize, edge: usize },
     Enclosed(usize),
-}
-
-// The larger of two depths.
-fn deeper(a: u32, b: u32) -> u32
-    ensures { result ≡ max a b }
-{
-    if a < b { b } else { a }
 }
 
 // How many legs a path of so many points has.
@@ -58,13 +50,9 @@ fn first_leg(st: &[u64], disc: &[i32], path: &[i32], legs: usize) -> PathFound
     ensures { result ≡ legs_from (leg_at st.now disc.now path.now) 0 legs }
 {
     let mut depth = 0;
-    let mut i = 0;
-    while i < legs {
+    for i in 0..legs {
         match search_next(st, disc, path, i) {
-            Found::Clear(how) => {
-                depth = deeper(depth, depth_of(how));
-                i += 1;
-            }
+            Found::Clear(how) => depth = depth.max(depth_of(how)),
             Found::Edge(edge) => return PathFound::Edge { leg: i, edge },
             Found::Enclosed(_) => return PathFound::Enclosed(i),
         }

@@ -9,7 +9,7 @@ use lib.ListN.{length, drop, replicate, length-map, length-replicate, get_or-app
 use lib.IntN.{ℤ, pos}
 use Rattle.refusals.specs.Refusals.{passed}
 use Rattle.refusals.specs.Answers.{Outcome, answers, refuses}
-use Rattle.refusals.specs.declared.Refusal.{Refusal}
+use Rattle.refusals.specs.Refusals.{Told}
 use Rattle.shifted.specs.Shifted.{up_of}
 use Rattle.whole_moves.specs.Moved.{moved_up, down_of}
 use Rattle.reasons.specs.Check.{Ground, clear, edge, enclosed}
@@ -41,7 +41,7 @@ ground_said clear ls room m h =
 ground_said (edge j) ls room m h = refl
 ground_said enclosed ls room m h = refl
 
-outcome_said : (t : Bool) (r : Refusal) (g : Ground) (ls room : List ℤ) (m : ℕ) → 4 * m ≤ length ls
+outcome_said : (t : Bool) (r : Told) (g : Ground) (ls room : List ℤ) (m : ℕ) → 4 * m ≤ length ls
     → judged_text (cond t (answers g) (refuses r)) (cond t (written_for g ls room) room) m
     ≡ judged_text (cond t (answers g) (refuses r)) ls m
 unfolding judged_text

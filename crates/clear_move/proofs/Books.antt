@@ -7,8 +7,8 @@ use mathlib.Core.List.{List}
 use lib.ListN.{length, get_or}
 use lib.Ieee.{Float}
 use Rattle.refusals.specs.Bounds.{coordinates}
-use Rattle.refusals.specs.declared.answer.Count.{Count}
-use Rattle.refusals.specs.declared.answer.Count.TheVariants.{Is}
+use Rattle.std.specs.Prelude.{Result, Ok}
+use Rattle.refusals.specs.declared.Refusal.{Refusal}
 use Rattle.book_layout.specs.Layout.{numbers_most, counts_of}
 use Rattle.book_layout.specs.Reader.{numbers_of}
 use Rattle.book_reader.proofs.Files.{Promised}
@@ -22,8 +22,8 @@ pub record Read (f : List ℕ) (k : ℕ) (x : List Float) : Type 0 where
   pub bounded : coordinates x ≡ true
   pub whole : all_whole x ≡ all_whole (numbers_of f)
 
-module _ (f : List ℕ) (bytes : (i : ℕ) → get_or f i 0 < 256) (x : List Float) (n q : List ℕ) (r : Count)
-    (p : Promised f room counts parts r x n q) (k : ℕ) (e : r ≡ Is k) where
+module _ (f : List ℕ) (bytes : (i : ℕ) → get_or f i 0 < 256) (x : List Float) (n q : List ℕ) (r : Result ℕ Refusal)
+    (p : Promised f room counts parts r x n q) (k : ℕ) (e : r ≡ Ok k) where
   pub read : Read f k x
   read =
       let is = room_is f bytes room x counts n parts q r p k e in

@@ -18,8 +18,7 @@ use book_layout::{BOOK_MOST, NUMBERS_MOST};
 use book_reader::calls::read_book;
 use clear_calls::calls::clear_move;
 use lines::put_refusal;
-use refusals::answer::Count;
-use refusals::{REFUSED_BOOK, REFUSED_FEW, REFUSED_NUMBER, RINGS_MOST, Refusal};
+use refusals::{RINGS_MOST, Refusal};
 use say::put_judged;
 use std::io;
 use std::io::Read;
@@ -90,12 +89,12 @@ fn put_rings(
         out.new result }
 {
     if rings == 1 {
-        return put_refusal(Refusal::new(REFUSED_FEW, 1), out);
+        return put_refusal(Refusal::Few(1), out);
     }
     if are_whole(xs) {
         put_two(xs, n, m, dx, dy, out)
     } else {
-        put_refusal(Refusal::new(REFUSED_NUMBER, 0), out)
+        put_refusal(Refusal::Number, out)
     }
 }
 
@@ -108,7 +107,7 @@ fn put_book(book: &[u8], dx: i32, dy: i32, out: &mut [u8]) -> usize
     let mut counts = [0u32; RINGS_MOST];
     let mut parts = [0u32; RINGS_MOST];
     match read_book(book, &mut room, &mut counts, &mut parts) {
-        Count::Is(rings) => put_rings(
+        Ok(rings) => put_rings(
             rings,
             &room,
             counts[0] as usize,
@@ -117,7 +116,7 @@ fn put_book(book: &[u8], dx: i32, dy: i32, out: &mut [u8]) -> usize
             dy,
             out,
         ),
-        Count::Refused(no) => put_refusal(no, out),
+        Err(no) => put_refusal(no, out),
     }
 }
 
@@ -127,7 +126,7 @@ fn put_input(input: &[u8], out: &mut [u8]) -> usize
     ensures { Put out.old 0 (input_text input.now) out.new result }
 {
     if input.len() < MOVE_BYTES {
-        return put_refusal(Refusal::new(REFUSED_BOOK, 0), out);
+        return put_refusal(Refusal::Book(0), out);
     }
     put_book(
         &input[MOVE_BYTES..],

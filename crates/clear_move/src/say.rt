@@ -10,10 +10,10 @@ ghost use Rattle.clear_move.specs.Lines.{signed, field, reason_line, shared_line
 ghost use Rattle.clear_move.specs.Lines.{edge_line, ground_text, judged_text};
 
 use crate::shared::{count_lines, has, note_owners, put_ranges};
-use clear_calls::answer::Judged;
 use lines::put_refusal;
 use print::{put_decimal, put_text};
 use reason_check::Ground;
+use refusals::Refusal;
 
 // Edges of a polygon.
 const EDGES_MOST: usize = 256;
@@ -92,10 +92,8 @@ fn put_lines(owners: &[usize], ls: &[i32], m: usize, out: &mut [u8], at: usize) 
     ensures { Put out.old at (shared_lines (first owners.now) ls.now m m) out.new result }
 {
     let mut next = at;
-    let mut j = 0;
-    while j < m {
+    for j in 0..m {
         next = put_first(owners, ls, m, j, out, next);
-        j += 1;
     }
     next
 }
@@ -136,12 +134,12 @@ fn put_ground(g: Ground, ls: &[i32], m: usize, out: &mut [u8]) -> usize
 }
 
 // What the call answered, with the reason's numbers of m edges.
-pub fn put_judged(answer: Judged, ls: &[i32], m: usize, out: &mut [u8]) -> usize
+pub fn put_judged(answer: Result<Ground, Refusal>, ls: &[i32], m: usize, out: &mut [u8]) -> usize
     requires { (m ≤ 256) × (4 * m ≤ length ls.now) × (100 + 118 * m ≤ length out.old) }
     ensures { Put out.old 0 (judged_text (judged answer) ls.now m) out.new result }
 {
     match answer {
-        Judged::Is(g) => put_ground(g, ls, m, out),
-        Judged::Refused(no) => put_refusal(no, out),
+        Ok(g) => put_ground(g, ls, m, out),
+        Err(no) => put_refusal(no, out),
     }
 }

@@ -38,14 +38,12 @@ fn first_with(ls: &[i32], j: usize) -> usize
     requires { 4 * j + 4 ≤ length ls.now }
     ensures { result ≡ owner ls.now j }
 {
-    let mut i = 0;
-    while i < j {
+    for i in 0..j {
         if same_line(ls, i, j) {
             return i;
         }
-        i += 1;
     }
-    i
+    j
 }
 
 // Notes for each of m edges the first with its line.
@@ -53,10 +51,8 @@ pub fn note_owners(ls: &[i32], m: usize, owners: &mut [usize])
     requires { (4 * m ≤ length ls.now) × (m ≤ length owners.old) }
     ensures { Owned ls.now owners.new m }
 {
-    let mut k = 0;
-    while k < m {
+    for k in 0..m {
         owners[k] = first_with(ls, k);
-        k += 1;
     }
 }
 
@@ -96,10 +92,8 @@ pub fn count_lines(owners: &[usize], m: usize) -> u64
     ensures { result ≡ line_count (first owners.now) m }
 {
     let mut count = 0;
-    let mut k = 0;
-    while k < m {
+    for k in 0..m {
         count += flag(has(owners, k, k));
-        k += 1;
     }
     count
 }
@@ -165,10 +159,8 @@ pub fn put_ranges(owners: &[usize], m: usize, j: usize, out: &mut [u8], at: usiz
     ensures upper_bound { result ≤ at + 22 * tally (has (first owners.now) j) m }
 {
     let mut next = at;
-    let mut k = 0;
-    while k < m {
+    for k in 0..m {
         next = put_part(owners, m, j, k, out, next);
-        k += 1;
     }
     next
 }

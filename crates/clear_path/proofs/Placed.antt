@@ -10,9 +10,8 @@ use lib.IntN.{ℤ}
 use Rattle.ring.specs.Each.{each}
 use Rattle.ring.specs.Ring.{next_of}
 use Rattle.ring.proofs.Each.{each_at}
-use Rattle.refusals.specs.Refusals.{refused_number, passed, first}
+use Rattle.refusals.specs.Refusals.{none, refused_number, passed, first}
 use Rattle.refusals.specs.Lists.{list_fault}
-use Rattle.refusals.specs.declared.Refusal.{Refusal}
 use Rattle.refusals.proofs.Sized.{row_parts, holds, fine}
 use Rattle.shifted.specs.Shifted.{up_of}
 use Rattle.whole_engine.specs.Rows.{all_in_bounds, wrong_whole}
@@ -54,8 +53,8 @@ module _ (st orb path : List ℤ) where
         placed = λ i l. each_at (is_placed orb path) 0 (length path / 2) i all (omega arith) (omega arith);
       }
 
-  pub path_lent : {n : Refusal} {p : Bool} → n ≡ of_whole_path st orb path → p ≡ passed n → p ≡ true → LegsLent (map up_of st) orb path
-  path_lent e h t = path_passed (rw (← e, ← h) t)
+  pub path_lent : none ≡ of_whole_path st orb path → LegsLent (map up_of st) orb path
+  path_lent e = path_passed (rw (← e))
 
   pub ring_fits : LegsLent (map up_of st) orb path → length st ≤ 512
   ring_fits L = omega (arith, length-map st up_of, L.ring_most)

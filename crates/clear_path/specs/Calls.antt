@@ -1,16 +1,10 @@
 -- What the call answers: the refusal of what is lent, or the first leg that is not clear. Definitions only.
 use Rattle.std.specs.Prelude.{◌/◌, List, map, length, ℤ}
-use Rattle.refusals.specs.Answers.{Outcome, answers, refuses, outcome}
+use Rattle.refusals.specs.Answers.{Outcome, outcome}
 use Rattle.shifted.specs.Shifted.{up_of}
 use Rattle.clear_path.specs.Rows.{of_whole_path}
 use Rattle.clear_path.specs.Path.{leg_found, first_leg}
 use Rattle.clear_path.specs.declared.PathGround.{PathGround}
-use Rattle.clear_path.specs.declared.answer.PathJudged.{PathJudged}
-use Rattle.clear_path.specs.declared.answer.PathJudged.TheVariants.{Is, Refused}
-
-abbrev pub path_judged : PathJudged → Outcome PathGround
-path_judged (Is g) = answers g
-path_judged (Refused r) = refuses r
 
 -- leg 0, leg 1 and so on, as many as there are points
 abbrev pub path_ground : List ℤ → List ℤ → List ℤ → PathGround

@@ -4,7 +4,7 @@ use Rattle.std.specs.Prelude.{ℕ, ◌+◌, ◌*◌, ◌/◌, Bool, List, [], �
 use Rattle.ring.specs.Each.{each}
 use Rattle.refusals.specs.Refusals.{refused_number, unless, first_of}
 use Rattle.refusals.specs.Lists.{Extent, fault_of}
-use Rattle.refusals.specs.declared.Refusal.{Refusal}
+use Rattle.refusals.specs.Refusals.{Told}
 use Rattle.whole_engine.specs.Rows.{all_in_bounds, wrong_whole}
 use Rattle.whole_moves.specs.Moved.{moved_by}
 use Rattle.clear_calls.specs.Rows.{whole_polygon_extent}
@@ -22,10 +22,10 @@ abbrev pub is_placed : List ℤ → List ℤ → ℕ → Bool
 is_placed orb path i = all_in_bounds (placed_at orb path i)
 
 -- 2: one is out of bounds at a point of the path
-abbrev pub wrong_place : List ℤ → List ℤ → Refusal
+abbrev pub wrong_place : List ℤ → List ℤ → Told
 wrong_place orb path = unless (each (is_placed orb path) 0 (length path / 2)) refused_number 0
 
-unfoldable pub of_whole_path : List ℤ → List ℤ → List ℤ → Refusal
+unfoldable pub of_whole_path : List ℤ → List ℤ → List ℤ → Told
 of_whole_path st orb path =
     first_of
     (fault_of (whole_polygon_extent st ∷ whole_polygon_extent orb ∷ whole_path_extent path ∷ [])

@@ -1,7 +1,6 @@
 // Whether a closed path of whole points is clear: the search for a reason on each of its legs, until one that is not clear.
 #![tactic(auto)]
 
-pub mod answer;
 pub mod calls;
 pub mod row;
 
@@ -20,7 +19,7 @@ use whole_moves::lift_moved;
 
 // What is found: every leg is clear; this is the first leg that is not, and this edge the first that is not parted there; it is,
 // and the way is enclosed.
-#[derive(Clone, Copy)]
+#[derive(Clone, Copy, Debug, PartialEq, Eq)]
 pub enum PathGround {
     Clear,
     Edge { leg: usize, edge: usize },
@@ -55,10 +54,9 @@ fn first_leg(st: &[u64], orbiting: &[i32], path: &[i32]) -> PathGround
         (length path.now / 2) }
 {
     let n = path.len() / 2;
-    let mut i = 0;
-    while i < n {
+    for i in 0..n {
         match search_leg(st, orbiting, path, i) {
-            Ground::Clear => i += 1,
+            Ground::Clear => {}
             Ground::Edge(edge) => return PathGround::Edge { leg: i, edge },
             Ground::Enclosed => return PathGround::Enclosed(i),
         }

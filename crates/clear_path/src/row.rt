@@ -1,16 +1,19 @@
 // The tests of what the call is lent: two polygons and a path. The numbers of lists with a fault are not read.
+#![tactic(auto, using(refusals::proofs::Tests::refused))]
+
 ghost use Rattle.std.specs.Prelude.{[], ◌∷◌, ◌≡◌, ◌/◌, length};
 ghost use Rattle.ring.specs.Each.{each};
 ghost use Rattle.refusals.specs.Refusals.{first_of};
 ghost use Rattle.refusals.specs.Lists.{fault_of};
+ghost use Rattle.refusals.specs.Answers.{tested};
 ghost use Rattle.whole_engine.specs.Rows.{wrong_whole};
 ghost use Rattle.clear_calls.specs.Rows.{whole_polygon_extent};
 ghost use Rattle.clear_path.specs.Rows.{whole_path_extent, is_placed, wrong_place, of_whole_path};
 
 use clear_calls::row::polygon;
 use refusals::lists::fault;
-use refusals::screen::{first, unless};
-use refusals::{POINTS_MOST, REFUSED_NUMBER, Refusal};
+use refusals::screen::unless;
+use refusals::{POINTS_MOST, Refusal};
 use whole_engine::row::numbers;
 use whole_moves::are_moved_within;
 
@@ -22,11 +25,8 @@ fn are_placed(orbiting: &[i32], path: &[i32]) -> bool
     ensures { result ≡ each (is_placed orbiting.now path.now) 0 (length path.now / 2) }
 {
     let n = path.len() / 2;
-    let mut i = 0;
-    while i < n {
-        if are_moved_within(orbiting, path[2 * i], path[2 * i + 1]) {
-            i += 1;
-        } else {
+    for i in 0..n {
+        if !are_moved_within(orbiting, path[2 * i], path[2 * i + 1]) {
             return false;
         }
     }
@@ -34,37 +34,36 @@ fn are_placed(orbiting: &[i32], path: &[i32]) -> bool
 }
 
 // The lengths of two polygons and of a path.
-fn lengths(stationary: &[i32], orbiting: &[i32], path: &[i32]) -> Refusal
-    ensures { result ≡ fault_of
+fn lengths(stationary: &[i32], orbiting: &[i32], path: &[i32]) -> Result<(), Refusal>
+    ensures { tested result ≡ fault_of
         (whole_polygon_extent stationary.now
         ∷ whole_polygon_extent orbiting.now
         ∷ whole_path_extent path.now
         ∷ []) }
 {
-    let last = fault(path.len(), 2, POINTS_LEAST, POINTS_MOST, 2);
-    first(polygon(stationary, 0), first(polygon(orbiting, 1), last))
+    polygon(stationary, 0)?;
+    polygon(orbiting, 1)?;
+    fault(path.len(), 2, POINTS_LEAST, POINTS_MOST, 2)
 }
 
 // The numbers of the polygons, and those of the orbiting one at each point of the path.
-fn path_numbers(stationary: &[i32], orbiting: &[i32], path: &[i32]) -> Refusal
-    ensures { result ≡ first_of
+fn path_numbers(stationary: &[i32], orbiting: &[i32], path: &[i32]) -> Result<(), Refusal>
+    ensures { tested result ≡ first_of
         (wrong_whole stationary.now
         ∷ wrong_whole orbiting.now
         ∷ wrong_place orbiting.now path.now
         ∷ []) }
 {
-    let places = unless(are_placed(orbiting, path), REFUSED_NUMBER, 0);
-    first(numbers(stationary), first(numbers(orbiting), places))
+    numbers(stationary)?;
+    numbers(orbiting)?;
+    unless(are_placed(orbiting, path), Refusal::Number)
 }
 
 // Two polygons and a path.
-pub fn whole_path(stationary: &[i32], orbiting: &[i32], path: &[i32]) -> Refusal
-    ensures { result ≡ of_whole_path stationary.now orbiting.now path.now }
+#[tactic(auto, using(refusals::proofs::Tests::refused), unfolding(crate::specs::Rows::of_whole_path))]
+pub fn whole_path(stationary: &[i32], orbiting: &[i32], path: &[i32]) -> Result<(), Refusal>
+    ensures { tested result ≡ of_whole_path stationary.now orbiting.now path.now }
 {
-    let no = lengths(stationary, orbiting, path);
-    if no.passed() {
-        path_numbers(stationary, orbiting, path)
-    } else {
-        no
-    }
+    lengths(stationary, orbiting, path)?;
+    path_numbers(stationary, orbiting, path)
 }

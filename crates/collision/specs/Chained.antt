@@ -1,5 +1,5 @@
 -- What the scan by chains of edges goes by. Definitions only.
-use Rattle.std.specs.Prelude.{ℕ, ◌≤◌, ◌<◌, ◌≡◌, List, length, T, Float}
+use Rattle.std.specs.Prelude.{ℕ, ◌≤◌, ◌<◌, ◌≡◌, List, length, T, None, Float}
 use Rattle.std.specs.Float.Ieee.{le}
 use Rattle.scalar.specs.Float.{f0·5}
 use Rattle.plane.specs.declared.Point.{Point}
@@ -7,11 +7,10 @@ use Rattle.ring.specs.Ring.{count}
 use Rattle.chains.specs.Chain.{Tabled}
 use Rattle.collision.specs.Ray.{edge_ray}
 use Rattle.collision.specs.declared.Sweep.{Sweep}
-use Rattle.collision.specs.declared.Ray.TheVariants.{Miss}
 
 -- the ray from o along d misses the edges from one on and below another
 abbrev pub MissesTo : List Float → Point → Float → Point → ℕ → ℕ → Type 0
-MissesTo es d tol o from to = (k : ℕ) → from ≤ k → k < to → edge_ray o d es k tol ≡ Miss
+MissesTo es d tol o from to = (k : ℕ) → from ≤ k → k < to → edge_ray o d es k tol ≡ None
 
 -- few enough edges and a small enough tolerance for chains
 pub record Few (es : List Float) (w : Sweep) : Type 0 where

@@ -1,5 +1,5 @@
 -- What the check of a move answers, over the pairs of both kinds in the order in which they are scanned. Definitions only.
-use Rattle.std.specs.Prelude.{ℕ, ◌<◌, ◌≡◌, ◌⊎◌, true, false, cond, List, eqb, Float}
+use Rattle.std.specs.Prelude.{ℕ, ◌<◌, ◌≡◌, ◌⊎◌, true, false, cond, List, eqb, Float, Option, Some, None}
 use Rattle.std.specs.Float.Ieee.{lt}
 use Rattle.scalar.specs.Float.{◌⊖◌}
 use Rattle.plane.specs.Vector.{length_of}
@@ -9,10 +9,7 @@ use Rattle.pairs.specs.Pairs.{pair, pair_of, vertex_pairs}
 use Rattle.pairs.specs.declared.Pair.{Pair}
 use Rattle.collision.specs.Ray.{edge_ray}
 use Rattle.collision.specs.Check.{sweep_of, back_of}
-use Rattle.collision.specs.declared.Ray.{Ray}
-use Rattle.collision.specs.declared.Ray.TheVariants.{At}
-use Rattle.collision.specs.declared.Collision.{Collision}
-use Rattle.collision.specs.declared.Collision.TheVariants.{Nothing, Hit}
+use Rattle.collision.specs.declared.Hit.{Hit}
 
 -- the pair with a number in scan order: first, orbiting vertex by orbiting vertex, the stationary edges; then, stationary vertex by
 -- stationary vertex, the orbiting edges
@@ -24,7 +21,7 @@ abbrev pub scans : List Float → List Float → ℕ
 scans st orb = vertex_pairs (count st) (count orb)
 
 -- the computed ray of a pair
-unfoldable pub ray_at : List Float → List Float → Point → Float → Pair → Ray
+unfoldable pub ray_at : List Float → List Float → Point → Float → Pair → Option Float
 ray_at st orb move tol p =
     let w = sweep_of move tol in
     cond (eqb p.kind 0)
@@ -34,7 +31,7 @@ ray_at st orb move tol p =
 -- the pair number k has a computed hit at d
 pub record Meets (st orb : List Float) (move : Point) (tol : Float) (k : ℕ) (d : Float) : Type 0 where
   pub scanned : k < scans st orb
-  pub at : ray_at st orb move tol (pair_no st orb k) ≡ At d
+  pub at : ray_at st orb move tol (pair_no st orb k) ≡ Some d
 
 -- and it lies strictly between the tolerance and the length less the tolerance
 pub record Blocks (st orb : List Float) (move : Point) (tol : Float) (k : ℕ) (d : Float) : Type 0 where
@@ -55,6 +52,6 @@ pub record NearestHit (st orb : List Float) (move : Point) (tol : Float) (d : Fl
   pub first : (j : ℕ) (e : Float) → j < number → Blocks st orb move tol j e → lt d e ≡ true
 
 -- the answer: nothing where the move is clear, and else the nearest hit
-pub data Told (st orb : List Float) (move : Point) (tol : Float) : Collision → Type 0 where
-  nothing : Clear st orb move tol → Told st orb move tol Nothing
-  hit : {d : Float} {k s o : ℕ} → (Clear st orb move tol → ⊥) → NearestHit st orb move tol d (pair k s o) → Told st orb move tol (Hit d k s o)
+pub data Told (st orb : List Float) (move : Point) (tol : Float) : Option Hit → Type 0 where
+  nothing : Clear st orb move tol → Told st orb move tol None
+  hit : {h : Hit} → (Clear st orb move tol → ⊥) → NearestHit st orb move tol h.distance (pair h.kind h.stationary h.orbiting) → Told st orb move tol (Some h)

@@ -1,10 +1,13 @@
 // The public call: check_translation_collision.
-ghost use Rattle.std.specs.Prelude.{◌≡◌};
-ghost use Rattle.collision.specs.Calls.{checked, collision_call};
+#![tactic(auto, using(refusals::proofs::Tests::refused))]
 
-use crate::answer::Checked;
+ghost use Rattle.std.specs.Prelude.{◌≡◌};
+ghost use Rattle.refusals.specs.Answers.{answered};
+ghost use Rattle.collision.specs.Calls.{collision_call};
+
+use crate::Hit;
 use plane::Point;
-use refusals::row;
+use refusals::{Refusal, row};
 
 // What orbiting, moved by translation, runs into first: nothing, or the hit's distance, its kind and both indices.
 pub fn check_translation_collision(
@@ -12,18 +15,9 @@ pub fn check_translation_collision(
     orbiting: &[f64],
     translation: Point,
     tolerance: f64,
-) -> Checked
-    ensures { checked result ≡ collision_call stationary.now orbiting.now translation tolerance }
+) -> Result<Option<Hit>, Refusal>
+    ensures { answered result ≡ collision_call stationary.now orbiting.now translation tolerance }
 {
-    let no = row::moving(stationary, orbiting, translation, tolerance);
-    if no.passed() {
-        Checked::Is(crate::check_translation_collision(
-            stationary,
-            orbiting,
-            translation,
-            tolerance,
-        ))
-    } else {
-        Checked::Refused(no)
-    }
+    row::moving(stationary, orbiting, translation, tolerance)?;
+    Ok(crate::check_translation_collision(stationary, orbiting, translation, tolerance))
 }

@@ -2,7 +2,6 @@
 // `nfp_sliding.rs`.
 #![tactic(auto)]
 
-pub mod answer;
 pub mod calls;
 
 ghost use Rattle.std.specs.Prelude.{◌≡◌, ◌&&◌, ◌≤◌, ◌<◌};
@@ -21,23 +20,14 @@ use plane::Point;
 use plane::vector::{cross, length, minus};
 use ring::{next, point_at};
 
-// A ray against a segment: it misses, or it meets the segment at a distance.
+// What a move runs into, and how far off it is. Kind 0 is a vertex of orbiting on an edge of stationary, kind 1 a vertex of stationary on
+// an edge of orbiting.
 #[derive(Clone, Copy)]
-pub enum Ray {
-    Miss,
-    At(f64),
-}
-
-// What a move runs into. Kind 0 is a vertex of orbiting on an edge of stationary, kind 1 a vertex of stationary on an edge of orbiting.
-#[derive(Clone, Copy)]
-pub enum Collision {
-    Nothing,
-    Hit {
-        distance: f64,
-        kind: u8,
-        stationary: usize,
-        orbiting: usize,
-    },
+pub struct Hit {
+    pub distance: f64,
+    pub kind: u8,
+    pub stationary: usize,
+    pub orbiting: usize,
 }
 
 // A sweep of rays: their direction, the distance below which a hit counts, and the tolerance above which it does.
@@ -60,13 +50,13 @@ fn within_segment(u: f64, tolerance: f64) -> bool
 }
 
 // The answer by the parameter along the ray, where the other is within the tolerance.
-fn in_front(t: f64, tolerance: f64) -> Ray
+fn in_front(t: f64, tolerance: f64) -> Option<f64>
     ensures { result ≡ in_front t tolerance }
 {
     if t >= -tolerance {
-        Ray::At(scalar::larger(t, 0.0))
+        Some(scalar::larger(t, 0.0))
     } else {
-        Ray::Miss
+        None
     }
 }
 
@@ -77,14 +67,14 @@ fn is_small(x: f64, tolerance: f64) -> bool
     if x < tolerance { -x < tolerance } else { false }
 }
 
-// How far along the ray from origin it meets the segment p1 p2.
+// How far along the ray from origin it meets the segment p1 p2, or nothing where it misses.
 pub fn ray_segment_intersection(
     origin: Point,
     dir: Point,
     p1: Point,
     p2: Point,
     tolerance: f64,
-) -> Ray
+) -> Option<f64>
     ensures { result ≡ ray_of origin dir p1 p2 tolerance }
 {
     let seg = minus(p2, p1);
@@ -92,16 +82,16 @@ pub fn ray_segment_intersection(
     let diff = minus(p1, origin);
     if within_segment(cross(diff, dir) / den, tolerance) {
         if is_small(den, tolerance) {
-            return Ray::Miss;
+            return None;
         }
         in_front(cross(diff, seg) / den, tolerance)
     } else {
-        Ray::Miss
+        None
     }
 }
 
 // The ray from origin against the edge e of a ring.
-pub fn edge_ray(origin: Point, dir: Point, ring: &[f64], e: usize, tolerance: f64) -> Ray
+pub fn edge_ray(origin: Point, dir: Point, ring: &[f64], e: usize, tolerance: f64) -> Option<f64>
     requires { e < count ring.now }
     ensures { result ≡ edge_ray origin dir ring.now e tolerance }
 {
@@ -111,27 +101,33 @@ pub fn edge_ray(origin: Point, dir: Point, ring: &[f64], e: usize, tolerance: f6
 }
 
 // A ray's hit where it counts: above the tolerance and below the limit.
-fn counted(ray: Ray, sweep: Sweep, kind: u8, stationary: usize, orbiting: usize) -> Collision
+fn counted(
+    ray: Option<f64>,
+    sweep: Sweep,
+    kind: u8,
+    stationary: usize,
+    orbiting: usize,
+) -> Option<Hit>
     ensures { result ≡ counted_of ray sweep kind stationary orbiting }
 {
-    let Ray::At(distance) = ray else {
-        return Collision::Nothing;
+    let Some(distance) = ray else {
+        return None;
     };
     if distance > sweep.tolerance {
         if distance < sweep.limit {
-            return Collision::Hit {
+            return Some(Hit {
                 distance,
                 kind,
                 stationary,
                 orbiting,
-            };
+            });
         }
     }
-    Collision::Nothing
+    None
 }
 
 // What a ray of the vertex v of one ring makes of the edge e of the other.
-pub fn pair(ray: Ray, sweep: Sweep, kind: u8, v: usize, e: usize) -> Collision
+pub fn pair(ray: Option<f64>, sweep: Sweep, kind: u8, v: usize, e: usize) -> Option<Hit>
     ensures { result ≡ pair_by ray sweep kind v e }
 {
     if kind == 0 {
@@ -142,19 +138,14 @@ pub fn pair(ray: Ray, sweep: Sweep, kind: u8, v: usize, e: usize) -> Collision
 }
 
 // The distance below which a hit is nearer than what was found: +infinity where that is nothing.
-fn least(best: Collision) -> f64
+#[tactic(auto, unfolding(crate::specs::Row::least_of))]
+fn least(best: Option<Hit>) -> f64
     ensures { result ≡ least_of best }
 {
-    let Collision::Hit {
-        distance: d,
-        kind: _,
-        stationary: _,
-        orbiting: _,
-    } = best
-    else {
-        return 1.0 / 0.0;
-    };
-    d
+    match best {
+        Some(hit) => hit.distance,
+        None => 1.0 / 0.0,
+    }
 }
 
 // Whether a hit at d counts and lies below a distance.
@@ -176,28 +167,22 @@ fn row(
     sweep: Sweep,
     kind: u8,
     v: usize,
-    before: Collision,
+    before: Option<Hit>,
     from: usize,
     to: usize,
-) -> Collision
+) -> Option<Hit>
     requires { (from ≤ to) × (to ≤ count edges.now) }
     ensures { Onward (pair_at origin edges.now sweep kind v) from to before result }
 {
     let mut best = before;
     let mut near = least(before);
-    let mut e = from;
-    while e < to {
+    for e in from..to {
         let ray = edge_ray(origin, sweep.dir, edges, e, sweep.tolerance);
-        if let Ray::At(d) = ray {
+        if let Some(d) = ray {
             if counts_below(d, sweep, near) {
-                best = pair(Ray::At(d), sweep, kind, v, e);
+                best = pair(ray, sweep, kind, v, e);
                 near = d;
-                e += 1;
-            } else {
-                e += 1;
             }
-        } else {
-            e += 1;
         }
     }
     best
@@ -211,21 +196,18 @@ fn chained_row(
     sweep: Sweep,
     kind: u8,
     v: usize,
-    before: Collision,
-) -> Collision
+    before: Option<Hit>,
+) -> Option<Hit>
     requires { Ready table.now edges.now sweep }
     ensures { Onward (pair_at origin edges.now sweep kind v) 0 (count edges.now) before result }
 {
     let m = edges.len() / 2;
     let mut best = before;
-    let mut e = 0;
-    while e < m {
-        let to = chain_end(e, m);
-        if is_passed(table, e / 8, origin, sweep.dir) {
-            e = to;
-        } else {
-            best = row(origin, edges, sweep, kind, v, best, e, to);
-            e = to;
+    for c in 0..m.div_ceil(8) {
+        if !is_passed(table, c, origin, sweep.dir) {
+            let from = 8 * c;
+            let to = chain_end(from, m);
+            best = row(origin, edges, sweep, kind, v, best, from, to);
         }
     }
     best
@@ -238,18 +220,16 @@ fn rows_by(
     table: &[f64],
     sweep: Sweep,
     kind: u8,
-    before: Collision,
-) -> Collision
+    before: Option<Hit>,
+) -> Option<Hit>
     requires { Ready table.now edges.now sweep }
     ensures { result ≡ scan_of vertices.now edges.now sweep kind before }
 {
     let n = vertices.len() / 2;
     let mut best = before;
-    let mut v = 0;
-    while v < n {
+    for v in 0..n {
         let origin = point_at(vertices, v);
         best = chained_row(origin, edges, table, sweep, kind, v, best);
-        v += 1;
     }
     best
 }
@@ -260,8 +240,8 @@ fn chained_scan(
     edges: &[f64],
     sweep: Sweep,
     kind: u8,
-    before: Collision,
-) -> Collision
+    before: Option<Hit>,
+) -> Option<Hit>
     requires { Few edges.now sweep }
     ensures { result ≡ scan_of vertices.now edges.now sweep kind before }
 {
@@ -276,24 +256,22 @@ fn plain_scan(
     edges: &[f64],
     sweep: Sweep,
     kind: u8,
-    before: Collision,
-) -> Collision
+    before: Option<Hit>,
+) -> Option<Hit>
     ensures { result ≡ scan_of vertices.now edges.now sweep kind before }
 {
     let n = vertices.len() / 2;
     let m = edges.len() / 2;
     let mut best = before;
-    let mut v = 0;
-    while v < n {
+    for v in 0..n {
         let origin = point_at(vertices, v);
         best = row(origin, edges, sweep, kind, v, best, 0, m);
-        v += 1;
     }
     best
 }
 
 // Each vertex of one ring against each edge of the other, from what was found before.
-fn scan(vertices: &[f64], edges: &[f64], sweep: Sweep, kind: u8, before: Collision) -> Collision
+fn scan(vertices: &[f64], edges: &[f64], sweep: Sweep, kind: u8, before: Option<Hit>) -> Option<Hit>
     ensures { result ≡ scan_of vertices.now edges.now sweep kind before }
 {
     if is_chained(edges.len() / 2, sweep.tolerance) {
@@ -319,11 +297,11 @@ pub fn back(sweep: Sweep) -> Sweep
 }
 
 // Both kinds of pair: orbiting vertices first, and then stationary vertices, which come the other way.
-fn both(stationary: &[f64], orbiting: &[f64], sweep: Sweep) -> Collision
+fn both(stationary: &[f64], orbiting: &[f64], sweep: Sweep) -> Option<Hit>
     ensures { result ≡ both_of stationary.now orbiting.now sweep }
 {
     let against = back(sweep);
-    let best = scan(orbiting, stationary, sweep, 0, Collision::Nothing);
+    let best = scan(orbiting, stationary, sweep, 0, None);
     scan(stationary, orbiting, against, 1, best)
 }
 
@@ -348,12 +326,12 @@ pub fn check_translation_collision(
     orbiting: &[f64],
     translation: Point,
     tolerance: f64,
-) -> Collision
+) -> Option<Hit>
     ensures { result ≡ collision_of stationary.now orbiting.now translation tolerance }
 {
     let len = length(translation);
     if len < tolerance {
-        return Collision::Nothing;
+        return None;
     }
     both(stationary, orbiting, rays(translation, len, tolerance))
 }

@@ -6,7 +6,7 @@ use mathlib.Core.List.{List, [], ◌∷◌}
 use native.Mathlib.Omega.{arith}
 use native.Mathlib.Numerals.{add-one}
 use Rattle.contacts.specs.Contacts.{picks, first_contact}
-use Rattle.contacts.specs.declared.Next.TheVariants.{Nothing, At}
+use Rattle.std.specs.Prelude.{Some, None}
 
 module _ (p : ℕ → Bool) (n : ℕ) where
   one_less : (k : ℕ) → k < n → n - k ≡ suc (n - (k + 1))
@@ -31,10 +31,10 @@ module _ (p : ℕ → Bool) (n : ℕ) where
     pub holds : p j ≡ true
     pub then : picks p k (n - k) ≡ j ∷ picks p (j + 1) (n - (j + 1))
 
-  pub found : (k j : ℕ) → first_contact (picks p k (n - k)) ≡ At j → Found k j
+  pub found : (k j : ℕ) → first_contact (picks p k (n - k)) ≡ Some j → Found k j
   found k j e = go (n - k) k refl e
     where
-      by : (b : Bool) (k : ℕ) → k < n → p k ≡ b → first_contact (picks p k (n - k)) ≡ At j → (first_contact (picks p (k + 1) (n - (k + 1))) ≡ At j → Found (k + 1) j) → Found k j
+      by : (b : Bool) (k : ℕ) → k < n → p k ≡ b → first_contact (picks p k (n - k)) ≡ Some j → (first_contact (picks p (k + 1) (n - (k + 1))) ≡ Some j → Found (k + 1) j) → Found k j
       by true k l t e more =
           let q : k ≡ j = cc (picks_on k l t) in
           rw (← q) (record { least = omega arith; below = l; holds = t; then = picks_on k l t })
@@ -42,13 +42,13 @@ module _ (p : ℕ → Bool) (n : ℕ) where
           let f = more (rw (picks_off k l t) at e) in
           record { least = omega (arith, f.least); below = f.below; holds = f.holds; then = picks_off k l t ∙ f.then }
 
-      go : (more k : ℕ) → n - k ≡ more → first_contact (picks p k (n - k)) ≡ At j → Found k j
+      go : (more k : ℕ) → n - k ≡ more → first_contact (picks p k (n - k)) ≡ Some j → Found k j
       go zero k z e = absurd (let q : ◌≡◌ {A = ℕ} 0 1 = cc (picks_end k (omega arith)) in omega arith)
       go (suc more) k z e = by (p k) k (omega arith) refl e (go more (k + 1) (omega arith))
 
-  pub none_left : (k : ℕ) → first_contact (picks p k (n - k)) ≡ Nothing → picks p k (n - k) ≡ []
+  pub none_left : (k : ℕ) → first_contact (picks p k (n - k)) ≡ None → picks p k (n - k) ≡ []
   none_left k e = go (picks p k (n - k)) refl e
     where
-      go : (l : List ℕ) → picks p k (n - k) ≡ l → first_contact l ≡ Nothing → l ≡ []
+      go : (l : List ℕ) → picks p k (n - k) ≡ l → first_contact l ≡ None → l ≡ []
       go [] q z = refl
       go (j ∷ l) q z = cc

@@ -4,17 +4,16 @@ use Prim.Native.Nat.{ℕ, zero, suc, ◌+◌, ◌*◌, ◌-◌, ◌/◌, ◌%◌
 use native.Mathlib.Omega.{arith}
 use native.Mathlib.Nat.{mod-eq_of_lt, mod-lt, mul_comm, div-add-mod', div-lt_iff_lt-mul}
 use mathlib.Core.Path.{◌≡◌, refl, sym, ap, ◌∙◌}
-use mathlib.Core.Bool.{Bool, true, false}
-use mathlib.Core.List.{List, []}
+use mathlib.Core.Bool.{Bool, false}
+use mathlib.Core.List.{List}
 use lib.Ieee.{Float}
 use Rattle.ring.specs.Ring.{count}
-use Rattle.pairs.specs.Pairs.{Sides, pair_count}
-use Rattle.pairs.proofs.Numbers.{some, at_first, at_later, div_of, mod_of}
+use Rattle.pairs.specs.Pairs.{Sides}
+use Rattle.pairs.proofs.Numbers.{at_first, at_later, div_of, mod_of}
 use Rattle.contacts.specs.Touching.{edges_of, touches_by, touching}
 use Rattle.contacts.specs.Contacts.{picks, touches_at, contacts_from, first_contact}
 use Rattle.contacts.specs.Rows.{FirstFrom, on_edge, along_edge, on_edge_at, along_edge_at}
-use Rattle.contacts.specs.declared.Next.{Next}
-use Rattle.contacts.specs.declared.Next.TheVariants.{Nothing, At}
+use Rattle.std.specs.Prelude.{Some, None}
 use Rattle.contacts.proofs.Picks.{picks_on, picks_off, picks_end}
 
 module _ (p : ℕ → Bool) (n : ℕ) where
@@ -33,7 +32,7 @@ module _ (p : ℕ → Bool) (n : ℕ) where
             let q : base + (x - base) ≡ x = omega (arith, g) in
             rw (← q) (same (x - base) (omega (arith, g, u, w.most)) ∙ w.clear (x - base) (omega (arith, g)) (omega (arith, g, u)))
 
-    pub region_hit : (r : ℕ) → r ≡ base + k → k < m → At r ≡ first_contact (picks p a (n - a))
+    pub region_hit : (r : ℕ) → r ≡ base + k → k < m → Some r ≡ first_contact (picks p a (n - a))
     region_hit r q h = rw (past, picks_on p n (base + k) (omega arith) (same k h ∙ w.hit h), q) refl
 
     pub region_end : (b : ℕ) → b ≡ base + m → m ≤ k → picks p a (n - a) ≡ picks p b (n - b)
@@ -76,7 +75,7 @@ module _ (st orb : List Float) (tol : Float) (d : Sides (count st) (count orb)) 
     rows_0 : FirstFrom (on_edge_at orb st tol) from each k
     rows_0 = rw (div-add-mod' from sn, mul_comm on sn) at w
 
-    pub first_hit : k < each → At k ≡ first_contact (contacts_from st orb tol from)
+    pub first_hit : k < each → Some k ≡ first_contact (contacts_from st orb tol from)
     first_hit h = region_hit (touches_at st orb tol) (3 * each) (on_edge_at orb st tol) 0 each from k from (omega arith) (omega arith) kind_0 rows_0 k (omega arith) h
 
     pub first_end : each ≤ k → contacts_from st orb tol from ≡ contacts_from st orb tol each
@@ -87,24 +86,24 @@ module _ (st orb : List Float) (tol : Float) (d : Sides (count st) (count orb)) 
     rows_1 : FirstFrom (on_edge_at st orb tol) (from - each) each k
     rows_1 = rw (div-add-mod' (from - each) on) at w
 
-    pub later_hit : k < each → At (each + k) ≡ first_contact (contacts_from st orb tol from)
+    pub later_hit : k < each → Some (each + k) ≡ first_contact (contacts_from st orb tol from)
     later_hit h = region_hit (touches_at st orb tol) (3 * each) (on_edge_at st orb tol) each each (from - each) k from (omega arith) (omega arith) kind_1 rows_1 (each + k) refl h
 
     pub later_end : each ≤ k → contacts_from st orb tol from ≡ contacts_from st orb tol (2 * each)
     later_end h = region_end (touches_at st orb tol) (3 * each) (on_edge_at st orb tol) each each (from - each) k from (omega arith) (omega arith) kind_1 rows_1 (2 * each) (omega arith) h
 
   -- stationary edges by orbiting edges
-  pub none_past : (from : ℕ) → 3 * each ≤ from → Nothing ≡ first_contact (contacts_from st orb tol from)
+  pub none_past : (from : ℕ) → 3 * each ≤ from → None ≡ first_contact (contacts_from st orb tol from)
   none_past from h = rw (picks_end (touches_at st orb tol) (3 * each) from h) refl
 
   module _ (from k : ℕ) (g : 2 * each ≤ from) (w : FirstFrom (along_edge_at st orb tol) ((from - 2 * each) / on * on + (from - 2 * each) % on) each k) where
     rows_2 : FirstFrom (along_edge_at st orb tol) (from - 2 * each) each k
     rows_2 = rw (div-add-mod' (from - 2 * each) on) at w
 
-    pub last_hit : k < each → At (2 * each + k) ≡ first_contact (contacts_from st orb tol from)
+    pub last_hit : k < each → Some (2 * each + k) ≡ first_contact (contacts_from st orb tol from)
     last_hit h = region_hit (touches_at st orb tol) (3 * each) (along_edge_at st orb tol) (2 * each) each (from - 2 * each) k from (omega arith) (omega arith) kind_2 rows_2 (2 * each + k) refl h
 
-    pub last_none : each ≤ k → Nothing ≡ first_contact (contacts_from st orb tol from)
+    pub last_none : each ≤ k → None ≡ first_contact (contacts_from st orb tol from)
     last_none h =
         none_past (3 * each) (omega arith)
         ∙ sym (ap first_contact (region_end (touches_at st orb tol) (3 * each) (along_edge_at st orb tol) (2 * each) each (from - 2 * each) k from (omega arith) (omega arith) kind_2 rows_2 (3 * each) (omega arith) h))

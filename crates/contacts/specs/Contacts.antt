@@ -1,10 +1,8 @@
 -- The contacts of two rings, by their pairs' numbers, in the order of these. Definitions only.
-use Rattle.std.specs.Prelude.{ℕ, zero, suc, ◌-◌, Bool, true, false, List, [], ◌∷◌, Float}
+use Rattle.std.specs.Prelude.{ℕ, zero, suc, ◌-◌, Bool, true, false, List, [], ◌∷◌, Option, Some, None, Float}
 use Rattle.ring.specs.Ring.{count}
 use Rattle.pairs.specs.Pairs.{pair_count, pair_of}
 use Rattle.contacts.specs.Touching.{touching, contact_point}
-use Rattle.contacts.specs.declared.Next.{Next}
-use Rattle.contacts.specs.declared.Next.TheVariants.{Nothing, At}
 
 abbrev pub cons_if : Bool → ℕ → List ℕ → List ℕ
 cons_if true k ks = k ∷ ks
@@ -35,9 +33,9 @@ some_of (k ∷ ks) = true
 abbrev pub has_contact : List Float → List Float → Float → Bool
 has_contact st orb tol = some_of (contacts_of st orb tol)
 
-abbrev pub first_contact : List ℕ → Next
-first_contact [] = Nothing
-first_contact (k ∷ ks) = At k
+abbrev pub first_contact : List ℕ → Option ℕ
+first_contact [] = None
+first_contact (k ∷ ks) = Some k
 
 -- per contact its point
 unfoldable pub points_of : List Float → List Float → List ℕ → List Float

@@ -1,6 +1,6 @@
 -- When a pair of two rings touches, and where, in the order of operations of `nfp_sliding.rs`. Definitions only.
 use Rattle.std.specs.Prelude.{ℕ, Bool, ◌&&◌, cond, List, eqb, Float}
-use Rattle.scalar.specs.Float.{◌⊕◌, ◌⊘◌, float, f2}
+use Rattle.scalar.specs.Float.{◌⊕◌, ◌⊘◌, f2}
 use Rattle.plane.specs.Vector.{point, minus_of, parallel_of}
 use Rattle.plane.specs.Segment.{near_segment_of}
 use Rattle.plane.specs.declared.Point.{Point}

@@ -32,13 +32,6 @@ pub struct Frames {
     pub orbiting: Frame,
 }
 
-// The first contact from a pair's number on.
-#[derive(Clone, Copy)]
-pub enum Next {
-    Nothing,
-    At(usize),
-}
-
 // The vertex at the end of the edge i.
 fn edge_end(ring: &[f64], i: usize) -> Point
     requires { i < count ring.now }
@@ -63,7 +56,13 @@ pub fn edges_of(stationary: &[f64], orbiting: &[f64], pair: Pair) -> Edges
 }
 
 // The first contact of two edges from the pair number `from` on.
-fn next_edges(stationary: &[f64], orbiting: &[f64], frames: Frames, tol: f64, from: usize) -> Next
+fn next_edges(
+    stationary: &[f64],
+    orbiting: &[f64],
+    frames: Frames,
+    tol: f64,
+    from: usize,
+) -> Option<usize>
     requires sides { Sides (count stationary.now) (count orbiting.now) }
     requires orbiting_bound { (vertex_pairs (count stationary.now) (count orbiting.now) ≤ from)
         × (from ≤ pair_count (count stationary.now) (count orbiting.now)) }
@@ -75,18 +74,20 @@ fn next_edges(stationary: &[f64], orbiting: &[f64], frames: Frames, tol: f64, fr
     if from < 3 * m {
         let j = from - 2 * m;
         let k = scan_edges(stationary, orbiting, frames.orbiting, j / on, j % on, tol);
-        if k < m {
-            Next::At(2 * m + k)
-        } else {
-            Next::Nothing
-        }
+        if k < m { Some(2 * m + k) } else { None }
     } else {
-        Next::Nothing
+        None
     }
 }
 
 // The first contact that is no orbiting vertex on a stationary edge, from the pair number `from` on.
-fn next_later(stationary: &[f64], orbiting: &[f64], frames: Frames, tol: f64, from: usize) -> Next
+fn next_later(
+    stationary: &[f64],
+    orbiting: &[f64],
+    frames: Frames,
+    tol: f64,
+    from: usize,
+) -> Option<usize>
     requires sides { Sides (count stationary.now) (count orbiting.now) }
     requires orbiting_bound { (count stationary.now * count orbiting.now ≤ from)
         × (from ≤ pair_count (count stationary.now) (count orbiting.now)) }
@@ -99,7 +100,7 @@ fn next_later(stationary: &[f64], orbiting: &[f64], frames: Frames, tol: f64, fr
         let j = from - m;
         let k = scan_vertices(stationary, orbiting, frames.orbiting, j / on, j % on, tol);
         if k < m {
-            return Next::At(m + k);
+            return Some(m + k);
         }
         return next_edges(stationary, orbiting, frames, tol, 2 * m);
     }
@@ -113,7 +114,7 @@ pub fn next_within(
     frames: Frames,
     tol: f64,
     from: usize,
-) -> Next
+) -> Option<usize>
     requires sides { Sides (count stationary.now) (count orbiting.now) }
     requires from_bound { from ≤ pair_count (count stationary.now) (count orbiting.now) }
     requires framed { Framed frames stationary.now orbiting.now }
@@ -131,7 +132,7 @@ pub fn next_within(
             tol,
         );
         if k < m {
-            return Next::At(k);
+            return Some(k);
         }
         return next_later(stationary, orbiting, frames, tol, m);
     }
@@ -150,7 +151,7 @@ pub fn frames_of(stationary: &[f64], orbiting: &[f64]) -> Frames
 }
 
 // The first contact from the pair number `from` on.
-pub fn next_contact(stationary: &[f64], orbiting: &[f64], tol: f64, from: usize) -> Next
+pub fn next_contact(stationary: &[f64], orbiting: &[f64], tol: f64, from: usize) -> Option<usize>
     requires sides { Sides (count stationary.now) (count orbiting.now) }
     requires from_bound { from ≤ pair_count (count stationary.now) (count orbiting.now) }
     ensures { result ≡ first_contact (contacts_from stationary.now orbiting.now tol from) }
@@ -169,8 +170,5 @@ pub fn has_contact(stationary: &[f64], orbiting: &[f64], tol: f64) -> bool
     requires { Sides (count stationary.now) (count orbiting.now) }
     ensures { result ≡ has_contact stationary.now orbiting.now tol }
 {
-    match next_contact(stationary, orbiting, tol, 0) {
-        Next::Nothing => false,
-        Next::At(_) => true,
-    }
+    next_contact(stationary, orbiting, tol, 0).is_some()
 }

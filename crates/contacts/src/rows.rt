@@ -29,14 +29,12 @@ fn near_edge(p: Point, ring: &[f64], from: usize, tol: f64) -> usize
 {
     let n = ring.len() / 2;
     let mut a = point_at(ring, from);
-    let mut i = from;
-    while i < n {
+    for i in from..n {
         let b = point_at(ring, next(i, n));
         if is_on(p, a, b, tol) {
             return i;
         }
         a = b;
-        i += 1;
     }
     n
 }
@@ -76,8 +74,7 @@ fn edge_along(a: Point, b: Point, ring: &[f64], from: usize, tol: f64) -> usize
     let n = ring.len() / 2;
     let mut c = point_at(ring, from);
     let mut starts = is_on(c, a, b, tol);
-    let mut i = from;
-    while i < n {
+    for i in from..n {
         let d = point_at(ring, next(i, n));
         let ends = is_on(d, a, b, tol);
         if aligned(starts, ends, a, b, c, d) {
@@ -85,7 +82,6 @@ fn edge_along(a: Point, b: Point, ring: &[f64], from: usize, tol: f64) -> usize
         }
         c = d;
         starts = ends;
-        i += 1;
     }
     n
 }
@@ -127,14 +123,12 @@ pub fn scan_vertices(
 {
     let vn = points.len() / 2;
     let en = ring.len() / 2;
-    let mut i = v;
     let mut from = e;
-    while i < vn {
+    for i in v..vn {
         let j = near_edge_within(point_at(points, i), ring, around, from, tol);
         if j < en {
             return i * en + j;
         }
-        i += 1;
         from = 0;
     }
     vn * en
@@ -157,16 +151,14 @@ pub fn scan_edges(
 {
     let sn = stationary.len() / 2;
     let on = orbiting.len() / 2;
-    let mut i = s;
     let mut from = o;
-    while i < sn {
+    for i in s..sn {
         let a = point_at(stationary, i);
         let b = point_at(stationary, next(i, sn));
         let j = edge_along_within(a, b, orbiting, around, from, tol);
         if j < on {
             return i * on + j;
         }
-        i += 1;
         from = 0;
     }
     sn * on

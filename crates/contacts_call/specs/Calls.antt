@@ -4,7 +4,7 @@ use Rattle.ring.specs.Room.{laid}
 use Rattle.refusals.specs.Refusals.{first_of}
 use Rattle.refusals.specs.Rows.{of_touching, of_rooms}
 use Rattle.refusals.specs.Answers.{Outcome, outcome, left}
-use Rattle.refusals.specs.declared.Refusal.{Refusal}
+use Rattle.refusals.specs.Refusals.{Told}
 use Rattle.contacts.specs.Contacts.{contacts_of, points_of}
 use Rattle.contacts_call.specs.Which.{entry, which_of}
 
@@ -12,7 +12,7 @@ abbrev pub contact_count : List Float → List Float → Float → ℕ
 contact_count st orb tol = length (contacts_of st orb tol)
 
 -- 1, 2, 3, then 5 where one of the two rooms is too short
-unfoldable pub find_refusal : List Float → List Float → Float → ℕ → ℕ → Refusal
+unfoldable pub find_refusal : List Float → List Float → Float → ℕ → ℕ → Told
 find_refusal st orb tol which points =
     let n = contact_count st orb tol in
     first_of (of_touching st orb tol ∷ of_rooms (entry * n) which (2 * n) points ∷ [])

@@ -4,18 +4,18 @@ ghost use Rattle.ring.specs.Ring.{count};
 ghost use Rattle.ring.specs.Room.{laid};
 ghost use Rattle.pairs.specs.Pairs.{Sides, Within};
 ghost use Rattle.refusals.specs.Rows.{of_rooms};
-ghost use Rattle.refusals.specs.Answers.{counted, outcome, left};
+ghost use Rattle.refusals.specs.Answers.{answered, outcome, left};
 ghost use Rattle.contacts.specs.Touching.{point_by, contact_point};
 ghost use Rattle.contacts.specs.Contacts.{contacts_of, points_of};
 ghost use Rattle.projection.specs.Foot.{foot_code};
 ghost use Rattle.contacts_call.specs.Which.{foot_by, contact_foot, entry, which_of};
 ghost use Rattle.contacts_call.specs.Calls.{contact_count};
 
-use contacts::{Edges, Next, edges_of, frames_of, next_within};
+use contacts::{Edges, edges_of, frames_of, next_within};
 use pairs::{Pair, pair_at};
 use plane::Point;
 use projection::foot::{Foot, foot_code, foot_of};
-use refusals::answer::Count;
+use refusals::Refusal;
 use refusals::row::rooms;
 
 // How many numbers a contact takes of those that say which it is: its kind, its stationary and its orbiting index, and its foot.
@@ -70,15 +70,11 @@ fn count_contacts(stationary: &[f64], orbiting: &[f64], tol: f64) -> usize
     let frames = frames_of(stationary, orbiting);
     let mut n = 0;
     let mut k = 0;
-    loop {
-        match next_within(stationary, orbiting, frames, tol, k) {
-            Next::Nothing => return n,
-            Next::At(j) => {
-                n += 1;
-                k = j + 1;
-            }
-        }
+    while let Some(j) = next_within(stationary, orbiting, frames, tol, k) {
+        n += 1;
+        k = j + 1;
     }
+    n
 }
 
 // A pair's kind and indices, and its foot's code, from at on.
@@ -123,31 +119,27 @@ fn write_contacts(
     let frames = frames_of(stationary, orbiting);
     let mut n = 0;
     let mut k = 0;
-    loop {
-        match next_within(stationary, orbiting, frames, tol, k) {
-            Next::Nothing => return,
-            Next::At(j) => {
-                let pair = pair_at(j, sn, on);
-                let foot = contact_foot(stationary, orbiting, pair);
-                put_pair(which, ENTRY * n, pair, foot);
-                put_point(points, 2 * n, contact_point(stationary, orbiting, pair));
-                n += 1;
-                k = j + 1;
-            }
-        }
+    while let Some(j) = next_within(stationary, orbiting, frames, tol, k) {
+        let pair = pair_at(j, sn, on);
+        let foot = contact_foot(stationary, orbiting, pair);
+        put_pair(which, ENTRY * n, pair, foot);
+        put_point(points, 2 * n, contact_point(stationary, orbiting, pair));
+        n += 1;
+        k = j + 1;
     }
 }
 
 // The contacts in the rooms, and how many there are, or the refusal of a room that is too short.
+#[tactic(auto, using(refusals::proofs::Tests::refused, crate::proofs::Screened::both_fit))]
 pub fn answer(
     stationary: &[f64],
     orbiting: &[f64],
     tol: f64,
     which: &mut [u64],
     points: &mut [f64],
-) -> Count
+) -> Result<usize, Refusal>
     requires { Sides (count stationary.now) (count orbiting.now) }
-    ensures { (counted result ≡ outcome
+    ensures { (answered result ≡ outcome
         (of_rooms (entry * contact_count stationary.now orbiting.now tol) (length which.old)
         (2 * contact_count stationary.now orbiting.now tol) (length points.old))
         (contact_count stationary.now orbiting.now tol))
@@ -165,10 +157,7 @@ pub fn answer(
         points.old) }
 {
     let n = count_contacts(stationary, orbiting, tol);
-    let no = rooms(ENTRY * n, which.len(), 2 * n, points.len());
-    if no.passed() {
-        write_contacts(stationary, orbiting, tol, which, points);
-        return Count::Is(n);
-    }
-    Count::Refused(no)
+    rooms(ENTRY * n, which.len(), 2 * n, points.len())?;
+    write_contacts(stationary, orbiting, tol, which, points);
+    Ok(n)
 }

@@ -26,10 +26,8 @@ pub fn fill(ring: &[f64], room: &mut [f64])
     ensures { Directed room.new ring.now }
 {
     let n = ring.len() / 2;
-    let mut i = 0;
-    while i < n {
+    for i in 0..n {
         put(room, i, normalize(edge(ring, i)));
-        i += 1;
     }
 }
 

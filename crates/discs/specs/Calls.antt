@@ -8,28 +8,28 @@ use Rattle.refusals.specs.Refusals.{refused_number, refused_quarter, unless, fir
 use Rattle.refusals.specs.Bounds.{finite}
 use Rattle.refusals.specs.Screens.{wrong_position, wrong_number, short_room}
 use Rattle.refusals.specs.Answers.{Outcome, outcome, left}
-use Rattle.refusals.specs.declared.Refusal.{Refusal}
+use Rattle.refusals.specs.Refusals.{Told}
 use Rattle.discs.specs.Disc.{quarter_ok, disc_of}
 
 -- finite, above 0
 abbrev pub radius_ok : Float → Bool
 radius_ok x = finite x && lt f0 x
 
-abbrev pub wrong_quarter : ℕ → Refusal
+abbrev pub wrong_quarter : ℕ → Told
 wrong_quarter m = unless (quarter_ok m) refused_quarter 0
 
-abbrev pub wrong_radius : Float → Refusal
+abbrev pub wrong_radius : Float → Told
 wrong_radius x = unless (radius_ok x) refused_number 0
 
 -- what is lent beside the room: 12, then 2
-unfoldable pub of_disc : Point → Float → ℕ → Refusal
+unfoldable pub of_disc : Point → Float → ℕ → Told
 of_disc centre radius m = first_of (wrong_quarter m ∷ wrong_radius radius ∷ wrong_position centre ∷ [])
 
 -- what is made of it: 2 for a vertex outside the bounds, then 4 where the vertices do not fit a room of so many numbers
-unfoldable pub of_vertices : Point → Float → ℕ → ℕ → Refusal
+unfoldable pub of_vertices : Point → Float → ℕ → ℕ → Told
 of_vertices centre radius m size = first_of (wrong_number (disc_of centre radius m) ∷ short_room (2 * (4 * m)) size ∷ [])
 
-unfoldable pub disc_refusal : Point → Float → ℕ → ℕ → Refusal
+unfoldable pub disc_refusal : Point → Float → ℕ → ℕ → Told
 disc_refusal centre radius m size = first_of (of_disc centre radius m ∷ of_vertices centre radius m size ∷ [])
 
 -- how many vertices the disc has

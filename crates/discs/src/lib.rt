@@ -82,9 +82,7 @@ fn draw(centre: Point, radius: f64, m: usize, room: &mut [f64])
     ensures { room.new ≡ laid (disc_of centre radius m) room.old }
 {
     let n = 4 * m;
-    let mut i = 0;
-    while i < n {
+    for i in 0..n {
         put(room, i, vertex(centre, radius, m, i));
-        i += 1;
     }
 }

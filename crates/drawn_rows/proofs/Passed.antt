@@ -2,7 +2,7 @@
 use Prim.Native.Nat.{ℕ, ◌/◌, ◌≤◌}
 use native.Mathlib.Omega.{arith}
 use mathlib.Core.Path.{◌≡◌, refl}
-use mathlib.Core.Bool.{Bool, true}
+use mathlib.Core.Bool.{true}
 use mathlib.Core.List.{List, [], ◌∷◌}
 use lib.ListN.{length}
 use lib.IntN.{ℤ}
@@ -10,9 +10,8 @@ use lib.Ieee.{Float}
 use borrow.Author.Tests.{leb-true}
 use Rattle.laws.proofs.Both.{both}
 use Rattle.ring.proofs.Each.{each_at}
-use Rattle.refusals.specs.Refusals.{refused_number, refused_setting, refused_grid, unless, passed, first}
+use Rattle.refusals.specs.Refusals.{none, refused_number, refused_setting, refused_grid, unless, passed, first}
 use Rattle.refusals.specs.Lists.{Extent, list_fault, fault_of, polygon_extent}
-use Rattle.refusals.specs.declared.Refusal.{Refusal}
 use Rattle.refusals.proofs.Sized.{Polygon, Fine, row_parts, holds, fine, is_polygon}
 use Rattle.whole_engine.specs.Rows.{all_in_bounds, wrong_whole}
 use Rattle.clear_path.specs.Rows.{is_placed}
@@ -39,12 +38,11 @@ module _ (xs ys : List Float) where
       (is_polygon xs (fine (polygon_extent xs) 0 p.0), is_polygon ys (fine (polygon_extent ys) 1 q.0), fine e 2 q.1)
 
   -- so the numbers may be tested
-  module _ {no : Refusal} {p : Bool} (h : p ≡ passed no) (t : p ≡ true) where
-    pub two_short : no ≡ fault_of (polygon_extent xs ∷ polygon_extent ys ∷ []) → length ys ≤ 512
-    two_short e = (two_fine (rw (← e, ← h) t)).1.most
+  pub two_short : none ≡ fault_of (polygon_extent xs ∷ polygon_extent ys ∷ []) → length ys ≤ 512
+  two_short h = (two_fine (rw (← h))).1.most
 
-    pub three_short : (e : Extent) → no ≡ fault_of (polygon_extent xs ∷ polygon_extent ys ∷ e ∷ []) → length ys ≤ 512
-    three_short e f = (three_fine e (rw (← f, ← h) t)).1.most
+  pub three_short : (e : Extent) → none ≡ fault_of (polygon_extent xs ∷ polygon_extent ys ∷ e ∷ []) → length ys ≤ 512
+  three_short e h = (three_fine e (rw (← h))).1.most
 
 -- ---- the numbers
 

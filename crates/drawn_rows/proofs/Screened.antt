@@ -1,22 +1,18 @@
 -- What the tests of the numbers tell: the code's order is that of the rows. Assumes nothing.
 use Prim.Native.Nat.{ℕ}
-use mathlib.Core.Path.{◌≡◌, refl, sym, ◌∙◌}
-use mathlib.Core.Bool.{Bool, true, false}
+use mathlib.Core.Path.{◌≡◌, refl}
+use mathlib.Core.Bool.{true, false}
 use mathlib.Core.List.{List}
-use lib.IntN.{ℤ}
 use lib.Ieee.{Float, nan, inf, fin}
 use Rattle.laws.proofs.Both.{both}
 use Rattle.refusals.specs.Bounds.{finite, every, all_finite}
-use Rattle.refusals.specs.Refusals.{refused_setting, refused_grid, none, refuse, unless, passed, first}
-use Rattle.refusals.specs.declared.Refusal.{Refusal}
+use Rattle.refusals.specs.Refusals.{none}
 use Rattle.refusals.proofs.Every.{every_at, every_of}
-use Rattle.refusals.proofs.First.{on, off, first_assoc}
-use Rattle.whole_engine.specs.Rows.{wrong_whole}
 use Rattle.to_grid.specs.Grid.{fits_grid}
-use Rattle.to_grid.specs.Calls.{units_ok, wrong_units}
+use Rattle.to_grid.specs.Calls.{units_ok}
 use Rattle.to_grid.proofs.Sized.{fits_finite}
 use Rattle.to_grid.proofs.Screened.{all_coordinates}
-use Rattle.drawn_rows.specs.Rows.{wrong_floats, disc_placed, all_on_grid, off_grid, drawn_numbers, how_ok, reason_numbers}
+use Rattle.drawn_rows.specs.Rows.{disc_placed, all_on_grid, drawn_numbers}
 
 -- ---- what fits the grid is finite
 
@@ -58,42 +54,3 @@ module _ (xs ys path : List Float) (n : ℕ) where
       let q = both _ _ p.1 in
       let r = both _ _ q.1 in
       rw (all_coordinates xs n u p.0, all_coordinates ys n u q.0, all_finite_lem n path r.0, u, h)
-
-  pub one_does_not : units_ok n ≡ true → all_on_grid n xs ys path ≡ false
-      → first (wrong_floats xs ys path) (refuse refused_grid 0) ≡ drawn_numbers xs ys path n
-  unfolding drawn_numbers
-  one_does_not u h = rw (u, h)
-
-  pub no_units : units_ok n ≡ false → first (wrong_floats xs ys path) (refuse refused_setting 0) ≡ drawn_numbers xs ys path n
-  unfolding drawn_numbers
-  no_units u = rw u
-
-  -- ---- and with lines
-
-  module _ (how : ℕ) (ls : List ℤ) {no : Refusal} {p : Bool} (e : no ≡ first (wrong_floats xs ys path) (wrong_whole ls))
-      (h : p ≡ passed no) where
-    abbrev number : Refusal
-    number = first (wrong_floats xs ys path) (wrong_whole ls)
-
-    abbrev rest : Refusal
-    rest = first (wrong_units n) (first (unless (how_ok how) refused_setting 0) (off_grid n xs ys path))
-
-    in_order : first number rest ≡ reason_numbers xs ys path n how ls
-    unfolding reason_numbers
-    in_order = first_assoc (wrong_floats xs ys path) (wrong_whole ls) rest
-
-    pub number_wrong : p ≡ false → no ≡ reason_numbers xs ys path n how ls
-    number_wrong t = e ∙ sym (off number rest e h t) ∙ in_order
-
-    module _ (t : p ≡ true) where
-      numbers_fine : rest ≡ reason_numbers xs ys path n how ls
-      numbers_fine = sym (on number rest e h t) ∙ in_order
-
-      pub units_wrong : units_ok n ≡ false → refuse refused_setting 0 ≡ reason_numbers xs ys path n how ls
-      units_wrong u = rw (← numbers_fine, u)
-
-      pub how_wrong : units_ok n ≡ true → how_ok how ≡ false → refuse refused_setting 0 ≡ reason_numbers xs ys path n how ls
-      how_wrong u k = rw (← numbers_fine, u, k)
-
-      pub grid_left : units_ok n ≡ true → how_ok how ≡ true → off_grid n xs ys path ≡ reason_numbers xs ys path n how ls
-      grid_left u k = rw (← numbers_fine, u, k)

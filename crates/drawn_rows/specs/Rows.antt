@@ -7,7 +7,7 @@ use Rattle.refusals.specs.Bounds.{every}
 use Rattle.refusals.specs.Refusals.{refused_setting, refused_grid, unless, first_of}
 use Rattle.refusals.specs.Lists.{Extent, fault_of, polygon_extent}
 use Rattle.refusals.specs.Screens.{wrong_number, wrong_infinite}
-use Rattle.refusals.specs.declared.Refusal.{Refusal}
+use Rattle.refusals.specs.Refusals.{Told}
 use Rattle.whole_engine.specs.Rows.{wrong_whole}
 use Rattle.clear_path.specs.Rows.{is_placed}
 use Rattle.to_grid.specs.Grid.{nearest, fits_grid}
@@ -25,7 +25,7 @@ lines_extent xs ls = record { width = 4; least = length xs / 2; most = length xs
 
 -- ---- 2: of two polygons and of positions
 
-abbrev pub wrong_floats : List Float → List Float → List Float → Refusal
+abbrev pub wrong_floats : List Float → List Float → List Float → Told
 wrong_floats xs ys path = first_of (wrong_number xs ∷ wrong_number ys ∷ wrong_infinite path ∷ [])
 
 -- ---- 14: of what is off the grid
@@ -43,21 +43,21 @@ unfoldable pub all_on_grid : ℕ → List Float → List Float → List Float �
 all_on_grid n xs ys path =
     every (fits_grid n) xs && (every (fits_grid n) ys && (every (fits_grid n) path && disc_placed n ys path))
 
-abbrev pub off_grid : ℕ → List Float → List Float → List Float → Refusal
+abbrev pub off_grid : ℕ → List Float → List Float → List Float → Told
 off_grid n xs ys path = unless (all_on_grid n xs ys path) refused_grid 0
 
 -- ---- the rows
 
 -- 2, 3 and 14 of two polygons and a path
-unfoldable pub drawn_numbers : List Float → List Float → List Float → ℕ → Refusal
+unfoldable pub drawn_numbers : List Float → List Float → List Float → ℕ → Told
 drawn_numbers xs ys path n = first_of (wrong_floats xs ys path ∷ wrong_units n ∷ off_grid n xs ys path ∷ [])
 
 -- two polygons, and a move from one position to another
-unfoldable pub of_drawn_move : List Float → List Float → List Float → ℕ → Refusal
+unfoldable pub of_drawn_move : List Float → List Float → List Float → ℕ → Told
 of_drawn_move xs ys path n = first_of (fault_of (polygon_extent xs ∷ polygon_extent ys ∷ []) ∷ drawn_numbers xs ys path n ∷ [])
 
 -- and a path, which is a list
-unfoldable pub of_drawn_path : List Float → List Float → List Float → ℕ → Refusal
+unfoldable pub of_drawn_path : List Float → List Float → List Float → ℕ → Told
 of_drawn_path xs ys path n =
     first_of (fault_of (polygon_extent xs ∷ polygon_extent ys ∷ drawn_path_extent path ∷ []) ∷ drawn_numbers xs ys path n ∷ [])
 
@@ -66,7 +66,7 @@ abbrev pub how_ok : ℕ → Bool
 how_ok how = leb how 20
 
 -- 2, 3 and 14 of a move and of lines for a disc put by `how`: the numbers of the lines are tested behind the floats
-unfoldable pub reason_numbers : List Float → List Float → List Float → ℕ → ℕ → List ℤ → Refusal
+unfoldable pub reason_numbers : List Float → List Float → List Float → ℕ → ℕ → List ℤ → Told
 reason_numbers xs ys path n how ls =
     first_of
     (wrong_floats xs ys path
@@ -76,6 +76,6 @@ reason_numbers xs ys path n how ls =
     ∷ off_grid n xs ys path
     ∷ [])
 
-unfoldable pub of_drawn_reason : List Float → List Float → List Float → ℕ → ℕ → List ℤ → Refusal
+unfoldable pub of_drawn_reason : List Float → List Float → List Float → ℕ → ℕ → List ℤ → Told
 of_drawn_reason xs ys path n how ls =
     first_of (fault_of (polygon_extent xs ∷ polygon_extent ys ∷ lines_extent xs ls ∷ []) ∷ reason_numbers xs ys path n how ls ∷ [])

@@ -5,13 +5,14 @@
 ghost use Rattle.std.specs.Prelude.{true, [], ◌∷◌, ◌≡◌, ◌/◌, ◌≤◌, length};
 ghost use Rattle.refusals.specs.Bounds.{every};
 ghost use Rattle.refusals.specs.Lists.{fault_of, polygon_extent};
+ghost use Rattle.refusals.specs.Answers.{tested};
 ghost use Rattle.to_grid.specs.Grid.{fits_grid};
 ghost use Rattle.drawn_rows.specs.Rows.{drawn_path_extent, lines_extent, wrong_floats, disc_placed, all_on_grid};
 ghost use Rattle.drawn_rows.specs.Rows.{drawn_numbers, of_drawn_move, of_drawn_path, of_drawn_reason, reason_numbers};
 
 use refusals::lists::{fault, polygon};
-use refusals::screen::{finite_numbers, first, numbers, unless};
-use refusals::{POINTS_MOST, REFUSED_GRID, REFUSED_SETTING, Refusal};
+use refusals::screen::{finite_numbers, numbers, unless};
+use refusals::{POINTS_MOST, Refusal};
 use to_grid::{are_units, are_within, lay, on_grid};
 use whole_moves::are_moved_within;
 
@@ -31,13 +32,10 @@ fn is_placed(orbiting: &[f64], path: &[f64], units: u32) -> bool
     lay(orbiting, units, &mut disc);
     let m = orbiting.len();
     let n = path.len() / 2;
-    let mut i = 0;
-    while i < n {
+    for i in 0..n {
         let x = on_grid(path[2 * i], units);
         let y = on_grid(path[2 * i + 1], units);
-        if are_moved_within(&disc[..m], x, y) {
-            i += 1;
-        } else {
+        if !are_moved_within(&disc[..m], x, y) {
             return false;
         }
     }
@@ -62,32 +60,39 @@ fn fits_grid(stationary: &[f64], orbiting: &[f64], path: &[f64], units: u32) -> 
 }
 
 // The floats, with refusal 2.
-fn floats(stationary: &[f64], orbiting: &[f64], path: &[f64]) -> Refusal
-    ensures { result ≡ wrong_floats stationary.now orbiting.now path.now }
+#[tactic(auto, using(refusals::proofs::Tests::refused))]
+fn floats(stationary: &[f64], orbiting: &[f64], path: &[f64]) -> Result<(), Refusal>
+    ensures { tested result ≡ wrong_floats stationary.now orbiting.now path.now }
 {
-    let positions = finite_numbers(path);
-    first(numbers(stationary), first(numbers(orbiting), positions))
+    numbers(stationary)?;
+    numbers(orbiting)?;
+    finite_numbers(path)
 }
 
 // 2, 3 and 14. What fits the grid is a coordinate, so the lists are gone through once where nothing is refused.
-fn drawn_numbers(stationary: &[f64], orbiting: &[f64], path: &[f64], units: u32) -> Refusal
+#[tactic(auto, using(crate::proofs::Screened::all_fit, to_grid::proofs::Screened::units_are, refusals::proofs::Tests::refused), unfolding(crate::specs::Rows::drawn_numbers))]
+fn drawn_numbers(
+    stationary: &[f64],
+    orbiting: &[f64],
+    path: &[f64],
+    units: u32,
+) -> Result<(), Refusal>
     requires { length orbiting.now ≤ 512 }
-    ensures { result ≡ drawn_numbers stationary.now orbiting.now path.now units }
+    ensures { tested result ≡ drawn_numbers stationary.now orbiting.now path.now units }
 {
-    if are_units(units) {
-        if fits_grid(stationary, orbiting, path, units) {
-            Refusal::none()
-        } else {
-            let no = floats(stationary, orbiting, path);
-            first(no, Refusal::new(REFUSED_GRID, 0))
-        }
-    } else {
-        let no = floats(stationary, orbiting, path);
-        first(no, Refusal::new(REFUSED_SETTING, 0))
+    if !are_units(units) {
+        floats(stationary, orbiting, path)?;
+        return Err(Refusal::Setting);
     }
+    if fits_grid(stationary, orbiting, path, units) {
+        return Ok(());
+    }
+    floats(stationary, orbiting, path)?;
+    Err(Refusal::Grid)
 }
 
 // The same with lines, whose numbers are tested behind the floats, and with `how` behind the units.
+#[tactic(auto, using(to_grid::proofs::Screened::units_are, refusals::proofs::Tests::refused), unfolding(crate::specs::Rows::reason_numbers))]
 fn reason_numbers(
     stationary: &[f64],
     orbiting: &[f64],
@@ -95,88 +100,84 @@ fn reason_numbers(
     units: u32,
     how: u32,
     lines: &[i32],
-) -> Refusal
+) -> Result<(), Refusal>
     requires { length orbiting.now ≤ 512 }
-    ensures { result ≡ reason_numbers stationary.now orbiting.now path.now units how
+    ensures { tested result ≡ reason_numbers stationary.now orbiting.now path.now units how
         lines.now }
 {
-    let no = first(
-        floats(stationary, orbiting, path),
-        whole_engine::row::numbers(lines),
-    );
-    if !no.passed() {
-        return no;
-    }
-    if !are_units(units) {
-        return Refusal::new(REFUSED_SETTING, 0);
-    }
-    if how > HOW_MOST {
-        return Refusal::new(REFUSED_SETTING, 0);
-    }
-    unless(
-        fits_grid(stationary, orbiting, path, units),
-        REFUSED_GRID,
-        0,
-    )
+    floats(stationary, orbiting, path)?;
+    whole_engine::row::numbers(lines)?;
+    unless(are_units(units), Refusal::Setting)?;
+    unless(how <= HOW_MOST, Refusal::Setting)?;
+    unless(fits_grid(stationary, orbiting, path, units), Refusal::Grid)
 }
 
 // The lengths of two polygons.
-fn lengths(stationary: &[f64], orbiting: &[f64]) -> Refusal
-    ensures { result ≡ fault_of (polygon_extent stationary.now ∷ polygon_extent orbiting.now ∷ []) }
+#[tactic(auto, using(refusals::proofs::Tests::refused))]
+fn lengths(stationary: &[f64], orbiting: &[f64]) -> Result<(), Refusal>
+    ensures { tested result ≡ fault_of (polygon_extent stationary.now ∷ polygon_extent orbiting.now ∷ []) }
 {
-    first(polygon(stationary, 0), polygon(orbiting, 1))
+    polygon(stationary, 0)?;
+    polygon(orbiting, 1)
 }
 
 // And of a path.
-fn path_lengths(stationary: &[f64], orbiting: &[f64], path: &[f64]) -> Refusal
-    ensures { result ≡ fault_of
+#[tactic(auto, using(refusals::proofs::Tests::refused))]
+fn path_lengths(stationary: &[f64], orbiting: &[f64], path: &[f64]) -> Result<(), Refusal>
+    ensures { tested result ≡ fault_of
         (polygon_extent stationary.now
         ∷ polygon_extent orbiting.now
         ∷ drawn_path_extent path.now
         ∷ []) }
 {
-    let last = fault(path.len(), 2, POINTS_LEAST, POINTS_MOST, 2);
-    first(polygon(stationary, 0), first(polygon(orbiting, 1), last))
+    lengths(stationary, orbiting)?;
+    fault(path.len(), 2, POINTS_LEAST, POINTS_MOST, 2)
 }
 
 // And of lines, four numbers for each edge of the stationary polygon.
-fn reason_lengths(stationary: &[f64], orbiting: &[f64], lines: &[i32]) -> Refusal
-    ensures { result ≡ fault_of
+#[tactic(auto, using(refusals::proofs::Tests::refused))]
+fn reason_lengths(stationary: &[f64], orbiting: &[f64], lines: &[i32]) -> Result<(), Refusal>
+    ensures { tested result ≡ fault_of
         (polygon_extent stationary.now
         ∷ polygon_extent orbiting.now
         ∷ lines_extent stationary.now lines.now
         ∷ []) }
 {
+    lengths(stationary, orbiting)?;
     let edges = stationary.len() / 2;
-    let last = fault(lines.len(), 4, edges, edges, 2);
-    first(polygon(stationary, 0), first(polygon(orbiting, 1), last))
+    fault(lines.len(), 4, edges, edges, 2)
 }
 
 // Two polygons and a move.
-pub fn drawn_move(stationary: &[f64], orbiting: &[f64], path: &[f64], units: u32) -> Refusal
-    ensures { result ≡ of_drawn_move stationary.now orbiting.now path.now units }
+#[tactic(auto, using(crate::proofs::Passed::two_short, refusals::proofs::Tests::refused), unfolding(crate::specs::Rows::of_drawn_move))]
+pub fn drawn_move(
+    stationary: &[f64],
+    orbiting: &[f64],
+    path: &[f64],
+    units: u32,
+) -> Result<(), Refusal>
+    ensures { tested result ≡ of_drawn_move stationary.now orbiting.now path.now units }
 {
-    let no = lengths(stationary, orbiting);
-    if no.passed() {
-        drawn_numbers(stationary, orbiting, path, units)
-    } else {
-        no
-    }
+    lengths(stationary, orbiting)?;
+    drawn_numbers(stationary, orbiting, path, units)
 }
 
 // Two polygons and a path.
-pub fn drawn_path(stationary: &[f64], orbiting: &[f64], path: &[f64], units: u32) -> Refusal
-    ensures { result ≡ of_drawn_path stationary.now orbiting.now path.now units }
+#[tactic(auto, using(crate::proofs::Passed::three_short, refusals::proofs::Tests::refused), unfolding(crate::specs::Rows::of_drawn_path))]
+pub fn drawn_path(
+    stationary: &[f64],
+    orbiting: &[f64],
+    path: &[f64],
+    units: u32,
+) -> Result<(), Refusal>
+    ensures { tested result ≡ of_drawn_path stationary.now orbiting.now path.now units }
 {
-    let no = path_lengths(stationary, orbiting, path);
-    if no.passed() {
-        drawn_numbers(stationary, orbiting, path, units)
-    } else {
-        no
-    }
+    path_lengths(stationary, orbiting, path)?;
+    drawn_numbers(stationary, orbiting, path, units)
 }
 
 // Two polygons, a move, and lines for a disc put by `how`.
+#[tactic(auto, using(crate::proofs::Passed::three_short, refusals::proofs::Tests::refused), unfolding(crate::specs::Rows::of_drawn_reason))]
 pub fn drawn_reason(
     stationary: &[f64],
     orbiting: &[f64],
@@ -184,14 +185,10 @@ pub fn drawn_reason(
     units: u32,
     how: u32,
     lines: &[i32],
-) -> Refusal
-    ensures { result ≡ of_drawn_reason stationary.now orbiting.now path.now units how
+) -> Result<(), Refusal>
+    ensures { tested result ≡ of_drawn_reason stationary.now orbiting.now path.now units how
         lines.now }
 {
-    let no = reason_lengths(stationary, orbiting, lines);
-    if no.passed() {
-        reason_numbers(stationary, orbiting, path, units, how, lines)
-    } else {
-        no
-    }
+    reason_lengths(stationary, orbiting, lines)?;
+    reason_numbers(stationary, orbiting, path, units, how, lines)
 }

@@ -17,7 +17,6 @@ use lines::put_number;
 use number_bytes::{float_of, number8};
 use plane::Point;
 use refusals::RINGS_MOST;
-use refusals::answer::Count;
 use say::put_explained;
 use std::io;
 use std::io::Read;
@@ -90,7 +89,7 @@ fn put_book(book: &[u8], translation: Point, tolerance: f64, out: &mut [u8]) -> 
     let mut counts = [0u32; RINGS_MOST];
     let mut parts = [0u32; RINGS_MOST];
     match read_book(book, &mut room, &mut counts, &mut parts) {
-        Count::Is(_) => put_rings(
+        Ok(_) => put_rings(
             &room,
             counts[0] as usize,
             counts[1] as usize,
@@ -98,7 +97,7 @@ fn put_book(book: &[u8], translation: Point, tolerance: f64, out: &mut [u8]) -> 
             tolerance,
             out,
         ),
-        Count::Refused(no) => put_number(no.number, out),
+        Err(no) => put_number(no.number(), out),
     }
 }
 

@@ -4,12 +4,12 @@ ghost use Rattle.print.specs.Text.{Put};
 ghost use Rattle.grounds.specs.Calls.{account, explained};
 ghost use Rattle.explain_move.specs.Lines.{hit_front, hit_line, clear_line, found_line, outcome_line};
 
-use collision::Collision;
+use collision::Hit;
 use grounds::Explanation;
-use grounds::answer::Explained;
 use lines::put_number;
 use number_bytes::bits_of;
 use print::{put_decimal, put_hex, put_text};
+use refusals::Refusal;
 
 // The front of a hit's line: the kind and the indices.
 fn put_front(kind: u8, stationary: usize, orbiting: usize, out: &mut [u8]) -> usize
@@ -26,20 +26,12 @@ fn put_front(kind: u8, stationary: usize, orbiting: usize, out: &mut [u8]) -> us
 }
 
 // A hit's line.
-fn put_hit(
-    distance: f64,
-    kind: u8,
-    stationary: usize,
-    orbiting: usize,
-    others: u64,
-    out: &mut [u8],
-) -> usize
+fn put_hit(hit: Hit, others: u64, out: &mut [u8]) -> usize
     requires { 120 ≤ length out.old }
-    ensures { Put out.old 0
-        (hit_line (record { distance = distance; kind = kind; stationary = stationary; orbiting = orbiting }) others) out.new result }
+    ensures { Put out.old 0 (hit_line hit others) out.new result }
 {
-    let a = put_front(kind, stationary, orbiting, out);
-    let b = put_hex(out, a, bits_of(distance));
+    let a = put_front(hit.kind, hit.stationary, hit.orbiting, out);
+    let b = put_hex(out, a, bits_of(hit.distance));
     let c = put_text(out, b, b" ");
     let d = put_decimal(out, c, others);
     put_text(out, d, b"\n")
@@ -62,25 +54,19 @@ fn put_explanation(x: Explanation, out: &mut [u8]) -> usize
 {
     let ground = x.ground;
     let tally = x.tally;
-    let best = tally.best;
-    match best {
-        Collision::Nothing => put_clear(ground.number(), out),
-        Collision::Hit {
-            distance,
-            kind,
-            stationary,
-            orbiting,
-        } => put_hit(distance, kind, stationary, orbiting, tally.others, out),
+    match tally.best {
+        None => put_clear(ground.number(), out),
+        Some(hit) => put_hit(hit, tally.others, out),
     }
 }
 
 // What the call answered.
-pub fn put_explained(answer: Explained, out: &mut [u8]) -> usize
+pub fn put_explained(answer: Result<Explanation, Refusal>, out: &mut [u8]) -> usize
     requires { 120 ≤ length out.old }
     ensures { Put out.old 0 (outcome_line (explained answer)) out.new result }
 {
     match answer {
-        Explained::Is(x) => put_explanation(x, out),
-        Explained::Refused(no) => put_number(no.number, out),
+        Ok(x) => put_explanation(x, out),
+        Err(no) => put_number(no.number(), out),
     }
 }

@@ -140,12 +140,10 @@ pub fn frame_of(ring: &[f64]) -> Frame
     let n = ring.len() / 2;
     let mut a = point_at(ring, 0);
     let mut q = frame_at(a);
-    let mut i = 0;
-    while i < n {
+    for i in 0..n {
         let b = point_at(ring, next(i, n));
         q = with_edge(q, a, b);
         a = b;
-        i += 1;
     }
     q
 }

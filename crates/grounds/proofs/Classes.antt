@@ -28,8 +28,7 @@ use Rattle.collision.specs.Ray.{ray_within, ray_of, edge_ray}
 use Rattle.collision.specs.Check.{back_of, sweep_of}
 use Rattle.collision.specs.Nearest.{pair_no, scans, ray_at, Meets}
 use Rattle.collision.specs.declared.Sweep.{Sweep}
-use Rattle.collision.specs.declared.Ray.{Ray}
-use Rattle.collision.specs.declared.Ray.TheVariants.{Miss, At}
+use Rattle.std.specs.Prelude.{Option, Some, None}
 use Rattle.grounds.specs.Classes.{too_near, in_between, too_far, hit_is, hit_at, how_many}
 use Rattle.grounds.specs.Grounds.{any}
 
@@ -55,22 +54,22 @@ larger_real nan h = no_bool h
 larger_real (inf s) h = either_real (ahead (inf s) f0) f0 (inf s) refl refl
 larger_real (fin s m e) h = either_real (ahead (fin s m e) f0) f0 (fin s m e) refl refl
 
-within_real : (t u tol d : Float) → ray_within t u tol ≡ At d → is_nan d ≡ false
+within_real : (t u tol d : Float) → ray_within t u tol ≡ Some d → is_nan d ≡ false
 unfolding ray_within
 within_real t u tol d h = go (le (neg tol) t) _ refl h
   where
-    go : (a b : Bool) → le (neg tol) t ≡ a → cond (a && b) (At (larger_of t f0)) Miss ≡ At d → is_nan d ≡ false
+    go : (a b : Bool) → le (neg tol) t ≡ a → cond (a && b) (Some (larger_of t f0)) None ≡ Some d → is_nan d ≡ false
     go false b x q = no_bool (let z : true ≡ false = cc in z)
     go true false x q = no_bool (let z : true ≡ false = cc in z)
     go true true x q =
         let same : larger_of t f0 ≡ d = cc in
         rw (← same) (larger_real t (above_real (neg tol) t x))
 
-or_miss : (b : Bool) (t u tol d : Float) → cond b Miss (ray_within t u tol) ≡ At d → is_nan d ≡ false
+or_miss : (b : Bool) (t u tol d : Float) → cond b None (ray_within t u tol) ≡ Some d → is_nan d ≡ false
 or_miss true t u tol d h = no_bool (let z : true ≡ false = cc in z)
 or_miss false t u tol d h = within_real t u tol d h
 
-edge_real : (o d : Point) (r : List Float) (e : ℕ) (tol far : Float) → edge_ray o d r e tol ≡ At far → is_nan far ≡ false
+edge_real : (o d : Point) (r : List Float) (e : ℕ) (tol far : Float) → edge_ray o d r e tol ≡ Some far → is_nan far ≡ false
 unfolding edge_ray ray_of
 edge_real o d r e tol far h =
     let p = point_at r e in
@@ -80,14 +79,14 @@ edge_real o d r e tol far h =
     or_miss (lt (abs_of den) tol) (cross_of diff seg ⊘ den) (cross_of diff d ⊘ den) tol far h
 
 module _ (st orb : List Float) (move : Point) (tol : Float) where
-  pub distance_real : (p : Pair) (d : Float) → ray_at st orb move tol p ≡ At d → is_nan d ≡ false
+  pub distance_real : (p : Pair) (d : Float) → ray_at st orb move tol p ≡ Some d → is_nan d ≡ false
   unfolding ray_at
   distance_real p d h = go (eqb p.kind 0) h
     where
       go : (b : Bool)
           → cond b (edge_ray (point_at orb p.orbiting) (sweep_of move tol).dir st p.stationary tol)
           (edge_ray (point_at st p.stationary) (back_of (sweep_of move tol)).dir orb p.orbiting tol)
-          ≡ At d
+          ≡ Some d
           → is_nan d ≡ false
       go true k = edge_real (point_at orb p.orbiting) (sweep_of move tol).dir st p.stationary tol d k
       go false k = edge_real (point_at st p.stationary) (back_of (sweep_of move tol)).dir orb p.orbiting tol d k
@@ -200,11 +199,11 @@ once a b c the_first = refl
 once a b c the_second = refl
 once a b c the_third = refl
 
-ray_once : (w : Sweep) (ray : Ray) → ((d : Float) → ray ≡ At d → OneOf (too_near w d) (in_between w d) (too_far w d))
+ray_once : (w : Sweep) (ray : Option Float) → ((d : Float) → ray ≡ Some d → OneOf (too_near w d) (in_between w d) (too_far w d))
     → ◌≡◌ {A = ℕ} (cond (hit_is (too_near w) ray) 1 0 + cond (hit_is (in_between w) ray) 1 0 + cond (hit_is (too_far w) ray) 1 0) (cond (hit_is any ray) 1 0)
 unfolding hit_is
-ray_once w Miss h = refl
-ray_once w (At d) h = once (too_near w d) (in_between w d) (too_far w d) (h d refl)
+ray_once w None h = refl
+ray_once w (Some d) h = once (too_near w d) (in_between w d) (too_far w d) (h d refl)
 
 -- without any premise: where one of the three holds, the other two do not
 pub record Apart (a b c : Bool) : Type 0 where

@@ -7,32 +7,30 @@ use mathlib.Core.Bool.{Bool, true, false, cond}
 use mathlib.Core.List.{List}
 use lib.Dec.{eqb}
 use lib.Ieee.{Float, lt, eq}
+use Rattle.std.specs.Prelude.{Option, Some, None}
 use Rattle.ring.specs.Ring.{count}
 use Rattle.laws.specs.FirstBest.{better}
 use Rattle.laws.specs.Turns.{turns, turn_rows}
 use Rattle.laws.proofs.Turns.{rows_flat}
 use Rattle.collision.specs.Hit.{counted_of, nearer}
 use Rattle.collision.specs.declared.Sweep.{Sweep}
-use Rattle.collision.specs.declared.Ray.{Ray}
-use Rattle.collision.specs.declared.Ray.TheVariants.{Miss}
-use Rattle.collision.specs.declared.Collision.{Collision}
-use Rattle.collision.specs.declared.Collision.TheVariants.{Nothing, Hit}
+use Rattle.collision.specs.declared.Hit.{Hit}
 use Rattle.grounds.specs.Classes.{too_near, in_between, too_far, hit_is}
 use Rattle.grounds.specs.Scan.{kind_most, pairs_most, AtMost, others_after, noted_of, pair_noted}
 use Rattle.grounds.specs.declared.Tally.{Tally}
 
 -- ---- a miss
 
-missed_by : (t : Tally) (c : Collision) → c ≡ Nothing
+missed_by : (t : Tally) (c : Option Hit) → c ≡ None
     → t ≡ record { best = better nearer t.best c; others = others_after t.others t.best c; near = t.near + 0; between = t.between + 0; far = t.far + 0 }
 unfolding better nearer others_after
 missed_by t c h = rw (h, add-zero t.near, add-zero t.between, add-zero t.far)
 
-either : (b : Bool) → cond b Nothing Nothing ≡ Nothing
+either : (b : Bool) → ◌≡◌ {A = Option Hit} (cond b None None) None
 either true = refl
 either false = refl
 
-pub missed : (w : Sweep) (kind : ℕ) (t : Tally) (v e : ℕ) → t ≡ noted_of w kind t v e Miss
+pub missed : (w : Sweep) (kind : ℕ) (t : Tally) (v e : ℕ) → t ≡ noted_of w kind t v e None
 unfolding noted_of counted_of hit_is
 missed w kind t v e = missed_by t _ (either (eqb kind 0))
 
@@ -42,17 +40,17 @@ one_most : (n m : ℕ) (b : Bool) → n ≤ m → n + cond b 1 0 ≤ m + 1
 one_most n m true h = omega arith
 one_most n m false h = omega arith
 
-others_most : (n m : ℕ) (best new : Collision) → n ≤ m → others_after n best new ≤ m + 1
+others_most : (n m : ℕ) (best new : Option Hit) → n ≤ m → others_after n best new ≤ m + 1
 unfolding others_after
-others_most n m best Nothing h = omega arith
-others_most n m Nothing (Hit e l t p) h = omega arith
-others_most n m (Hit d k s o) (Hit e l t p) h = go (lt e d)
+others_most n m best None h = omega arith
+others_most n m None (Some y) h = omega arith
+others_most n m (Some x) (Some y) h = go (lt y.distance x.distance)
   where
-    go : (b : Bool) → cond b 0 (n + cond (eq e d) 1 0) ≤ m + 1
+    go : (b : Bool) → cond b 0 (n + cond (eq y.distance x.distance) 1 0) ≤ m + 1
     go true = omega arith
-    go false = one_most n m (eq e d) h
+    go false = one_most n m (eq y.distance x.distance) h
 
-noted_most : (w : Sweep) (kind : ℕ) (t : Tally) (v e : ℕ) (ray : Ray) (m : ℕ) → AtMost t m → AtMost (noted_of w kind t v e ray) (m + 1)
+noted_most : (w : Sweep) (kind : ℕ) (t : Tally) (v e : ℕ) (ray : Option Float) (m : ℕ) → AtMost t m → AtMost (noted_of w kind t v e ray) (m + 1)
 unfolding noted_of
 noted_most w kind t v e ray m h =
     record {

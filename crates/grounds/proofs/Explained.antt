@@ -3,11 +3,12 @@ use Prim.Native.Nat.{ℕ}
 use mathlib.Core.Path.{◌≡◌, sym, ◌∙◌}
 use mathlib.Core.List.{List}
 use lib.Ieee.{Float}
+use Rattle.std.specs.Prelude.{Option}
 use Rattle.plane.specs.declared.Point.{Point}
 use Rattle.laws.specs.Turns.{turns}
 use Rattle.collision.specs.Check.{sweep_of, both_of}
 use Rattle.collision.specs.Nearest.{scans}
-use Rattle.collision.specs.declared.Collision.{Collision}
+use Rattle.collision.specs.declared.Hit.{Hit}
 use Rattle.collision.proofs.Pairs.{numbered}
 use Rattle.grounds.specs.Classes.{too_near, in_between, too_far, how_many}
 use Rattle.grounds.specs.Scan.{no_tally, both_noted}
@@ -16,7 +17,7 @@ use Rattle.grounds.specs.declared.Tally.{Tally}
 use Rattle.grounds.proofs.Scanned.{step_of, flat, best_is, near_is, between_is, far_is}
 use Rattle.grounds.proofs.Others.{others_is}
 
-by_fields : (t : Tally) {b : Collision} {o n m f : ℕ} → t.best ≡ b → t.others ≡ o → t.near ≡ n → t.between ≡ m → t.far ≡ f
+by_fields : (t : Tally) {b : Option Hit} {o n m f : ℕ} → t.best ≡ b → t.others ≡ o → t.near ≡ n → t.between ≡ m → t.far ≡ f
     → t ≡ record { best = b; others = o; near = n; between = m; far = f }
 by_fields t b o n m f = rw (← b, ← o, ← n, ← m, ← f)
 

@@ -7,6 +7,7 @@ use mathlib.Core.List.{List}
 use lib.Dec.{eqb}
 use lib.Ieee.{Float, lt}
 use borrow.Author.Tests.{eqb-true, eqb-false}
+use Rattle.std.specs.Prelude as rust
 use Rattle.laws.proofs.Turns.{none_passes, one_passes}
 use Rattle.plane.specs.Vector.{length_of}
 use Rattle.plane.specs.declared.Point.{Point}
@@ -14,9 +15,7 @@ use Rattle.refusals.specs.Refusals.{passed}
 use Rattle.refusals.specs.Rows.{of_moving}
 use Rattle.collision.specs.Check.{sweep_of, both_of, collision_of}
 use Rattle.collision.specs.Nearest.{pair_no, scans, ray_at}
-use Rattle.collision.specs.declared.Ray.{Ray}
-use Rattle.collision.specs.declared.Ray.TheVariants.{Miss, At}
-use Rattle.collision.specs.declared.Collision.TheVariants.{Nothing}
+use Rattle.std.specs.Prelude.{Option, None as Miss, Some as At}
 use Rattle.grounds.specs.Classes.{too_near, in_between, too_far, hit_is, hit_at, how_many}
 use Rattle.grounds.specs.Grounds.{ground_by, Some, All, None, any, Says}
 use Rattle.grounds.specs.Scan.{no_tally}
@@ -40,7 +39,7 @@ left_third the_third x y = refl
 module _ (st orb : List Float) (move : Point) (tol : Float) where
   -- ---- a count that is 0, and one that is not
 
-  some_by : (passes : Float → Bool) (k : ℕ) → k < scans st orb → (ray : Ray) → ray_at st orb move tol (pair_no st orb k) ≡ ray → hit_is passes ray ≡ true
+  some_by : (passes : Float → Bool) (k : ℕ) → k < scans st orb → (ray : Option Float) → ray_at st orb move tol (pair_no st orb k) ≡ ray → hit_is passes ray ≡ true
       → Some st orb move tol passes
   unfolding hit_is
   some_by passes k l Miss e h = no_bool (sym h)
@@ -158,6 +157,6 @@ module _ (st orb : List Float) (move : Point) (tol : Float) where
   same_collision = go (lt (length_of move) tol)
     where
       go : (short : Bool) → (cond short (record { ground = Short; tally = no_tally }) (explanation_by (tally_of st orb move tol))).tally.best
-          ≡ cond short Nothing (both_of st orb (sweep_of move tol))
+          ≡ cond short rust.None (both_of st orb (sweep_of move tol))
       go true = refl
       go false = refl

@@ -1,4 +1,5 @@
 -- The modules that belong to no one function.
+pub mod Screened
 pub mod Classes
 pub mod Counts
 pub mod Noted

@@ -9,6 +9,7 @@ use mathlib.Core.List.{List}
 use lib.Dec.{eqb}
 use lib.Ieee.{Float, lt, eq}
 use borrow.Author.Tests.{eq-eqb, ne_eqb}
+use Rattle.std.specs.Prelude.{Option, Some, None}
 use Rattle.plane.specs.Vector.{length_of}
 use Rattle.plane.specs.declared.Point.{Point}
 use Rattle.scalar.specs.Float.{◌⊖◌}
@@ -19,10 +20,7 @@ use Rattle.laws.proofs.Order.{lt_le, le_lt, le_of_eq, eq_back, eq_self}
 use Rattle.collision.specs.Hit.{nearer}
 use Rattle.collision.specs.Check.{sweep_of}
 use Rattle.collision.specs.Nearest.{pair_no, scans, ray_at, Blocks}
-use Rattle.collision.specs.declared.Ray.{Ray}
-use Rattle.collision.specs.declared.Ray.TheVariants.{Miss, At}
-use Rattle.collision.specs.declared.Collision.{Collision}
-use Rattle.collision.specs.declared.Collision.TheVariants.{Nothing, Hit}
+use Rattle.collision.specs.declared.Hit.{Hit}
 use Rattle.collision.proofs.Counting.{above_real, counts, real}
 use Rattle.collision.proofs.Pairs.{found}
 use Rattle.collision.proofs.Nearest.{carried, found_first}
@@ -44,26 +42,23 @@ module _ (st orb : List Float) (move : Point) (tol : Float) where
 
   -- the pair number k has a hit that counts, at a distance that equals d
   record Equal (d : Float) (k : ℕ) : Type 0 where
-    distance : Float
-    kind : ℕ
-    stationary : ℕ
-    orbiting : ℕ
-    hits : found st orb move tol k ≡ Hit distance kind stationary orbiting
-    same : eq distance d ≡ true
+    which : Hit
+    hits : found st orb move tol k ≡ Some which
+    same : eq which.distance d ≡ true
 
   -- what the pair number k comes to is a hit: its ray, and that its distance lies between
-  inside : (k : ℕ) (d : Float) (l s o : ℕ) → found st orb move tol k ≡ Hit d l s o → Inside d
+  inside : (k : ℕ) (h : Hit) → found st orb move tol k ≡ Some h → Inside h.distance
   unfolding sweep_of
-  inside k d l s o e = let c = carried st orb move tol k d l s o e in record { above = c.above; below = c.below }
+  inside k h e = let c = carried st orb move tol k h e in record { above = c.above; below = c.below }
 
-  ray_of : (k : ℕ) (d : Float) (l s o : ℕ) → found st orb move tol k ≡ Hit d l s o → ray_at st orb move tol (pair_no st orb k) ≡ At d
-  ray_of k d l s o e = (carried st orb move tol k d l s o e).meets
+  ray_of : (k : ℕ) (h : Hit) → found st orb move tol k ≡ Some h → ray_at st orb move tol (pair_no st orb k) ≡ Some h.distance
+  ray_of k h e = (carried st orb move tol k h e).meets
 
-  number_of : (k : ℕ) (d : Float) (l s o : ℕ) → found st orb move tol k ≡ Hit d l s o → eq d d ≡ true
+  number_of : (k : ℕ) (h : Hit) → found st orb move tol k ≡ Some h → eq h.distance h.distance ≡ true
   unfolding found
-  number_of k d l s o e = eq_self d (real (sweep_of move tol) _ _ _ _ d l s o e)
+  number_of k h e = eq_self h.distance (real (sweep_of move tol) _ _ _ _ h e)
 
-  at_hit : (k : ℕ) (e d : Float) → ray_at st orb move tol (pair_no st orb k) ≡ At e → at d k ≡ eq e d
+  at_hit : (k : ℕ) (e d : Float) → ray_at st orb move tol (pair_no st orb k) ≡ Some e → at d k ≡ eq e d
   unfolding hit_is
   at_hit k e d h = rw h
 
@@ -72,14 +67,11 @@ module _ (st orb : List Float) (move : Point) (tol : Float) where
   unfolding hit_is found sweep_of
   equal d i k h = go (ray_at st orb move tol (pair_no st orb k)) refl h
     where
-      go : (ray : Ray) → ray_at st orb move tol (pair_no st orb k) ≡ ray → hit_is (λ e. eq e d) ray ≡ true → Equal d k
-      go Miss r t = absurd (true≢false (sym t))
-      go (At e) r t =
+      go : (ray : Option Float) → ray_at st orb move tol (pair_no st orb k) ≡ ray → hit_is (λ e. eq e d) ray ≡ true → Equal d k
+      go None r t = absurd (true≢false (sym t))
+      go (Some e) r t =
           record {
-            distance = e;
-            kind = _;
-            stationary = _;
-            orbiting = _;
+            which = _;
             hits = counts (sweep_of move tol) _ _ _ _ e r (lt_le tol d e i.above (le_of_eq d e (eq_back e d t))) (le_lt e d _ (le_of_eq e d t) i.below);
             same = t;
           }
@@ -93,12 +85,12 @@ module _ (st orb : List Float) (move : Point) (tol : Float) where
       by k l false e = e
 
   -- after n pairs: the others, by what was found
-  data Kept (n : ℕ) : Collision → ℕ → Type 0 where
-    nothing : Kept n Nothing 0
-    hit : {d : Float} {k s o others : ℕ} → Inside d → others + 1 ≡ tally (at d) n → Kept n (Hit d k s o) others
+  data Kept (n : ℕ) : Option Hit → ℕ → Type 0 where
+    nothing : Kept n None 0
+    hit : {h : Hit} {others : ℕ} → Inside h.distance → others + 1 ≡ tally (at h.distance) n → Kept n (Some h) others
 
   -- a pair that comes to nothing is not at a distance between
-  passes_by : (n : ℕ) (d : Float) → Inside d → found st orb move tol n ≡ Nothing → at d n ≡ false
+  passes_by : (n : ℕ) (d : Float) → Inside d → found st orb move tol n ≡ None → at d n ≡ false
   passes_by n d i z = by (at d n) refl
     where
       by : (b : Bool) → at d n ≡ b → at d n ≡ false
@@ -106,47 +98,47 @@ module _ (st orb : List Float) (move : Point) (tol : Float) where
       by false e = e
 
   -- before a hit that is nearer than all, no pair is at its distance
-  fresh_nothing : (n : ℕ) (e : Float) → Inside e → ((k : ℕ) → k < n → nearer (found st orb move tol k) Nothing ≡ false) → tally (at e) n ≡ 0
+  fresh_nothing : (n : ℕ) (e : Float) → Inside e → ((k : ℕ) → k < n → nearer (found st orb move tol k) None ≡ false) → tally (at e) n ≡ 0
   unfolding nearer
   fresh_nothing n e i all =
-      none_at e i n (λ k l q. no_bool (sym (ap (λ (x : Collision). nearer x Nothing) q.hits) ∙ all k l))
+      none_at e i n (λ k l q. no_bool (sym (ap (λ (x : Option Hit). nearer x None) q.hits) ∙ all k l))
 
-  fresh_nearer : (n : ℕ) (e d : Float) (l s o : ℕ) → Inside e → lt e d ≡ true
-      → ((k : ℕ) → k < n → nearer (found st orb move tol k) (Hit d l s o) ≡ false) → tally (at e) n ≡ 0
+  fresh_nearer : (n : ℕ) (e : Float) (h : Hit) → Inside e → lt e h.distance ≡ true
+      → ((k : ℕ) → k < n → nearer (found st orb move tol k) (Some h) ≡ false) → tally (at e) n ≡ 0
   unfolding nearer
-  fresh_nearer n e d l s o i less all =
+  fresh_nearer n e h i less all =
       none_at
       e
       i
       n
       (λ k m q.
-      no_bool (sym (le_lt q.distance e d (le_of_eq q.distance e q.same) less) ∙ sym (ap (λ (x : Collision). nearer x (Hit d l s o)) q.hits) ∙ all k m))
+      no_bool (sym (le_lt q.which.distance e h.distance (le_of_eq q.which.distance e q.same) less) ∙ sym (ap (λ (x : Option Hit). nearer x (Some h)) q.hits) ∙ all k m))
 
   -- none of the first n pairs is nearer than what was found of them
-  least : (n : ℕ) (c : Collision) → First nearer (found st orb move tol) Nothing n c → (k : ℕ) → k < n → nearer (found st orb move tol k) c ≡ false
+  least : (n : ℕ) (c : Option Hit) → First nearer (found st orb move tol) None n c → (k : ℕ) → k < n → nearer (found st orb move tol k) c ≡ false
   least n c (none z all) k l = rw z (all k l)
   least n c (some j m q h first all) k l = rw q (all k l)
 
   -- a turn
-  kept_on : (n : ℕ) (c : Collision) (others : ℕ) → First nearer (found st orb move tol) Nothing n c → Kept n c others
+  kept_on : (n : ℕ) (c : Option Hit) (others : ℕ) → First nearer (found st orb move tol) None n c → Kept n c others
       → Kept (suc n) (better nearer c (found st orb move tol n)) (others_after others c (found st orb move tol n))
   unfolding better nearer others_after tally
   kept_on n c others f kept = go (found st orb move tol n) refl c others kept (least n c f)
     where
-      go : (new : Collision) → found st orb move tol n ≡ new → (c : Collision) (others : ℕ) → Kept n c others
+      go : (new : Option Hit) → found st orb move tol n ≡ new → (c : Option Hit) (others : ℕ) → Kept n c others
           → ((k : ℕ) → k < n → nearer (found st orb move tol k) c ≡ false) → Kept (suc n) (better nearer c new) (others_after others c new)
-      go Nothing z Nothing others nothing all = nothing
-      go Nothing z (Hit d k s o) others (hit i t) all = hit {others = others} i (rw (passes_by n d i z) (omega (arith, t)))
-      go (Hit e l u p) z Nothing others nothing all =
-          let i = inside n e l u p z in
-          hit {others = 0} i (rw (fresh_nothing n e i all, at_hit n e e (ray_of n e l u p z), number_of n e l u p z) refl)
-      go (Hit e l u p) z (Hit d k s o) others (hit i t) all = by (lt e d) refl
+      go None z None others nothing all = nothing
+      go None z (Some h) others (hit i t) all = hit {others = others} i (rw (passes_by n h.distance i z) (omega (arith, t)))
+      go (Some x) z None others nothing all =
+          let i = inside n x z in
+          hit {others = 0} i (rw (fresh_nothing n x.distance i all, at_hit n x.distance x.distance (ray_of n x z), number_of n x z) refl)
+      go (Some x) z (Some h) others (hit i t) all = by (lt x.distance h.distance) refl
         where
-          by : (b : Bool) → lt e d ≡ b → Kept (suc n) (cond b (Hit e l u p) (Hit d k s o)) (cond b 0 (others + cond (eq e d) 1 0))
+          by : (b : Bool) → lt x.distance h.distance ≡ b → Kept (suc n) (cond b (Some x) (Some h)) (cond b 0 (others + cond (eq x.distance h.distance) 1 0))
           by true less =
-              let j = inside n e l u p z in
-              hit {others = 0} j (rw (fresh_nearer n e d k s o j less all, at_hit n e e (ray_of n e l u p z), number_of n e l u p z) refl)
-          by false more = hit {others = others + cond (eq e d) 1 0} i (rw (at_hit n e d (ray_of n e l u p z)) (omega (arith, t)))
+              let j = inside n x z in
+              hit {others = 0} j (rw (fresh_nearer n x.distance h j less all, at_hit n x.distance x.distance (ray_of n x z), number_of n x z) refl)
+          by false more = hit {others = others + cond (eq x.distance h.distance) 1 0} i (rw (at_hit n x.distance h.distance (ray_of n x z)) (omega (arith, t)))
 
   kept : (n : ℕ) → Kept n (turns (step_of st orb move tol) no_tally n).best (turns (step_of st orb move tol) no_tally n).others
   unfolding turns step_of
@@ -155,10 +147,10 @@ module _ (st orb : List Float) (move : Point) (tol : Float) where
       kept_on n _ _ (rw (best_is st orb move tol n) (found_first st orb move tol n)) (kept n)
 
   -- the others of a scan
-  kept_others : (c : Collision) (others : ℕ) → Kept (scans st orb) c others → others ≡ others_at st orb move tol c
+  kept_others : (c : Option Hit) (others : ℕ) → Kept (scans st orb) c others → others ≡ others_at st orb move tol c
   unfolding others_at how_many
-  kept_others Nothing others nothing = refl
-  kept_others (Hit d k s o) others (hit i t) = omega (arith, t)
+  kept_others None others nothing = refl
+  kept_others (Some h) others (hit i t) = omega (arith, t)
 
   pub others_is : (turns (step_of st orb move tol) no_tally (scans st orb)).others
       ≡ others_at st orb move tol (turns (step_of st orb move tol) no_tally (scans st orb)).best
@@ -185,15 +177,15 @@ module _ (passes : ℕ → Bool) (j : ℕ) (t : passes j ≡ true) where
 
 -- the others are the number of other pairs at the distance of the hit
 module _ (st orb : List Float) (move : Point) (tol : Float) where
-  pub others_other : (d : Float) (k s o : ℕ) (j : ℕ) → Blocks st orb move tol j d
-      → others_at st orb move tol (Hit d k s o) ≡ tally (λ i. not (eqb i j) && hit_at st orb move tol (λ e. eq e d) i) (scans st orb)
+  pub others_other : (h : Hit) (j : ℕ) → Blocks st orb move tol j h.distance
+      → others_at st orb move tol (Some h) ≡ tally (λ i. not (eqb i j) && hit_at st orb move tol (λ e. eq e h.distance) i) (scans st orb)
   unfolding others_at how_many
-  others_other d k s o j b =
-      let passes = hit_at st orb move tol (λ e. eq e d) in
+  others_other h j b =
+      let passes = hit_at st orb move tol (λ e. eq e h.distance) in
       let t : passes j ≡ true = itself in
       let n : scans st orb ≡ j + suc (scans st orb - suc j) = omega (arith, b.meets.scanned) in
-      let h = after_it passes j t (scans st orb - suc j) in
-      rw n (omega (arith, h))
+      let past = after_it passes j t (scans st orb - suc j) in
+      rw n (omega (arith, past))
     where
-      itself : hit_at st orb move tol (λ e. eq e d) j ≡ true
-      itself = at_hit st orb move tol j d d b.meets.at ∙ eq_self d (above_real tol d b.above)
+      itself : hit_at st orb move tol (λ e. eq e h.distance) j ≡ true
+      itself = at_hit st orb move tol j h.distance h.distance b.meets.at ∙ eq_self h.distance (above_real tol h.distance b.above)

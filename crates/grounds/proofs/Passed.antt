@@ -11,8 +11,7 @@ use Rattle.laws.proofs.Turns.{turns_split, one_more, row_more}
 use Rattle.collision.specs.Ray.{edge_ray}
 use Rattle.collision.specs.Chained.{MissesTo}
 use Rattle.collision.specs.declared.Sweep.{Sweep}
-use Rattle.collision.specs.declared.Ray.{Ray}
-use Rattle.collision.specs.declared.Ray.TheVariants.{Miss}
+use Rattle.std.specs.Prelude.{Option, Some, None}
 use Rattle.grounds.specs.Met.{MetFirst}
 use Rattle.grounds.specs.Scan.{kind_most, pairs_most, AtMost, noted_of, pair_noted, scan_noted}
 use Rattle.grounds.specs.declared.Met.{Met}
@@ -42,7 +41,7 @@ module _ (vs es : List Float) (w : Sweep) (kind : ℕ) (before : Tally) where
   unfolding turns turn_rows
   from_none = refl
 
-  none_noted : (v k : ℕ) (t : Tally) → edge_ray (point_at vs v) w.dir es k w.tolerance ≡ Miss → pair_noted vs es w kind t v k ≡ t
+  none_noted : (v k : ℕ) (t : Tally) → edge_ray (point_at vs v) w.dir es k w.tolerance ≡ None → pair_noted vs es w kind t v k ≡ t
   unfolding pair_noted
   none_noted v k t h = rw h (sym (missed w kind t v k))
 
@@ -50,16 +49,17 @@ module _ (vs es : List Float) (w : Sweep) (kind : ℕ) (before : Tally) where
   skipped v a to h l m = passed_over _ _ a to h l (λ s k i j. none_noted v k s (m k i j))
 
   -- one hit more, after misses
-  pub next_pair : (v a : ℕ) {t next : Tally} {o : Point} {met : Met} {ray : Ray} → Sofar v a t → o ≡ point_at vs v → MetFirst es w.dir w.tolerance o a (count es) met → met.edge < count es
-      → met.ray ≡ ray → next ≡ noted_of w kind t v met.edge ray → Sofar v (met.edge + 1) next
-  next_pair v a {t = t} {o = o} {met = met} h eo m k er e = one_more _ _ met.edge (skipped v a met.edge h m.not_before (rw (← eo) m.misses)) (e ∙ unfold pair_noted in rw (← er, m.hits k, eo))
+  pub next_pair : (v a : ℕ) {t next : Tally} {o : Point} {met : Met} {r : Option Met} → Sofar v a t → o ≡ point_at vs v → r ≡ Some met
+      → MetFirst es w.dir w.tolerance o a (count es) r → next ≡ noted_of w kind t v met.edge (Some met.distance) → Sofar v (met.edge + 1) next
+  next_pair v a {met = met} h eo k m e =
+      let n = rw k at m in
+      one_more _ _ met.edge (skipped v a met.edge h n.not_before (rw (← eo) n.misses)) (e ∙ unfold pair_noted in rw (← n.hits, eo))
 
   -- no hit more of a vertex
-  pub next_vertex : (v a : ℕ) {t : Tally} {o : Point} {met : Met} → Sofar v a t → o ≡ point_at vs v → MetFirst es w.dir w.tolerance o a (count es) met → count es ≤ met.edge → Sofar (v + 1) 0 t
+  pub next_vertex : (v a : ℕ) {t : Tally} {o : Point} {r : Option Met} → Sofar v a t → a ≤ count es → o ≡ point_at vs v → r ≡ None
+      → MetFirst es w.dir w.tolerance o a (count es) r → Sofar (v + 1) 0 t
   unfolding turns
-  next_vertex v a h eo m z =
-      row_more _ _ before v refl
-      (skipped v a (count es) h (omega (arith, m.not_before, m.not_after)) (λ i p q. rw (← eo) (m.misses i p (omega (arith, q, z)))))
+  next_vertex v a h l eo k m = row_more _ _ before v refl (skipped v a (count es) h l (rw (← eo) (rw k at m)))
 
   pub all_pairs : (v e : ℕ) {t : Tally} → v ≡ count vs → e ≡ 0 → Sofar v e t → t ≡ scan_noted vs es w kind before
   unfolding turns scan_noted
@@ -68,9 +68,3 @@ module _ (vs es : List Float) (w : Sweep) (kind : ℕ) (before : Tally) where
 
   pub small : (v e : ℕ) {t : Tally} → Sofar v e t → AtMost before kind_most → v ≤ 256 → count es ≤ 256 → e ≤ 256 → AtMost t (2 * pairs_most)
   small v e h a l n o = rw h (scan_small vs es w kind v e before a l n o)
-
--- a vertex more, from its first edge on, is fewer pairs left
-pub fewer : (n v m e : ℕ) → v < n → (n - (v + 1)) * (m + 1) + (m - 0) < (n - v) * (m + 1) + (m - e)
-fewer n v m e h =
-    let a : n - v ≡ n - (v + 1) + 1 = omega arith in
-    rw a (omega arith)

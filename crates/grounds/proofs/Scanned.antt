@@ -1,5 +1,6 @@
 -- The two scans are one scan over the numbered pairs, and what it knows in the end is what is said of all pairs but for the others, which are
 -- counted in `Others`. Assumes nothing.
+use Rattle.std.specs.Prelude.{Option}
 use Prim.Native.Nat.{ℕ, zero, suc, ◌+◌, ◌*◌, ◌/◌, ◌%◌, ◌<◌}
 use native.Mathlib.Omega.{arith}
 use native.Mathlib.Nat.{mul_comm}
@@ -7,6 +8,7 @@ use mathlib.Core.Path.{◌≡◌, refl, sym, ap, ◌∙◌}
 use mathlib.Core.Bool.{cond}
 use mathlib.Core.List.{List}
 use lib.Ieee.{Float}
+use Rattle.std.specs.Prelude.{Option, None}
 use Rattle.plane.specs.declared.Point.{Point}
 use Rattle.ring.specs.Ring.{count, point_at}
 use Rattle.pairs.proofs.Numbers.{first_pairs, second_pairs}
@@ -16,10 +18,8 @@ use Rattle.laws.proofs.Turns.{turns_split, turns_ext, flat_turns, rows_flat}
 use Rattle.collision.specs.Hit.{nearer, kept_hit}
 use Rattle.collision.specs.Ray.{edge_ray}
 use Rattle.collision.specs.Check.{back_of, sweep_of}
-use Rattle.collision.specs.Nearest.{pair_no, scans, ray_at}
+use Rattle.collision.specs.Nearest.{scans, ray_at}
 use Rattle.collision.specs.declared.Sweep.{Sweep}
-use Rattle.collision.specs.declared.Ray.{Ray}
-use Rattle.collision.specs.declared.Collision.TheVariants.{Nothing}
 use Rattle.collision.proofs.Counting.{counted_back}
 use Rattle.collision.proofs.Pairs.{found}
 use Rattle.grounds.specs.Classes.{too_near, in_between, too_far, hit_at}
@@ -27,7 +27,7 @@ use Rattle.grounds.specs.Scan.{no_tally, others_after, noted_of, pair_noted, sca
 use Rattle.grounds.specs.declared.Tally.{Tally}
 
 -- the way of the rays does not matter for what is noted
-noted_back : (w : Sweep) (t : Tally) (v e : ℕ) (ray : Ray) → noted_of (back_of w) 1 t v e ray ≡ noted_of w 1 t v e ray
+noted_back : (w : Sweep) (t : Tally) (v e : ℕ) (ray : Option Float) → noted_of (back_of w) 1 t v e ray ≡ noted_of w 1 t v e ray
 unfolding noted_of back_of
 noted_back w t v e ray = rw (counted_back w 1 v e ray)
 
@@ -79,7 +79,7 @@ module _ (st orb : List Float) (move : Point) (tol : Float) where
       ∙ ap (turns step_of no_tally) (sym e)
 
   -- what is known after n pairs
-  pub best_is : (n : ℕ) → (turns step_of no_tally n).best ≡ over nearer (found st orb move tol) Nothing n
+  pub best_is : (n : ℕ) → (turns step_of no_tally n).best ≡ over nearer (found st orb move tol) None n
   unfolding turns over step_of
   best_is zero = refl
   best_is (suc n) = rw (best_is n)

@@ -1,13 +1,11 @@
 -- Where a computed hit lies, too near, between or too far, and how many of the rule's pairs have a hit that passes a test. Definitions only.
-use Rattle.std.specs.Prelude.{ℕ, Bool, false, not, ◌&&◌, List, Float}
+use Rattle.std.specs.Prelude.{ℕ, Bool, false, not, ◌&&◌, List, Option, Some, None, Float}
 use Rattle.std.specs.Float.Ieee.{le}
 use Rattle.plane.specs.declared.Point.{Point}
 use Rattle.laws.specs.Turns.{tally}
 use Rattle.collision.specs.Hit.{between}
 use Rattle.collision.specs.Nearest.{pair_no, scans, ray_at}
 use Rattle.collision.specs.declared.Sweep.{Sweep}
-use Rattle.collision.specs.declared.Ray.{Ray}
-use Rattle.collision.specs.declared.Ray.TheVariants.{Miss, At}
 
 -- at most the tolerance
 abbrev pub too_near : Sweep → Float → Bool
@@ -22,9 +20,9 @@ abbrev pub too_far : Sweep → Float → Bool
 too_far w d = not (le d w.tolerance) && le w.limit d
 
 -- a ray hits, at a distance that passes
-unfoldable pub hit_is : (Float → Bool) → Ray → Bool
-hit_is passes Miss = false
-hit_is passes (At d) = passes d
+unfoldable pub hit_is : (Float → Bool) → Option Float → Bool
+hit_is passes None = false
+hit_is passes (Some d) = passes d
 
 -- the pair number k has a computed hit at a distance that passes
 abbrev pub hit_at : List Float → List Float → Point → Float → (Float → Bool) → ℕ → Bool

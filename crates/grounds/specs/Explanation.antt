@@ -1,11 +1,10 @@
 -- What the move runs into first, and the ground of that answer, over the pairs of both kinds. Definitions only.
-use Rattle.std.specs.Prelude.{ℕ, ◌-◌, cond, List, Float}
+use Rattle.std.specs.Prelude.{ℕ, ◌-◌, cond, List, Float, Option, Some, None}
 use Rattle.std.specs.Float.Ieee.{lt, eq}
 use Rattle.plane.specs.Vector.{length_of}
 use Rattle.plane.specs.declared.Point.{Point}
 use Rattle.collision.specs.Check.{sweep_of, both_of}
-use Rattle.collision.specs.declared.Collision.{Collision}
-use Rattle.collision.specs.declared.Collision.TheVariants.{Nothing, Hit}
+use Rattle.collision.specs.declared.Hit.{Hit}
 use Rattle.grounds.specs.Classes.{too_near, in_between, too_far, how_many}
 use Rattle.grounds.specs.Grounds.{ground_by}
 use Rattle.grounds.specs.Scan.{no_tally}
@@ -15,9 +14,9 @@ use Rattle.grounds.specs.declared.Tally.{Tally}
 use Rattle.grounds.specs.declared.Explanation.{Explanation}
 
 -- the pairs at a hit's very distance, less the hit's own
-unfoldable pub others_at : List Float → List Float → Point → Float → Collision → ℕ
-others_at st orb move tol Nothing = 0
-others_at st orb move tol (Hit d k s o) = how_many st orb move tol (λ e. eq e d) - 1
+unfoldable pub others_at : List Float → List Float → Point → Float → Option Hit → ℕ
+others_at st orb move tol None = 0
+others_at st orb move tol (Some h) = how_many st orb move tol (λ e. eq e h.distance) - 1
 
 -- all pairs: the nearest hit, the others at its distance, and the hits too near, between and too far
 unfoldable pub tally_of : List Float → List Float → Point → Float → Tally

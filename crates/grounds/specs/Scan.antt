@@ -1,5 +1,5 @@
 -- The one scan: what is noted of a pair's ray, pair by pair in the order of `check_translation_collision`. Definitions only.
-use Rattle.std.specs.Prelude.{ℕ, ◌+◌, ◌≤◌, cond, List, Float}
+use Rattle.std.specs.Prelude.{ℕ, ◌+◌, ◌≤◌, cond, List, Float, Option, Some, None}
 use Rattle.std.specs.Float.Ieee.{lt, eq}
 use Rattle.ring.specs.Ring.{count, point_at}
 use Rattle.laws.specs.Turns.{turn_rows}
@@ -8,24 +8,22 @@ use Rattle.collision.specs.Hit.{kept_hit}
 use Rattle.collision.specs.Parts.{pair_by}
 use Rattle.collision.specs.Check.{back_of}
 use Rattle.collision.specs.declared.Sweep.{Sweep}
-use Rattle.collision.specs.declared.Ray.{Ray}
-use Rattle.collision.specs.declared.Collision.{Collision}
-use Rattle.collision.specs.declared.Collision.TheVariants.{Nothing, Hit}
+use Rattle.collision.specs.declared.Hit.{Hit}
 use Rattle.grounds.specs.Classes.{too_near, in_between, too_far, hit_is}
 use Rattle.grounds.specs.declared.Tally.{Tally}
 
 -- before the first pair
 abbrev pub no_tally : Tally
-no_tally = record { best = Nothing; others = 0; near = 0; between = 0; far = 0 }
+no_tally = record { best = None; others = 0; near = 0; between = 0; far = 0 }
 
 -- the others at the nearest distance, after a new hit that counts: none for a nearer one, and one more for one at that very distance
-unfoldable pub others_after : ℕ → Collision → Collision → ℕ
-others_after others best Nothing = others
-others_after others Nothing (Hit e l t p) = 0
-others_after others (Hit d k s o) (Hit e l t p) = cond (lt e d) 0 (others + cond (eq e d) 1 0)
+unfoldable pub others_after : ℕ → Option Hit → Option Hit → ℕ
+others_after others best None = others
+others_after others None (Some g) = 0
+others_after others (Some h) (Some g) = cond (lt g.distance h.distance) 0 (others + cond (eq g.distance h.distance) 1 0)
 
 -- a ray of the vertex v against the edge e
-unfoldable pub noted_of : Sweep → ℕ → Tally → ℕ → ℕ → Ray → Tally
+unfoldable pub noted_of : Sweep → ℕ → Tally → ℕ → ℕ → Option Float → Tally
 noted_of w kind t v e ray =
     let new = pair_by ray w kind v e in
     record {

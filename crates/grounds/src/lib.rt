@@ -2,7 +2,6 @@
 // the rule's pairs.
 #![tactic(auto)]
 
-pub mod answer;
 pub mod calls;
 
 ghost use Rattle.std.specs.Prelude.{◌≡◌, ◌+◌, ◌*◌, ◌<◌, ◌≤◌, cond, length};
@@ -17,7 +16,7 @@ ghost use Rattle.grounds.specs.Scan.{kind_most, pairs_most, AtMost, no_tally, ot
 ghost use Rattle.grounds.specs.Explanation.{explanation_of};
 
 use chains::{NUMBERS, chain_end, fill, is_chained, is_passed};
-use collision::{Collision, Ray, Sweep, back, edge_ray, pair, rays};
+use collision::{Hit, Sweep, back, edge_ray, pair, rays};
 use plane::Point;
 use plane::vector::length;
 use ring::point_at;
@@ -34,18 +33,18 @@ pub enum Ground {
     BothSides,
 }
 
-// An edge that a ray meets, with the ray against it.
+// An edge that a ray meets, and how far along the ray.
 #[derive(Clone, Copy)]
 struct Met {
     edge: usize,
-    ray: Ray,
+    distance: f64,
 }
 
 // What is known of the pairs scanned: the nearest hit that counts, how many other pairs have its very distance, and how many hits are too
 // near, between and too far.
 #[derive(Clone, Copy)]
 pub struct Tally {
-    pub best: Collision,
+    pub best: Option<Hit>,
     pub others: u64,
     pub near: u64,
     pub between: u64,
@@ -80,7 +79,7 @@ fn no_tally() -> Tally
     ensures { result ≡ no_tally }
 {
     Tally {
-        best: Collision::Nothing,
+        best: None,
         others: 0,
         near: 0,
         between: 0,
@@ -119,79 +118,54 @@ fn one_more(count: u64, passes: bool) -> u64
 }
 
 // The others at the nearest distance, after a new one.
-fn others_after(others: u64, best: Collision, new: Collision) -> u64
+#[tactic(auto, unfolding(crate::specs::Scan::others_after))]
+fn others_after(others: u64, best: Option<Hit>, new: Option<Hit>) -> u64
     requires { others ≤ 2 * pairs_most }
     ensures { result ≡ others_after others best new }
 {
-    let Collision::Hit {
-        distance: e,
-        kind: _,
-        stationary: _,
-        orbiting: _,
-    } = new
-    else {
+    let Some(new) = new else {
         return others;
     };
-    let Collision::Hit {
-        distance: d,
-        kind: _,
-        stationary: _,
-        orbiting: _,
-    } = best
-    else {
+    let Some(best) = best else {
         return 0;
     };
-    if e < d { 0 } else { one_more(others, e == d) }
+    if new.distance < best.distance {
+        0
+    } else {
+        one_more(others, new.distance == best.distance)
+    }
 }
 
 // Whether a new one replaces what was found so far: only a strictly smaller distance does.
-fn is_nearer(new: Collision, best: Collision) -> bool
+#[tactic(auto, unfolding(collision::specs::Hit::nearer))]
+fn is_nearer(new: Option<Hit>, best: Option<Hit>) -> bool
     ensures { result ≡ nearer new best }
 {
-    let Collision::Hit {
-        distance: e,
-        kind: _,
-        stationary: _,
-        orbiting: _,
-    } = new
-    else {
+    let Some(new) = new else {
         return false;
     };
-    let Collision::Hit {
-        distance: d,
-        kind: _,
-        stationary: _,
-        orbiting: _,
-    } = best
-    else {
+    let Some(best) = best else {
         return true;
     };
-    e < d
+    new.distance < best.distance
 }
 
-// The first edge from one on and below another that the ray from origin does not miss, or the other.
-fn first_hit(origin: Point, edges: &[f64], sweep: Sweep, from: usize, to: usize) -> Met
+// The first edge from one on and below another that the ray from origin does not miss.
+fn first_hit(origin: Point, edges: &[f64], sweep: Sweep, from: usize, to: usize) -> Option<Met>
     requires { (from ≤ to) × (to ≤ count edges.now) }
     ensures { MetFirst edges.now sweep.dir sweep.tolerance origin from to result }
 {
-    let mut e = from;
-    while e < to {
-        let ray = edge_ray(origin, sweep.dir, edges, e, sweep.tolerance);
-        if let Ray::At(_) = ray {
-            return Met { edge: e, ray };
-        } else {
-            e += 1;
+    for e in from..to {
+        if let Some(distance) = edge_ray(origin, sweep.dir, edges, e, sweep.tolerance) {
+            return Some(Met { edge: e, distance });
         }
     }
-    Met {
-        edge: to,
-        ray: Ray::Miss,
-    }
+    None
 }
 
-// The first edge from one on that the ray from origin does not miss, or as many as there are. The table has the chains of all
-// edges, so that those that the ray passes beside are left out, or it is empty.
-fn next_hit(origin: Point, edges: &[f64], table: &[f64], sweep: Sweep, from: usize) -> Met
+// The first edge from one on that the ray from origin does not miss. The table has the chains of all edges, so that those that the ray
+// passes beside are left out, or it is empty.
+fn next_hit(origin: Point, edges: &[f64], table: &[f64], sweep: Sweep, from: usize) -> Option<Met>
     requires from_bound { from ≤ count edges.now }
     requires ready { 0 < length table.now → Ready table.now edges.now sweep }
     ensures { MetFirst edges.now sweep.dir sweep.tolerance origin from (count edges.now) result }
@@ -201,22 +175,17 @@ fn next_hit(origin: Point, edges: &[f64], table: &[f64], sweep: Sweep, from: usi
         return first_hit(origin, edges, sweep, from, n);
     }
     let mut e = from;
+    // A while: the first chain may begin within a block of eight, and the last may end within one.
     while e < n {
         let to = chain_end(e, n);
-        if is_passed(table, e / 8, origin, sweep.dir) {
-            e = to;
-        } else {
-            let met = first_hit(origin, edges, sweep, e, to);
-            if met.edge < to {
-                return met;
+        if !is_passed(table, e / 8, origin, sweep.dir) {
+            if let Some(met) = first_hit(origin, edges, sweep, e, to) {
+                return Some(met);
             }
-            e = to;
         }
+        e = to;
     }
-    Met {
-        edge: n,
-        ray: Ray::Miss,
-    }
+    None
 }
 
 // Each vertex of one ring against each edge of the other, from what was known before, with a table of the edges' chains or an
@@ -233,34 +202,25 @@ fn scan_by(
     requires ready { 0 < length table.now → Ready table.now edges.now sweep }
     ensures { result ≡ scan_noted vertices.now edges.now sweep kind before }
 {
-    let n = vertices.len() / 2;
-    let m = edges.len() / 2;
     let mut best = before.best;
     let mut others = before.others;
     let mut near = before.near;
     let mut between = before.between;
     let mut far = before.far;
-    let mut v = 0;
-    let mut e = 0;
-    while v < n {
-        let met = next_hit(point_at(vertices, v), edges, table, sweep, e);
-        let k = met.edge;
-        let ray = met.ray;
-        if k < m {
-            e = k + 1;
-            if let Ray::At(d) = ray {
-                let new = pair(Ray::At(d), sweep, kind, v, k);
-                others = others_after(others, best, new);
-                near = one_more(near, d <= sweep.tolerance);
-                between = one_more(between, in_between(d, sweep));
-                far = one_more(far, too_far(d, sweep));
-                if is_nearer(new, best) {
-                    best = new;
-                }
+    for v in 0..vertices.len() / 2 {
+        let origin = point_at(vertices, v);
+        let mut e = 0;
+        while let Some(met) = next_hit(origin, edges, table, sweep, e) {
+            let d = met.distance;
+            let new = pair(Some(d), sweep, kind, v, met.edge);
+            others = others_after(others, best, new);
+            near = one_more(near, d <= sweep.tolerance);
+            between = one_more(between, in_between(d, sweep));
+            far = one_more(far, too_far(d, sweep));
+            if is_nearer(new, best) {
+                best = new;
             }
-        } else {
-            v += 1;
-            e = 0;
+            e = met.edge + 1;
         }
     }
     Tally {

@@ -2,10 +2,10 @@
 use Prim.Native.Nat.{ℕ}
 use mathlib.Core.Path.{◌≡◌, refl}
 use mathlib.Core.Bool.{true, false}
-use mathlib.Core.Option.{Option, none, some}
+use Rattle.std.specs.Prelude.{Option, None, Some}
 use lib.Ieee.{Float, binary64, of_bits, nan}
 use Rattle.grounds.specs.Calls.{Account}
-use Rattle.inspection.specs.Calls.{Shift}
+use Rattle.inspection.specs.declared.Shift.{Shift}
 use Rattle.refusals.specs.Answers.{Outcome, answers, refuses}
 use Rattle.refusals.specs.Refusals.{refused_book, refused_few, refused_setting, refused_inspection, tells_place, refuse}
 use Rattle.handed.specs.Handed.{refusal_in, returned, told, told_found, place_of, told_place, itself, flag, is_found, hit_distance, hit_kind, hit_stationary, hit_orbiting}
@@ -13,7 +13,7 @@ use Rattle.handed.specs.Explanations.{hit_in, with_hit, others_told, ground_in, 
 use Rattle.handed.specs.Places.{places_in, following_in}
 use Rattle.handed.specs.Verdicts.{fault_number, fault_index, index_in}
 use Rattle.handed.specs.Clear.{leg_ground, leg_of, leg_edge_of, leg_in, leg_edge_in}
-use Rattle.path_check.specs.declared.Fault.TheVariants.{Nothing as Accepted, Leg}
+use Rattle.path_check.specs.declared.Fault.TheVariants.{Leg}
 use Rattle.clear_path.specs.declared.PathGround.TheVariants.{Enclosed}
 
 -- a book of two rings: 0, the count, and no place
@@ -73,7 +73,7 @@ number_place = refl
 
 -- nothing found: 0 in `found`, and what follows as it was
 abbrev nothing : Outcome (Option ℕ)
-nothing = answers none
+nothing = answers None
 
 nothing_found : told is_found nothing 9 ≡ 0
 unfolding told is_found
@@ -85,7 +85,7 @@ nothing_index = refl
 
 -- index 0 found, which is not nothing
 abbrev index : Outcome (Option ℕ)
-index = answers (some 0)
+index = answers (Some 0)
 
 index_found : told is_found index 9 ≡ 1
 unfolding told is_found
@@ -113,7 +113,7 @@ hit =
     answers
     (record {
       ground = 0;
-      hit = some (record { distance = half; kind = 1; stationary = 2; orbiting = 3 });
+      hit = Some (record { distance = half; kind = 1; stationary = 2; orbiting = 3 });
       others = 4;
       near = 5;
       between = 6;
@@ -138,7 +138,7 @@ hit_counts = (refl, refl, refl, refl)
 
 -- all hits too far: 0 as well, ground 4 and the counts, and what belongs to a hit as it was
 abbrev far : Outcome Account
-far = answers (record { ground = 4; hit = none; others = 0; near = 0; between = 0; far = 7 })
+far = answers (record { ground = 4; hit = None; others = 0; near = 0; between = 0; far = 7 })
 
 far_ground : (returned far ≡ 0) × (told ground_in far 9 ≡ 4)
 unfolding refusal_in told
@@ -196,15 +196,15 @@ unfolding refusal_in told
 no_shift_told = (refl, refl, refl)
 
 -- a path whose leg 3 runs into something: 2, and where; and one that is accepted: 0, and the index as it was
-blocked_fault : told fault_number (answers (Leg 3)) 9 ≡ 2
+blocked_fault : told fault_number (answers (Some (Leg 3))) 9 ≡ 2
 unfolding told fault_number
 blocked_fault = refl
 
-blocked_index : told_found itself (index_in (answers (Leg 3))) 9 ≡ 3
+blocked_index : told_found itself (index_in (answers (Some (Leg 3)))) 9 ≡ 3
 unfolding told_found fault_index
 blocked_index = refl
 
-accepted_index : told_found itself (index_in (answers Accepted)) 9 ≡ 9
+accepted_index : told_found itself (index_in (answers None)) 9 ≡ 9
 unfolding told_found fault_index
 accepted_index = refl
 

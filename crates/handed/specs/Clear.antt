@@ -1,6 +1,5 @@
 -- What exported answers about whole moves write to their cells, by the outcome of the call. Definitions only.
-use Rattle.std.specs.Prelude.{ℕ}
-use Rattle.std.proofs.Math.Option.{Option, none, some}
+use Rattle.std.specs.Prelude.{ℕ, Option, None, Some}
 use Rattle.refusals.specs.Answers.{Outcome, answers, refuses}
 use Rattle.reasons.specs.Check.{Ground, clear, edge, enclosed}
 use Rattle.clear_path.specs.declared.PathGround.{PathGround}
@@ -14,9 +13,9 @@ move_ground enclosed = 2
 
 -- the edge
 unfoldable pub edge_of : Ground → Option ℕ
-edge_of clear = none
-edge_of (edge j) = some j
-edge_of enclosed = none
+edge_of clear = None
+edge_of (edge j) = Some j
+edge_of enclosed = None
 
 abbrev pub edge_in : Outcome Ground → Outcome (Option ℕ)
 edge_in (answers g) = answers (edge_of g)
@@ -29,14 +28,14 @@ leg_ground (Edge i j) = 1
 leg_ground (Enclosed i) = 2
 
 unfoldable pub leg_of : PathGround → Option ℕ
-leg_of Clear = none
-leg_of (Edge i j) = some i
-leg_of (Enclosed i) = some i
+leg_of Clear = None
+leg_of (Edge i j) = Some i
+leg_of (Enclosed i) = Some i
 
 unfoldable pub leg_edge_of : PathGround → Option ℕ
-leg_edge_of Clear = none
-leg_edge_of (Edge i j) = some j
-leg_edge_of (Enclosed i) = none
+leg_edge_of Clear = None
+leg_edge_of (Edge i j) = Some j
+leg_edge_of (Enclosed i) = None
 
 abbrev pub leg_in : Outcome PathGround → Outcome (Option ℕ)
 leg_in (answers g) = answers (leg_of g)

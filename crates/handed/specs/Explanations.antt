@@ -1,19 +1,18 @@
 -- What an exported explanation writes to its cells, by the outcome of the call. Definitions only.
-use Rattle.std.specs.Prelude.{ℕ}
-use Rattle.std.proofs.Math.Option.{Option, none, some}
+use Rattle.std.specs.Prelude.{ℕ, Option, None, Some}
 use Rattle.refusals.specs.Answers.{Outcome, answers, refuses}
-use Rattle.collision.specs.Calls.{Values}
+use Rattle.collision.specs.declared.Hit.{Hit}
 use Rattle.grounds.specs.Calls.{Account}
 
 -- the hit of an answer, or nothing
-abbrev pub hit_in : Outcome Account → Outcome (Option Values)
+abbrev pub hit_in : Outcome Account → Outcome (Option Hit)
 hit_in (answers a) = answers a.hit
 hit_in (refuses r) = refuses r
 
 -- the other pairs at its distance, where there is a hit, and else what the cell held
-unfoldable pub with_hit : Option Values → ℕ → ℕ → ℕ
-with_hit none others held = held
-with_hit (some v) others held = others
+unfoldable pub with_hit : Option Hit → ℕ → ℕ → ℕ
+with_hit None others held = held
+with_hit (Some v) others held = others
 
 unfoldable pub others_told : Outcome Account → ℕ → ℕ
 others_told (answers a) held = with_hit a.hit a.others held

@@ -1,17 +1,19 @@
 // A collision answer with its ground. On an answer the ground and the three counts are written, and what belongs to a hit only where there is one;
 // a refusal leaves the cells as they were.
+#![tactic(auto, unfolding(crate::specs::Handed::refusal_in, crate::specs::Handed::told, crate::specs::Handed::told_found, crate::specs::Explanations::with_hit, crate::specs::Explanations::others_told))]
+
 ghost use Rattle.std.specs.Prelude.{◌≡◌};
+ghost use Rattle.refusals.specs.Answers.{tested};
 ghost use Rattle.grounds.specs.Calls.{explained};
 ghost use Rattle.handed.specs.Handed.{refusal_in, told, told_found, hit_distance, hit_kind, hit_stationary, hit_orbiting};
 ghost use Rattle.handed.specs.Explanations.{hit_in, others_told, ground_in, near_in, between_in, far_in};
 
-use collision::Collision;
-use grounds::answer::Explained;
+use grounds::Explanation;
 use refusals::Refusal;
 
 // The ground, the hit with the other pairs at its distance, and the hits too near, between and too far.
 pub fn hand_explained(
-    answer: Explained,
+    answer: Result<Explanation, Refusal>,
     ground: &mut u32,
     distance: &mut f64,
     kind: &mut u32,
@@ -21,8 +23,8 @@ pub fn hand_explained(
     near: &mut u64,
     between: &mut u64,
     far: &mut u64,
-) -> Refusal
-    ensures { (result ≡ refusal_in (explained answer))
+) -> Result<(), Refusal>
+    ensures { (tested result ≡ refusal_in (explained answer))
         × (ground.new ≡ told ground_in (explained answer) ground.old)
         × (distance.new ≡ told_found hit_distance (hit_in (explained answer)) distance.old)
         × (kind.new ≡ told_found hit_kind (hit_in (explained answer)) kind.old)
@@ -33,32 +35,18 @@ pub fn hand_explained(
         × (between.new ≡ told between_in (explained answer) between.old)
         × (far.new ≡ told far_in (explained answer) far.old) }
 {
-    match answer {
-        Explained::Is(x) => {
-            let g = x.ground;
-            let t = x.tally;
-            let best = t.best;
-            *ground = g.number();
-            *near = t.near;
-            *between = t.between;
-            *far = t.far;
-            match best {
-                Collision::Nothing => Refusal::none(),
-                Collision::Hit {
-                    distance: d,
-                    kind: k,
-                    stationary: s,
-                    orbiting: o,
-                } => {
-                    *distance = d;
-                    *kind = k as u32;
-                    *si = s as u64;
-                    *oi = o as u64;
-                    *others = t.others;
-                    Refusal::none()
-                }
-            }
-        }
-        Explained::Refused(no) => no,
+    let explanation = answer?;
+    let tally = explanation.tally;
+    *ground = explanation.ground.number();
+    *near = tally.near;
+    *between = tally.between;
+    *far = tally.far;
+    if let Some(hit) = tally.best {
+        *distance = hit.distance;
+        *kind = hit.kind as u32;
+        *si = hit.stationary as u64;
+        *oi = hit.orbiting as u64;
+        *others = tally.others;
     }
+    Ok(())
 }

@@ -1,97 +1,83 @@
 // Answers that may be nothing. Each function returns no refusal and writes to `found` 1 or 0, and what was found after it only where there is something;
 // or it returns the refusal and leaves the cells as they were.
+#![tactic(auto, unfolding(crate::specs::Handed::refusal_in, crate::specs::Handed::told, crate::specs::Handed::told_found, crate::specs::Handed::is_found))]
+
 ghost use Rattle.std.specs.Prelude.{◌≡◌};
-ghost use Rattle.collision.specs.Calls.{checked};
-ghost use Rattle.refusals.specs.Answers.{position};
-ghost use Rattle.selection.specs.Calls.{selected};
+ghost use Rattle.refusals.specs.Answers.{answered, tested};
 ghost use Rattle.handed.specs.Handed.{refusal_in, told, told_found, itself, is_found, x_of, y_of, hit_distance, hit_kind, hit_stationary, hit_orbiting};
 
-use collision::Collision;
-use collision::answer::Checked;
+use collision::Hit;
+use plane::Point;
 use refusals::Refusal;
-use refusals::answer::{Found, Position};
-use selection::answer::Selected;
 
 // The index of a vector, or nothing.
-pub fn hand_selected(answer: Selected, found: &mut u32, index: &mut u64) -> Refusal
-    ensures { (result ≡ refusal_in (selected answer))
-        × (found.new ≡ told is_found (selected answer) found.old)
-        × (index.new ≡ told_found itself (selected answer) index.old) }
+pub fn hand_selected(
+    answer: Result<Option<usize>, Refusal>,
+    found: &mut u32,
+    index: &mut u64,
+) -> Result<(), Refusal>
+    ensures { (tested result ≡ refusal_in (answered answer))
+        × (found.new ≡ told is_found (answered answer) found.old)
+        × (index.new ≡ told_found itself (answered answer) index.old) }
 {
-    match answer {
-        Selected::Nothing => {
-            *found = 0;
-            Refusal::none()
-        }
-        Selected::Index(i) => {
+    match answer? {
+        None => *found = 0,
+        Some(i) => {
             *found = 1;
             *index = i as u64;
-            Refusal::none()
         }
-        Selected::Refused(no) => no,
     }
+    Ok(())
 }
 
 // A position, or nothing.
-pub fn hand_position(answer: Position, found: &mut u32, x: &mut f64, y: &mut f64) -> Refusal
-    ensures { (result ≡ refusal_in (position answer))
-        × (found.new ≡ told is_found (position answer) found.old)
-        × (x.new ≡ told_found x_of (position answer) x.old)
-        × (y.new ≡ told_found y_of (position answer) y.old) }
+pub fn hand_position(
+    answer: Result<Option<Point>, Refusal>,
+    found: &mut u32,
+    x: &mut f64,
+    y: &mut f64,
+) -> Result<(), Refusal>
+    ensures { (tested result ≡ refusal_in (answered answer))
+        × (found.new ≡ told is_found (answered answer) found.old)
+        × (x.new ≡ told_found x_of (answered answer) x.old)
+        × (y.new ≡ told_found y_of (answered answer) y.old) }
 {
-    match answer {
-        Position::Is(f) => match f {
-            Found::Nothing => {
-                *found = 0;
-                Refusal::none()
-            }
-            Found::At(p) => {
-                *found = 1;
-                *x = p.x;
-                *y = p.y;
-                Refusal::none()
-            }
-        },
-        Position::Refused(no) => no,
+    match answer? {
+        None => *found = 0,
+        Some(p) => {
+            *found = 1;
+            *x = p.x;
+            *y = p.y;
+        }
     }
+    Ok(())
 }
 
 // What a move runs into, or nothing: the hit's distance, its kind and both indices.
 pub fn hand_checked(
-    answer: Checked,
+    answer: Result<Option<Hit>, Refusal>,
     found: &mut u32,
     distance: &mut f64,
     kind: &mut u32,
     si: &mut u64,
     oi: &mut u64,
-) -> Refusal
-    ensures { (result ≡ refusal_in (checked answer))
-        × (found.new ≡ told is_found (checked answer) found.old)
-        × (distance.new ≡ told_found hit_distance (checked answer) distance.old)
-        × (kind.new ≡ told_found hit_kind (checked answer) kind.old)
-        × (si.new ≡ told_found hit_stationary (checked answer) si.old)
-        × (oi.new ≡ told_found hit_orbiting (checked answer) oi.old) }
+) -> Result<(), Refusal>
+    ensures { (tested result ≡ refusal_in (answered answer))
+        × (found.new ≡ told is_found (answered answer) found.old)
+        × (distance.new ≡ told_found hit_distance (answered answer) distance.old)
+        × (kind.new ≡ told_found hit_kind (answered answer) kind.old)
+        × (si.new ≡ told_found hit_stationary (answered answer) si.old)
+        × (oi.new ≡ told_found hit_orbiting (answered answer) oi.old) }
 {
-    match answer {
-        Checked::Is(c) => match c {
-            Collision::Nothing => {
-                *found = 0;
-                Refusal::none()
-            }
-            Collision::Hit {
-                distance: d,
-                kind: k,
-                stationary: s,
-                orbiting: o,
-            } => {
-                *found = 1;
-                *distance = d;
-                *kind = k as u32;
-                *si = s as u64;
-                *oi = o as u64;
-                Refusal::none()
-            }
-        },
-        Checked::Refused(no) => no,
+    match answer? {
+        None => *found = 0,
+        Some(hit) => {
+            *found = 1;
+            *distance = hit.distance;
+            *kind = hit.kind as u32;
+            *si = hit.stationary as u64;
+            *oi = hit.orbiting as u64;
+        }
     }
+    Ok(())
 }

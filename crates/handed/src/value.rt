@@ -1,29 +1,23 @@
 // Answers that are a value or a point. Each function writes the answer and returns no refusal, or returns the refusal and leaves the cells as they were.
+#![tactic(auto, unfolding(crate::specs::Handed::refusal_in, crate::specs::Handed::told))]
+
 ghost use Rattle.std.specs.Prelude.{◌≡◌};
 ghost use Rattle.plane.specs.Orientation.{turn_number};
-ghost use Rattle.refusals.specs.Answers.{truth, turn, number, counted};
+ghost use Rattle.refusals.specs.Answers.{answered, tested, turn};
 ghost use Rattle.projection.specs.Calls.{projected};
-ghost use Rattle.start_position.specs.Calls.{started};
 ghost use Rattle.handed.specs.Handed.{refusal_in, told, itself, flag, x_of, y_of, parameter_in, foot_in};
 
-use plane::Orientation;
-use projection::answer::Projected;
+use plane::{Orientation, Point};
+use projection::answer::Projection;
 use projection::foot::foot_code;
 use refusals::Refusal;
-use refusals::answer::{Count, Number, Truth, Turn};
-use start_position::answer::Start;
 
 // Whether something holds, as 1 or 0.
-pub fn hand_truth(answer: Truth, out: &mut u32) -> Refusal
-    ensures { (result ≡ refusal_in (truth answer)) × (out.new ≡ told flag (truth answer) out.old) }
+pub fn hand_truth(answer: Result<bool, Refusal>, out: &mut u32) -> Result<(), Refusal>
+    ensures { (tested result ≡ refusal_in (answered answer)) × (out.new ≡ told flag (answered answer) out.old) }
 {
-    match answer {
-        Truth::Is(x) => {
-            *out = x as u32;
-            Refusal::none()
-        }
-        Truth::Refused(no) => no,
-    }
+    *out = answer? as u32;
+    Ok(())
 }
 
 // A turn's number: 1 counter-clockwise, -1 clockwise, 0 collinear.
@@ -38,75 +32,53 @@ fn turn_number(turn: Orientation) -> i32
 }
 
 // A turn, as its number.
-pub fn hand_turn(answer: Turn, out: &mut i32) -> Refusal
-    ensures { (result ≡ refusal_in (turn answer)) × (out.new ≡ told itself (turn answer) out.old) }
+pub fn hand_turn(answer: Result<Orientation, Refusal>, out: &mut i32) -> Result<(), Refusal>
+    ensures { (tested result ≡ refusal_in (turn answer)) × (out.new ≡ told itself (turn answer) out.old) }
 {
-    match answer {
-        Turn::Is(x) => {
-            *out = turn_number(x);
-            Refusal::none()
-        }
-        Turn::Refused(no) => no,
-    }
+    *out = turn_number(answer?);
+    Ok(())
 }
 
 // A number.
-pub fn hand_number(answer: Number, out: &mut f64) -> Refusal
-    ensures { (result ≡ refusal_in (number answer)) × (out.new ≡ told itself (number answer) out.old) }
+pub fn hand_number(answer: Result<f64, Refusal>, out: &mut f64) -> Result<(), Refusal>
+    ensures { (tested result ≡ refusal_in (answered answer)) × (out.new ≡ told itself (answered answer) out.old) }
 {
-    match answer {
-        Number::Is(x) => {
-            *out = x;
-            Refusal::none()
-        }
-        Number::Refused(no) => no,
-    }
+    *out = answer?;
+    Ok(())
 }
 
 // A foot's parameter, and the number of where it sits.
-pub fn hand_projected(answer: Projected, parameter: &mut f64, foot: &mut u32) -> Refusal
-    ensures { (result ≡ refusal_in (projected answer))
+pub fn hand_projected(
+    answer: Result<Projection, Refusal>,
+    parameter: &mut f64,
+    foot: &mut u32,
+) -> Result<(), Refusal>
+    ensures { (tested result ≡ refusal_in (projected answer))
         × (parameter.new ≡ told parameter_in (projected answer) parameter.old)
         × (foot.new ≡ told foot_in (projected answer) foot.old) }
 {
-    match answer {
-        Projected::Is {
-            parameter: t,
-            foot: at,
-        } => {
-            *parameter = t;
-            *foot = foot_code(at);
-            Refusal::none()
-        }
-        Projected::Refused(no) => no,
-    }
+    let projection = answer?;
+    *parameter = projection.parameter;
+    *foot = foot_code(projection.foot);
+    Ok(())
 }
 
 // How many entries were written.
-pub fn hand_count(answer: Count, out: &mut u64) -> Refusal
-    ensures { (result ≡ refusal_in (counted answer)) × (out.new ≡ told itself (counted answer) out.old) }
+pub fn hand_count(answer: Result<usize, Refusal>, out: &mut u64) -> Result<(), Refusal>
+    ensures { (tested result ≡ refusal_in (answered answer)) × (out.new ≡ told itself (answered answer) out.old) }
 {
-    match answer {
-        Count::Is(n) => {
-            *out = n as u64;
-            Refusal::none()
-        }
-        Count::Refused(no) => no,
-    }
+    *out = answer? as u64;
+    Ok(())
 }
 
 // A position.
-pub fn hand_start(answer: Start, x: &mut f64, y: &mut f64) -> Refusal
-    ensures { (result ≡ refusal_in (started answer))
-        × (x.new ≡ told x_of (started answer) x.old)
-        × (y.new ≡ told y_of (started answer) y.old) }
+pub fn hand_start(answer: Result<Point, Refusal>, x: &mut f64, y: &mut f64) -> Result<(), Refusal>
+    ensures { (tested result ≡ refusal_in (answered answer))
+        × (x.new ≡ told x_of (answered answer) x.old)
+        × (y.new ≡ told y_of (answered answer) y.old) }
 {
-    match answer {
-        Start::Is(p) => {
-            *x = p.x;
-            *y = p.y;
-            Refusal::none()
-        }
-        Start::Refused(no) => no,
-    }
+    let p = answer?;
+    *x = p.x;
+    *y = p.y;
+    Ok(())
 }

@@ -1,36 +1,34 @@
 // The verdict on a path. On an answer the fault's number is written, and its index only where there is a fault; a refusal leaves the cells as they were.
+#![tactic(auto, unfolding(crate::specs::Handed::refusal_in, crate::specs::Handed::told, crate::specs::Handed::told_found, crate::specs::Verdicts::fault_number, crate::specs::Verdicts::fault_index))]
+
 ghost use Rattle.std.specs.Prelude.{◌≡◌};
-ghost use Rattle.path_check.specs.Calls.{verdict};
+ghost use Rattle.refusals.specs.Answers.{answered, tested};
 ghost use Rattle.handed.specs.Handed.{refusal_in, told, told_found, itself};
 ghost use Rattle.handed.specs.Verdicts.{fault_number, index_in};
 
 use path_check::Fault;
-use path_check::answer::Verdict;
 use refusals::Refusal;
 
 // The fault's number, and the index of the point at which it is or from which the leg leads on.
-pub fn hand_verdict(answer: Verdict, fault: &mut u32, index: &mut u64) -> Refusal
-    ensures { (result ≡ refusal_in (verdict answer))
-        × (fault.new ≡ told fault_number (verdict answer) fault.old)
-        × (index.new ≡ told_found itself (index_in (verdict answer)) index.old) }
+pub fn hand_verdict(
+    answer: Result<Option<Fault>, Refusal>,
+    fault: &mut u32,
+    index: &mut u64,
+) -> Result<(), Refusal>
+    ensures { (tested result ≡ refusal_in (answered answer))
+        × (fault.new ≡ told fault_number (answered answer) fault.old)
+        × (index.new ≡ told_found itself (index_in (answered answer)) index.old) }
 {
-    match answer {
-        Verdict::Is(f) => match f {
-            Fault::Nothing => {
-                *fault = 0;
-                Refusal::none()
-            }
-            Fault::Point(i) => {
-                *fault = 1;
-                *index = i as u64;
-                Refusal::none()
-            }
-            Fault::Leg(i) => {
-                *fault = 2;
-                *index = i as u64;
-                Refusal::none()
-            }
-        },
-        Verdict::Refused(no) => no,
+    match answer? {
+        None => *fault = 0,
+        Some(Fault::Point(i)) => {
+            *fault = 1;
+            *index = i as u64;
+        }
+        Some(Fault::Leg(i)) => {
+            *fault = 2;
+            *index = i as u64;
+        }
     }
+    Ok(())
 }

@@ -1,6 +1,5 @@
 -- What exported answers about drawn moves write to their cells, by the outcome of the call. Definitions only.
-use Rattle.std.specs.Prelude.{ℕ}
-use Rattle.std.proofs.Math.Option.{Option, none, some}
+use Rattle.std.specs.Prelude.{ℕ, Option, None, Some}
 use Rattle.refusals.specs.Answers.{Outcome, answers, refuses}
 use Rattle.drawn_aside.specs.Found.{Least, clear_by, edge_first, enclosed_by, depth_of}
 use Rattle.clear_drawn_path.specs.declared.PathFound.{PathFound}
@@ -19,19 +18,19 @@ least_ground (enclosed_by how) = 2
 
 -- with 0 and 2 the depth and how the disc was put, with 1 the edge
 unfoldable pub least_depth : Least → Option ℕ
-least_depth (clear_by how) = some (depth_of how)
-least_depth (edge_first j) = none
-least_depth (enclosed_by how) = some (depth_of how)
+least_depth (clear_by how) = Some (depth_of how)
+least_depth (edge_first j) = None
+least_depth (enclosed_by how) = Some (depth_of how)
 
 unfoldable pub least_put : Least → Option ℕ
-least_put (clear_by how) = some how
-least_put (edge_first j) = none
-least_put (enclosed_by how) = some how
+least_put (clear_by how) = Some how
+least_put (edge_first j) = None
+least_put (enclosed_by how) = Some how
 
 unfoldable pub least_edge : Least → Option ℕ
-least_edge (clear_by how) = none
-least_edge (edge_first j) = some j
-least_edge (enclosed_by how) = none
+least_edge (clear_by how) = None
+least_edge (edge_first j) = Some j
+least_edge (enclosed_by how) = None
 
 -- of a path: with 0 the depth, with 1 and 2 the first leg that is not clear, with 1 the edge
 unfoldable pub path_ground : PathFound → ℕ
@@ -40,16 +39,16 @@ path_ground (Edge leg edge) = 1
 path_ground (Enclosed leg) = 2
 
 unfoldable pub path_depth : PathFound → Option ℕ
-path_depth (Clear depth) = some depth
-path_depth (Edge leg edge) = none
-path_depth (Enclosed leg) = none
+path_depth (Clear depth) = Some depth
+path_depth (Edge leg edge) = None
+path_depth (Enclosed leg) = None
 
 unfoldable pub path_leg : PathFound → Option ℕ
-path_leg (Clear depth) = none
-path_leg (Edge leg edge) = some leg
-path_leg (Enclosed leg) = some leg
+path_leg (Clear depth) = None
+path_leg (Edge leg edge) = Some leg
+path_leg (Enclosed leg) = Some leg
 
 unfoldable pub path_edge : PathFound → Option ℕ
-path_edge (Clear depth) = none
-path_edge (Edge leg edge) = some edge
-path_edge (Enclosed leg) = none
+path_edge (Clear depth) = None
+path_edge (Edge leg edge) = Some edge
+path_edge (Enclosed leg) = None

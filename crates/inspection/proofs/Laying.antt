@@ -2,10 +2,12 @@
 -- on stand at the room's front, the rest of the room is as it came, and the place is the one that follows them. Assumes nothing.
 use Prim.Native.Nat.{ℕ, ◌+◌, ◌≤◌, ◌<◌}
 use mathlib.Core.Path.{◌≡◌, refl}
-use mathlib.Core.List.{List, ◌++◌}
+use mathlib.Core.List.{List, [], ◌++◌}
 use native.Mathlib.Omega.{arith}
 use native.Mathlib.Numerals.{add-one}
-use lib.ListN.{length, drop, set, length-set}
+use lib.ListN.{length, drop, take, set, length-set, drop_of_length-le}
+use lib.Seq.{length-take-le}
+use Rattle.std.proofs.lemmas.List.{append-nil}
 use Rattle.ring.specs.Room.{laid}
 use Rattle.ring.proofs.Emit.{emit}
 use Rattle.inspection.specs.Places.{next_place, place_after, places_from}
@@ -41,3 +43,11 @@ module _ (n start m : ℕ) (d : List ℕ) where
   done {room} {at} {i} h t =
       let e : i ≡ m = omega arith in
       (rw e at t.follows, rw (places_length n start m, ← e) t.holds)
+
+-- the front of a room, filled, and what lies behind it
+pub filled : (n start m : ℕ) (d : List ℕ) {front : List ℕ} {at i : ℕ} → m ≤ length d → m ≤ i → Laying n start m (take m d) front at i
+    → (at ≡ place_after n start m) × (front ++ drop m d ≡ laid (places_from n start m) d)
+filled n start m d {front} {at} {i} fits h t =
+    let p = done n start m (take m d) h t in
+    let none : drop m (take m d) ≡ [] = drop_of_length-le (take m d) (omega (arith, length-take-le m d fits)) in
+    (p.0, rw (p.1, places_length n start m, none, append-nil (places_from n start m)) refl)

@@ -1,7 +1,7 @@
 -- The theorems carried to calls: what a call that is not refused says and writes is the definition's, so calls one after the other are the shifts
 -- that the theorems speak of; and two answers to one call are equal. Assumes nothing.
 use Prim.Native.Nat.{ℕ, ◌+◌, ◌≤◌, ◌<◌}
-use mathlib.Core.Path.{◌≡◌, refl, sym, ap, ◌∙◌}
+use mathlib.Core.Path.{◌≡◌, refl, sym, ◌∙◌}
 use mathlib.Core.Bool.{Bool, true, false}
 use mathlib.Core.List.{List, ◌++◌}
 use native.Mathlib.Omega.{arith}
@@ -10,12 +10,15 @@ use lib.Seq.{take_at}
 use Rattle.ring.specs.Room.{laid}
 use Rattle.refusals.specs.Refusals.{passed}
 use Rattle.refusals.specs.Answers.{answers}
+use Rattle.refusals.specs.Answers as reply
+use Rattle.refusals.specs.declared.Refusal.{Refusal}
+use Rattle.refusals.proofs.Calls.{answered_only}
+use Rattle.std.specs.Prelude.{Result}
 use Rattle.inspection.specs.Places.{per_shift, shift_places, following_start}
-use Rattle.inspection.specs.Calls.{Shift, next_refusal, inspected, next_places_call, next_places_room}
+use Rattle.inspection.specs.Calls.{next_refusal, next_places_call, next_places_room}
+use Rattle.inspection.specs.declared.Shift.{Shift}
 use Rattle.inspection.specs.Shifts.{shifts_from, times, rounded_up}
 use Rattle.inspection.specs.Runs.{Run, no_calls, call_then}
-use Rattle.inspection.specs.declared.answer.Inspected.{Inspected}
-use Rattle.inspection.specs.declared.answer.Inspected.TheVariants as inspected-is
 use Rattle.inspection.proofs.Places.{places_length}
 use Rattle.inspection.proofs.Screened.{through}
 use Rattle.inspection.proofs.Inspections.{differ, every_place, evenly}
@@ -73,11 +76,6 @@ module _ (n k : ℕ) where
   pub run_evenly : {shifts : List (List ℕ)} (p q : ℕ) → Run n k 0 shifts → p < n → q < n → times p shifts ≤ times q shifts + 1
   run_evenly {shifts} p q r u v = rw (run_is r) (evenly n k (length shifts) p q u v)
 
--- the map of the answers tells every two apart
-pub inspected_only : (a b : Inspected) → inspected a ≡ inspected b → a ≡ b
-inspected_only (inspected-is.Is m s) (inspected-is.Is l t) h =
-    let e : ◌≡◌ {A = Shift} (record { places = m; following = s }) (record { places = l; following = t }) = cc in
-    cc (ap (λ (x : Shift). x.places) e, ap (λ (x : Shift). x.following) e)
-inspected_only (inspected-is.Is m s) (inspected-is.Refused r) h = cc
-inspected_only (inspected-is.Refused r) (inspected-is.Is m s) h = cc
-inspected_only (inspected-is.Refused r) (inspected-is.Refused q) h = cc
+-- two answers that say the same are equal
+pub inspected_only : (a b : Result Shift Refusal) → reply.answered a ≡ reply.answered b → a ≡ b
+inspected_only a b h = answered_only a b h

@@ -3,11 +3,10 @@ use Rattle.std.specs.Prelude.{ℕ, Bool, ◌&&◌, List, [], ◌∷◌, length, 
 use Rattle.ring.specs.Room.{laid}
 use Rattle.refusals.specs.Refusals.{refused_inspection, unless, first_of}
 use Rattle.refusals.specs.Screens.{wrong_fit}
-use Rattle.refusals.specs.Answers.{Outcome, answers, refuses, outcome, left}
-use Rattle.refusals.specs.declared.Refusal.{Refusal}
+use Rattle.refusals.specs.Answers.{Outcome, outcome, left}
+use Rattle.refusals.specs.Refusals.{Told}
 use Rattle.inspection.specs.Places.{per_shift, shift_places, following_start}
-use Rattle.inspection.specs.declared.answer.Inspected.{Inspected}
-use Rattle.inspection.specs.declared.answer.Inspected.TheVariants as inspected-is
+use Rattle.inspection.specs.declared.Shift.{Shift}
 
 -- 1 at least, and at most so much
 abbrev pub one_to : ℕ → ℕ → Bool
@@ -21,23 +20,15 @@ abbrev pub shift_ok : ℕ → Bool
 shift_ok k = one_to 64 k
 
 -- 13 for the path's places, the shift's or the start, in this order
-unfoldable pub of_shift : ℕ → ℕ → ℕ → Refusal
+unfoldable pub of_shift : ℕ → ℕ → ℕ → Told
 of_shift n k start =
     first_of (unless (path_ok n) refused_inspection 0 ∷ unless (shift_ok k) refused_inspection 0 ∷ unless (ltb start n) refused_inspection 0 ∷ [])
 
 -- then 5 where the places do not fit a room of so many
-unfoldable pub next_refusal : ℕ → ℕ → ℕ → ℕ → Refusal
+unfoldable pub next_refusal : ℕ → ℕ → ℕ → ℕ → Told
 next_refusal n k start size = first_of (of_shift n k start ∷ wrong_fit (per_shift n k) size ∷ [])
 
 -- what a shift answers: how many places were written, and the following start
-pub record Shift : Type 0 where
-  pub places : ℕ
-  pub following : ℕ
-
-abbrev pub inspected : Inspected → Outcome Shift
-inspected (inspected-is.Is m s) = answers (record { places = m; following = s })
-inspected (inspected-is.Refused r) = refuses r
-
 abbrev pub next_places_call : ℕ → ℕ → ℕ → ℕ → Outcome Shift
 next_places_call n k start size =
     outcome (next_refusal n k start size) (record { places = per_shift n k; following = following_start n k start })

@@ -1,7 +1,8 @@
 -- Calls one after the other, as the shop makes them. Definitions only.
 use Rattle.std.specs.Prelude.{ℕ, ◌≡◌, List, [], ◌∷◌, length, take}
 use Rattle.refusals.specs.Answers.{answers}
-use Rattle.inspection.specs.Calls.{Shift, next_places_call, next_places_room}
+use Rattle.inspection.specs.declared.Shift.{Shift}
+use Rattle.inspection.specs.Calls.{next_places_call, next_places_room}
 
 -- calls on one path with one k, none refused, each with a room of its own and started where the one before left off: the places that each
 -- says it wrote, as its room holds them

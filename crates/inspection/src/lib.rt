@@ -1,12 +1,18 @@
 // The places of a path that a shift inspects: the next ones in path order, the last on to the first.
 #![tactic(auto)]
 
-pub mod answer;
 pub mod calls;
 
 ghost use Rattle.std.specs.Prelude.{◌≡◌, ◌<◌, ◌≤◌, length};
 ghost use Rattle.ring.specs.Room.{laid};
 ghost use Rattle.inspection.specs.Places.{next_place, place_after, places_from, per_shift};
+
+// What a shift answers: how many places it inspects and where the next shift starts.
+#[derive(Clone, Copy, Debug, PartialEq, Eq)]
+pub struct Shift {
+    pub places: usize,
+    pub following: u64,
+}
 
 // The place after this one on a path of n places: after the last, the first.
 fn next_place(n: u64, place: u64) -> u64
@@ -31,11 +37,9 @@ fn lay(n: u64, start: u64, m: usize, room: &mut [u64]) -> u64
     ensures room_after { room.new ≡ laid (places_from n start m) room.old }
 {
     let mut place = start;
-    let mut i = 0;
-    while i < m {
-        room[i] = place;
+    for slot in &mut room[..m] {
+        *slot = place;
         place = next_place(n, place);
-        i += 1;
     }
     place
 }

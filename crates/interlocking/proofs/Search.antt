@@ -4,22 +4,21 @@ use mathlib.Core.Path.{◌≡◌}
 use native.Mathlib.Omega.{arith}
 use native.Mathlib.Numerals.{add-one}
 use Rattle.plane.specs.declared.Point.{Point}
-use Rattle.refusals.specs.declared.answer.Found.{Found}
-use Rattle.refusals.specs.declared.answer.Found.TheVariants.{Nothing, At}
+use Rattle.std.specs.Prelude.{Option, Some, None}
 use Rattle.interlocking.specs.Interlocking.{or_else, first_found}
 
-module _ (f : ℕ → Found) (k n : ℕ) where
+module _ (f : ℕ → Option Point) (k n : ℕ) where
   one_less : k < n → n - k ≡ suc (n - (k + 1))
   one_less h = omega arith
 
-  pub found_on : {v : Found} → k < n → v ≡ f k → v ≡ Nothing → first_found f k (n - k) ≡ first_found f (k + 1) (n - (k + 1))
+  pub found_on : {v : Option Point} → k < n → v ≡ f k → v ≡ None → first_found f k (n - k) ≡ first_found f (k + 1) (n - (k + 1))
   unfolding first_found or_else
   found_on h e t = rw (one_less h, ← e, t, add-one k)
 
-  pub found_here : {v : Found} {p : Point} → k < n → v ≡ f k → v ≡ At p → first_found f k (n - k) ≡ At p
+  pub found_here : {v : Option Point} {p : Point} → k < n → v ≡ f k → v ≡ Some p → first_found f k (n - k) ≡ Some p
   unfolding first_found or_else
   found_here h e t = rw (one_less h, ← e, t)
 
-  pub found_none : n ≤ k → first_found f k (n - k) ≡ Nothing
+  pub found_none : n ≤ k → first_found f k (n - k) ≡ None
   unfolding first_found
   found_none h = let e : n - k ≡ 0 = omega arith in rw e

@@ -2,7 +2,7 @@
 -- nothing and gives nothing. Assumes nothing.
 use mathlib.Core.Path.{◌≡◌, refl}
 use mathlib.Core.List.{List, [], ◌∷◌}
-use mathlib.Core.Option.{none, some}
+use Rattle.std.specs.Prelude.{Some, None}
 use lib.Ieee.{Float, add, sub, mul, div, lt, le, eq, neg, of_bits}
 use Rattle.scalar.specs.Float.{◌⊘◌, float, f0, f1}
 use Rattle.scalar.specs.Scalar.{abs_of, minus_zero, ahead, or_number, smaller_of, larger_of}
@@ -36,11 +36,11 @@ notched = f0 ∷ f0 ∷ f8 ∷ f0 ∷ f8 ∷ f8 ∷ f4 ∷ f2 ∷ f0 ∷ f8 ∷ 
 abbrev L : List Float
 L = f0 ∷ f0 ∷ f8 ∷ f0 ∷ f8 ∷ f4 ∷ f4 ∷ f4 ∷ f4 ∷ f8 ∷ f0 ∷ f8 ∷ []
 
-toward_the_notch : interlock_call notched Q (point f4 above) tolerance ≡ answers (some (point f4 (float 0x4033_ffff_ef39_085f)))
+toward_the_notch : interlock_call notched Q (point f4 above) tolerance ≡ answers (Some (point f4 (float 0x4033_ffff_ef39_085f)))
 unfolding of_moving of_two_polygons every coordinate finite interlock_of first_found or_else candidate_of try_of fits_of least_of opening_of concave_of previous_vertex edge_of overlap_of boxes_apart box_of apart_of extent_to wider_of moved_of points plus_of ahead_of point_at minus_of dot_of cross_of turn_of length_of normalize_of smaller_of larger_of or_number ahead minus_zero abs_of sqrt_of add sub mul div lt le eq neg of_bits
 toward_the_notch = refl
 
-right_angle : interlock_call L Q (point f4 above) tolerance ≡ answers none
+right_angle : interlock_call L Q (point f4 above) tolerance ≡ answers None
 unfolding of_moving of_two_polygons every coordinate finite interlock_of first_found or_else candidate_of least_of opening_of concave_of previous_vertex edge_of box_of extent_to wider_of point_at minus_of dot_of cross_of turn_of smaller_of larger_of or_number ahead minus_zero abs_of sqrt_of add sub mul lt le eq neg of_bits
 right_angle = refl
 

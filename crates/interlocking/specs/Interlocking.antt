@@ -1,5 +1,5 @@
 -- A position toward a concave vertex, in the order of operations of `nfp_sliding.rs`. Definitions only.
-use Rattle.std.specs.Prelude.{ℕ, zero, suc, Bool, not, ◌&&◌, cond, List, Float}
+use Rattle.std.specs.Prelude.{ℕ, zero, suc, Bool, not, ◌&&◌, cond, List, Option, Some, None, Float}
 use Rattle.std.specs.Float.Ieee.{lt}
 use Rattle.scalar.specs.Float.{◌⊖◌, ◌⊗◌, f0, f0·5, f1e_6}
 use Rattle.scalar.specs.Scalar.{abs_of, smaller_of}
@@ -7,8 +7,6 @@ use Rattle.plane.specs.Vector.{minus_of, dot_of, normalize_of, turn_of, root, ah
 use Rattle.plane.specs.declared.Point.{Point}
 use Rattle.ring.specs.Ring.{count, point_at, next_of, previous_vertex}
 use Rattle.ring.specs.Moved.{moved_of}
-use Rattle.refusals.specs.declared.answer.Found.{Found}
-use Rattle.refusals.specs.declared.answer.Found.TheVariants.{Nothing, At}
 use Rattle.overlap.specs.Extent.{box_of}
 use Rattle.overlap.specs.Overlap.{edge_of, overlap_of}
 
@@ -31,25 +29,25 @@ unfoldable pub fits_of : List Float → List Float → Point → Bool
 fits_of s o at = not (overlap_of s (moved_of o at) f1e_6)
 
 -- one tolerance from the current position toward vertex i, where o fits there
-unfoldable pub try_of : List Float → List Float → Point → Float → ℕ → Found
+unfoldable pub try_of : List Float → List Float → Point → Float → ℕ → Option Point
 try_of s o current tol i =
     let at = ahead_of current (normalize_of (minus_of (point_at s i) current)) tol in
-    cond (fits_of s o at) (At at) Nothing
+    cond (fits_of s o at) (Some at) None
 
 -- the same where vertex i is concave and opens wider than least
-unfoldable pub candidate_of : List Float → List Float → Point → Float → Float → ℕ → Found
+unfoldable pub candidate_of : List Float → List Float → Point → Float → Float → ℕ → Option Point
 candidate_of s o current tol least i =
-    cond (concave_of s i && lt least (opening_of s i)) (try_of s o current tol i) Nothing
+    cond (concave_of s i && lt least (opening_of s i)) (try_of s o current tol i) None
 
-unfoldable pub or_else : Found → Found → Found
-or_else Nothing b = b
-or_else (At p) b = At p
+unfoldable pub or_else : Option Point → Option Point → Option Point
+or_else None b = b
+or_else (Some p) b = Some p
 
 -- the first of so many, from k on, that is something
-unfoldable pub first_found : (ℕ → Found) → ℕ → ℕ → Found
-first_found f k zero = Nothing
+unfoldable pub first_found : (ℕ → Option Point) → ℕ → ℕ → Option Point
+first_found f k zero = None
 first_found f k (suc more) = or_else (f k) (first_found f (suc k) more)
 
 -- `detect_interlocking_opportunity`: the first position that a vertex gives
-unfoldable pub interlock_of : List Float → List Float → Point → Float → Found
+unfoldable pub interlock_of : List Float → List Float → Point → Float → Option Point
 interlock_of s o current tol = first_found (candidate_of s o current tol (least_of o)) 0 (count s)

@@ -10,7 +10,6 @@ ghost use Rattle.interlocking.specs.Interlocking.{concave_of, opening_of, least_
 use overlap::{compute_bbox, edge_vector, polygons_overlap};
 use plane::Point;
 use plane::vector::{ahead, dot, minus, normalize, turn};
-use refusals::answer::Found;
 use ring::moving::move_ring;
 use ring::{next, point_at, previous};
 use scalar::{abs, smaller};
@@ -67,7 +66,7 @@ fn try_toward(
     current: Point,
     tolerance: f64,
     i: usize,
-) -> Found
+) -> Option<Point>
     requires orbiting_len { length orbiting.now % 2 ≡ 0 }
     requires orbiting_len_bound { length orbiting.now ≤ 512 }
     requires i_bound { i < count stationary.now }
@@ -76,9 +75,9 @@ fn try_toward(
     let dir = normalize(minus(point_at(stationary, i), current));
     let at = ahead(current, dir, tolerance);
     if fits(stationary, orbiting, at) {
-        Found::At(at)
+        Some(at)
     } else {
-        Found::Nothing
+        None
     }
 }
 
@@ -90,7 +89,7 @@ fn candidate(
     tolerance: f64,
     least: f64,
     i: usize,
-) -> Found
+) -> Option<Point>
     requires orbiting_len { length orbiting.now % 2 ≡ 0 }
     requires orbiting_len_bound { length orbiting.now ≤ 512 }
     requires i_bound { i < count stationary.now }
@@ -101,7 +100,7 @@ fn candidate(
             return try_toward(stationary, orbiting, current, tolerance, i);
         }
     }
-    Found::Nothing
+    None
 }
 
 // The first position that a vertex of the stationary polygon gives, or nothing.
@@ -110,19 +109,17 @@ pub fn detect_interlocking_opportunity(
     orbiting: &[f64],
     current: Point,
     tolerance: f64,
-) -> Found
+) -> Option<Point>
     requires orbiting_len { length orbiting.now % 2 ≡ 0 }
     requires orbiting_len_bound { length orbiting.now ≤ 512 }
     ensures { result ≡ interlock_of stationary.now orbiting.now current tolerance }
 {
     let least = least_opening(orbiting);
     let n = stationary.len() / 2;
-    let mut i = 0;
-    while i < n {
-        match candidate(stationary, orbiting, current, tolerance, least, i) {
-            Found::Nothing => i += 1,
-            Found::At(p) => return Found::At(p),
+    for i in 0..n {
+        if let Some(p) = candidate(stationary, orbiting, current, tolerance, least, i) {
+            return Some(p);
         }
     }
-    Found::Nothing
+    None
 }

@@ -6,7 +6,7 @@ use Rattle.print.specs.Digits.{decimal}
 use Rattle.print.specs.Text.{space, newline, pair_line}
 use Rattle.ring.specs.Ring.{point_at}
 use Rattle.refusals.specs.Refusals.{tells_place}
-use Rattle.refusals.specs.declared.Refusal.{Refusal}
+use Rattle.refusals.specs.Refusals.{Told}
 
 -- "refused "
 abbrev pub refused : List ℕ
@@ -20,7 +20,7 @@ abbrev pub place_line : ℕ → ℕ → List ℕ
 place_line number place = refused ++ (decimal number ++ (space ++ (decimal place ++ newline)))
 
 -- a refusal, with its place where it tells one
-unfoldable pub refusal_line : Refusal → List ℕ
+unfoldable pub refusal_line : Told → List ℕ
 refusal_line r = cond (tells_place r.number) (place_line r.number r.place) (number_line r.number)
 
 -- the first n points of a list, a line each

@@ -4,6 +4,7 @@
 ghost use Rattle.std.specs.Prelude.{◌≡◌, ◌+◌, ◌*◌, ◌≤◌, length};
 ghost use Rattle.print.specs.Text.{Put};
 ghost use Rattle.lines.specs.Lines.{number_line, place_line, refusal_line, point_lines};
+ghost use Rattle.refusals.specs.Answers.{tells};
 
 use number_bytes::bits_of;
 use print::{put_decimal, put_pair, put_text};
@@ -33,14 +34,14 @@ fn put_place(number: u32, place: u64, out: &mut [u8]) -> usize
 }
 
 // A refusal: its number, and its place where it tells one.
+#[tactic(auto, unfolding(crate::specs::Lines::refusal_line))]
 pub fn put_refusal(no: Refusal, out: &mut [u8]) -> usize
     requires { 100 ≤ length out.old }
-    ensures { Put out.old 0 (refusal_line no) out.new result }
+    ensures { Put out.old 0 (refusal_line (tells no)) out.new result }
 {
-    if no.tells_place() {
-        put_place(no.number, no.place, out)
-    } else {
-        put_number(no.number, out)
+    match no.place() {
+        Some(place) => put_place(no.number(), place, out),
+        None => put_number(no.number(), out),
     }
 }
 
@@ -51,11 +52,9 @@ pub fn put_points(xs: &[f64], n: usize, out: &mut [u8], at: usize) -> usize
     ensures value { result ≡ at + 34 * n }
 {
     let mut next = at;
-    let mut i = 0;
-    while i < n {
+    for i in 0..n {
         let p = point_at(xs, i);
         next = put_pair(out, next, bits_of(p.x), bits_of(p.y));
-        i += 1;
     }
     next
 }

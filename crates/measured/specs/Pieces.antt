@@ -1,6 +1,5 @@
 -- docs/SCOPE.md's starred pieces, in its order and under its words: what the written rules answer, and the values that it gives. Definitions only.
-use Rattle.std.specs.Prelude.{◌^◌, false, List, [], ◌∷◌, ◌++◌, drop, replicate}
-use Rattle.std.proofs.Math.Option.{none, some}
+use Rattle.std.specs.Prelude.{◌^◌, false, List, [], ◌∷◌, ◌++◌, drop, replicate, Option, None, Some}
 use Rattle.std.specs.Float.{nan}
 use Rattle.plane.specs.Vector.{root}
 use Rattle.refusals.specs.Answers.{answers}
@@ -10,7 +9,6 @@ use Rattle.contacts_call.specs.Calls.{find_call, find_which, find_points}
 use Rattle.collision.specs.Calls.{collision_call}
 use Rattle.pairs.specs.Pairs.{pair}
 use Rattle.collision.specs.Nearest.{pair_no, ray_at}
-use Rattle.collision.specs.declared.Ray.TheVariants.{At}
 use Rattle.simplify.specs.Simplify.{survivors}
 use Rattle.simplify.specs.Calls.{simplify_call, simplify_room}
 use Rattle.reading.specs.Reading.{least_reading}
@@ -56,12 +54,12 @@ contacts =
 unfoldable pub moves : List Piece
 moves =
     collision_call S beside (at 10 0) tolerance
-    gives answers (some (record { distance = real 3; kind = 0; stationary = 3; orbiting = 1 }))
-    ∷ ray_at S beside (at 10 0) tolerance (pair 0 3 2) gives At (real 3)
+    gives answers (Some (record { distance = real 3; kind = 0; stationary = 3; orbiting = 1 }))
+    ∷ ray_at S beside (at 10 0) tolerance (pair 0 3 2) gives Some (real 3)
     ∷ pair_no S beside 7 gives pair 0 3 1
     ∷ pair_no S beside 11 gives pair 0 3 2
-    ∷ collision_call S beside (at 3 0) tolerance gives answers none
-    ∷ collision_call S beside (at 0 0) tolerance gives answers none
+    ∷ collision_call S beside (at 3 0) tolerance gives answers None
+    ∷ collision_call S beside (at 0 0) tolerance gives answers None
     ∷ []
 
 -- "Simplify (0,0),(1,0),(2,0): two survive, so all three stay."

@@ -1,11 +1,10 @@
--- The map of the answer tells every two apart. Assumes nothing.
+-- No two answers say the same. Assumes nothing.
 use mathlib.Core.Path.{◌≡◌}
-use Rattle.mending.specs.Calls.{mended}
-use Rattle.mending.specs.declared.answer.Mended.{Mended}
-use Rattle.mending.specs.declared.answer.Mended.TheVariants.{Is, Refused}
+use Rattle.std.specs.Prelude.{Result}
+use Rattle.refusals.specs.Answers.{answered}
+use Rattle.refusals.specs.declared.Refusal.{Refusal}
+use Rattle.refusals.proofs.Calls.{answered_only}
+use Rattle.mending.specs.declared.answer.Sizes.{Sizes}
 
-pub mended_only : (a b : Mended) → mended a ≡ mended b → a ≡ b
-mended_only (Is x) (Is y) h = cc
-mended_only (Is x) (Refused r) h = cc
-mended_only (Refused r) (Is y) h = cc
-mended_only (Refused r) (Refused s) h = cc
+pub mended_only : (a b : Result Sizes Refusal) → answered a ≡ answered b → a ≡ b
+mended_only a b h = answered_only a b h

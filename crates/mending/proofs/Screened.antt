@@ -1,7 +1,7 @@
--- What the tests of the call tell: what a ring to mend is, that rooms which pass are long enough, and the row in its two parts. Assumes nothing.
+-- What the tests of the call tell: what a ring to mend is, and that rooms which pass are long enough. Assumes nothing.
 use Prim.Native.Nat.{ℕ, ◌*◌, ◌-◌, ◌≤◌}
-use mathlib.Core.Path.{◌≡◌, refl}
-use mathlib.Core.Bool.{Bool, true}
+use mathlib.Core.Path.{◌≡◌, refl, sym, ap}
+use mathlib.Core.Bool.{true}
 use mathlib.Core.List.{List}
 use native.Mathlib.Omega.{arith}
 use lib.ListN.{length}
@@ -14,13 +14,10 @@ use Rattle.refusals.specs.Bounds.{coordinates}
 use Rattle.refusals.specs.Lists.{list_fault}
 use Rattle.refusals.specs.Screens.{wrong_number, wrong_fit}
 use Rattle.refusals.specs.Rows.{of_rooms}
-use Rattle.refusals.specs.declared.Refusal.{Refusal}
 use Rattle.refusals.proofs.Sized.{row_parts, holds, Fine, fine, rooms_fit}
 use Rattle.refusals.proofs.Faults.{fault_none}
 use Rattle.mending.specs.Rows.{mendable_extent, of_mendable, wrong_remaining, of_mending}
 use Rattle.mending.specs.Mending.{staying, going}
-use Rattle.mending.specs.Calls.{fitting, mend_refusal, sizes_of}
-use Rattle.mending.specs.declared.answer.Sizes.{Sizes}
 use Rattle.mending.proofs.Counting.{all_parts}
 
 -- a ring that is not refused
@@ -44,12 +41,8 @@ module _ (r : List Float) where
       let f : Fine (mendable_extent r) = record { whole = omega (arith, m.even); enough = m.least; within = m.most } in
       rw (← fault_none (mendable_extent r) 0 f, m.bounded)
 
-  pub lent_is : {n : Refusal} {p : Bool} → n ≡ of_mendable r → p ≡ passed n → p ≡ true → Mendable r
-  lent_is e h t = is_mendable (rw (← e, ← h) t)
-
-  pub mend_row : (room dropped points : ℕ) → mend_refusal r room dropped points ≡ first (of_mendable r) (fitting r room dropped points)
-  unfolding mend_refusal
-  mend_row room dropped points = refl
+  pub lent_is : none ≡ of_mendable r → Mendable r
+  lent_is e = is_mendable (ap passed (sym e))
 
 -- three vertices remain, and each room is long enough
 pub record Fits (remaining gone room dropped points : ℕ) : Type 0 where
@@ -78,16 +71,9 @@ module _ (remaining gone room dropped points : ℕ) where
   fit_passes f =
       rw (le-leb 3 remaining f.three, le-leb (2 * remaining) room f.ring, le-leb (2 * gone) dropped f.whys, le-leb (2 * gone) points f.spots)
 
-  pub fit_is : {n : Refusal} {p : Bool} → n ≡ of_mending remaining gone room dropped points → p ≡ passed n → p ≡ true → Fits remaining gone room dropped points
-  fit_is e h t = all_fit (rw (← e, ← h) t)
+  pub fit_is : none ≡ of_mending remaining gone room dropped points → Fits remaining gone room dropped points
+  fit_is e = all_fit (ap passed (sym e))
 
--- the tests of the code, with what it counted, are those of the definition
-module _ (r : List Float) {s : ℕ} (e : s ≡ length (staying r)) where
-  rest : count r - s ≡ length (going r)
-  rest = omega (arith, all_parts r)
-
-  pub screened : (room dropped points : ℕ) {n : Refusal} → n ≡ of_mending s (count r - s) room dropped points → n ≡ fitting r room dropped points
-  screened room dropped points q = rw (q, rest, e)
-
-  pub sizes : ◌≡◌ {A = Sizes} (record { vertices = s; dropped = count r - s }) (sizes_of r)
-  sizes = rw (rest, e)
+-- what does not stay goes
+pub rest : (r : List Float) (s : ℕ) → s ≡ length (staying r) → count r - s ≡ length (going r)
+rest r s e = omega (arith, all_parts r)

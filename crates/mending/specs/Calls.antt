@@ -2,19 +2,17 @@
 use Rattle.std.specs.Prelude.{ℕ, List, [], ◌∷◌, length, Float}
 use Rattle.ring.specs.Room.{laid}
 use Rattle.refusals.specs.Refusals.{first_of}
-use Rattle.refusals.specs.Answers.{Outcome, answers, refuses, outcome, left}
-use Rattle.refusals.specs.declared.Refusal.{Refusal}
+use Rattle.refusals.specs.Answers.{Outcome, outcome, left}
+use Rattle.refusals.specs.Refusals.{Told}
 use Rattle.mending.specs.Mending.{staying, going, mended_of, dropped_of, dropped_points}
 use Rattle.mending.specs.Rows.{of_mendable, of_mending}
 use Rattle.mending.specs.declared.answer.Sizes.{Sizes}
-use Rattle.mending.specs.declared.answer.Mended.{Mended}
-use Rattle.mending.specs.declared.answer.Mended.TheVariants.{Is, Refused}
 
 -- 11 and 5 of a ring that is mended
-abbrev pub fitting : List Float → ℕ → ℕ → ℕ → Refusal
+abbrev pub fitting : List Float → ℕ → ℕ → ℕ → Told
 fitting r room dropped points = of_mending (length (staying r)) (length (going r)) room dropped points
 
-unfoldable pub mend_refusal : List Float → ℕ → ℕ → ℕ → Refusal
+unfoldable pub mend_refusal : List Float → ℕ → ℕ → ℕ → Told
 mend_refusal r room dropped points = first_of (of_mendable r ∷ fitting r room dropped points ∷ [])
 
 -- how many vertices the mended ring has, and how many were dropped
@@ -36,8 +34,3 @@ mend_dropped r room dropped points =
 abbrev pub mend_points : List Float → List Float → List ℕ → List Float → List Float
 mend_points r room dropped points =
     left (mend_refusal r (length room) (length dropped) (length points)) (laid (dropped_points r) points) points
-
--- the answer
-abbrev pub mended : Mended → Outcome Sizes
-mended (Is s) = answers s
-mended (Refused r) = refuses r

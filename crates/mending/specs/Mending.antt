@@ -1,12 +1,10 @@
 -- A ring mended: of each run of neighbours that are equal as numbers the first stays, and then the vertices at the end that equal the first go.
 -- Definitions only.
-use Rattle.std.specs.Prelude.{ℕ, ◌-◌, Bool, not, ◌&&◌, ◌||◌, cond, List, [], ◌∷◌, eqb, Float}
+use Rattle.std.specs.Prelude.{ℕ, ◌-◌, Bool, not, ◌&&◌, ◌||◌, cond, List, [], ◌∷◌, eqb, Option, Some, None, Float}
 use Rattle.plane.specs.Vector.{same_of}
 use Rattle.ring.specs.Ring.{count, point_at}
 use Rattle.ring.specs.Each.{each}
 use Rattle.contacts.specs.Contacts.{picks}
-use Rattle.mending.specs.declared.Fate.{Fate}
-use Rattle.mending.specs.declared.Fate.TheVariants.{Stays, Goes}
 
 -- why a vertex goes: it is a later one of a run, or it is at the end and equals the first
 abbrev pub why_run : ℕ
@@ -34,8 +32,9 @@ stays_at r i = not (goes_at r i)
 unfoldable pub why_of : List Float → ℕ → ℕ
 why_of r i = cond (repeats_at r i) why_run why_trailing
 
-unfoldable pub fate_of : List Float → ℕ → Fate
-fate_of r i = cond (goes_at r i) (Goes (why_of r i)) Stays
+-- why it goes, or nothing where it stays
+unfoldable pub fate_of : List Float → ℕ → Option ℕ
+fate_of r i = cond (goes_at r i) (Some (why_of r i)) None
 
 -- ---- what stays and what goes, by rising indices
 

@@ -18,13 +18,6 @@ const RUN: u64 = 0;
 
 const TRAILING: u64 = 1;
 
-// What becomes of a vertex: it stays, or it goes, and why.
-#[derive(Clone, Copy)]
-pub enum Fate {
-    Stays,
-    Goes(u64),
-}
-
 // From which vertex on each equals the first. The first is not counted among them.
 fn trail(ring: &[f64]) -> usize
     requires { 1 ≤ count ring.now }
@@ -32,31 +25,24 @@ fn trail(ring: &[f64]) -> usize
 {
     let first = point_at(ring, 0);
     let mut end = ring.len() / 2;
-    while 1 < end {
-        if same(first, point_at(ring, end - 1)) {
-            end -= 1;
-        } else {
-            return end;
-        }
+    // A while: where it ends is the answer, so a `for` over the vertices from the last on would be no plainer.
+    while 1 < end && same(first, point_at(ring, end - 1)) {
+        end -= 1;
     }
     end
 }
 
-// What becomes of vertex i, where those that trail begin at end.
-fn fate_at(ring: &[f64], end: usize, i: usize) -> Fate
+// Why vertex i goes, where those that trail begin at end, or nothing where it stays.
+fn fate_at(ring: &[f64], end: usize, i: usize) -> Option<u64>
     requires i_bound { i < count ring.now }
     requires by_index { (j : ℕ) → 1 ≤ j → trails_from ring.now j ≡ leb end j }
     ensures { result ≡ fate_of ring.now i }
 {
     if i == 0 {
-        return Fate::Stays;
+        return None;
     }
     if same(point_at(ring, i - 1), point_at(ring, i)) {
-        return Fate::Goes(RUN);
+        return Some(RUN);
     }
-    if end <= i {
-        Fate::Goes(TRAILING)
-    } else {
-        Fate::Stays
-    }
+    if end <= i { Some(TRAILING) } else { None }
 }

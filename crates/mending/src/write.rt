@@ -2,12 +2,13 @@
 ghost use Rattle.std.specs.Prelude.{◌≡◌, ℕ, ◌+◌, ◌*◌, ◌<◌, ◌≤◌, leb, length, set};
 ghost use Rattle.ring.specs.Ring.{count};
 ghost use Rattle.ring.specs.Room.{laid};
-ghost use Rattle.refusals.specs.Answers.{outcome, left};
+ghost use Rattle.refusals.specs.Answers.{answered, outcome, left};
 ghost use Rattle.mending.specs.Mending.{trails_from, staying, going, mended_of, dropped_of, dropped_points};
-ghost use Rattle.mending.specs.Calls.{fitting, sizes_of, mended};
+ghost use Rattle.mending.specs.Calls.{fitting, sizes_of};
 
-use crate::answer::{Mended, Sizes};
-use crate::{Fate, fate_at, row, trail};
+use crate::answer::Sizes;
+use crate::{fate_at, row, trail};
+use refusals::Refusal;
 use ring::point_at;
 use ring::room::put;
 
@@ -18,16 +19,9 @@ fn count_staying(ring: &[f64], end: usize) -> usize
 {
     let n = ring.len() / 2;
     let mut staying = 0;
-    let mut i = 0;
-    while i < n {
-        match fate_at(ring, end, i) {
-            Fate::Stays => {
-                staying += 1;
-                i += 1;
-            }
-            Fate::Goes(_) => {
-                i += 1;
-            }
+    for i in 0..n {
+        if fate_at(ring, end, i).is_none() {
+            staying += 1;
         }
     }
     staying
@@ -55,29 +49,32 @@ fn write_mended(ring: &[f64], end: usize, room: &mut [f64], dropped: &mut [u64],
     let n = ring.len() / 2;
     let mut staying = 0;
     let mut gone = 0;
-    let mut i = 0;
-    while i < n {
+    for i in 0..n {
         match fate_at(ring, end, i) {
-            Fate::Stays => {
+            None => {
                 put(room, staying, point_at(ring, i));
                 staying += 1;
-                i += 1;
             }
-            Fate::Goes(why) => {
+            Some(why) => {
                 put_why(dropped, gone, i, why);
                 put(points, gone, point_at(ring, i));
                 gone += 1;
-                i += 1;
             }
         }
     }
 }
 
 // The mended ring and the report in the rooms, or the refusal of what remains or of a room that is too short.
-pub fn answer(ring: &[f64], room: &mut [f64], dropped: &mut [u64], points: &mut [f64]) -> Mended
+#[tactic(auto, using(refusals::proofs::Tests::refused, crate::proofs::Screened::rest, crate::proofs::Screened::fit_is))]
+pub fn answer(
+    ring: &[f64],
+    room: &mut [f64],
+    dropped: &mut [u64],
+    points: &mut [f64],
+) -> Result<Sizes, Refusal>
     requires bound { 1 ≤ count ring.now }
     requires ring_bound { count ring.now ≤ 256 }
-    ensures { (mended result ≡ outcome
+    ensures { (answered result ≡ outcome
         (fitting ring.now (length room.old) (length dropped.old) (length points.old))
         (sizes_of ring.now))
         × (room.new ≡ left
@@ -96,13 +93,10 @@ pub fn answer(ring: &[f64], room: &mut [f64], dropped: &mut [u64], points: &mut 
     let end = trail(ring);
     let staying = count_staying(ring, end);
     let gone = ring.len() / 2 - staying;
-    let no = row::mending(staying, gone, room.len(), dropped.len(), points.len());
-    if no.passed() {
-        write_mended(ring, end, room, dropped, points);
-        return Mended::Is(Sizes {
-            vertices: staying,
-            dropped: gone,
-        });
-    }
-    Mended::Refused(no)
+    row::mending(staying, gone, room.len(), dropped.len(), points.len())?;
+    write_mended(ring, end, room, dropped, points);
+    Ok(Sizes {
+        vertices: staying,
+        dropped: gone,
+    })
 }

@@ -17,7 +17,7 @@ use Rattle.refusals.specs.Screens.{wrong_number}
 use Rattle.refusals.specs.Lists.{Extent, list_fault, ring_extent}
 use Rattle.refusals.specs.Rows.{of_two_rings, of_points4}
 use Rattle.refusals.specs.Answers.{outcome}
-use Rattle.refusals.specs.declared.Refusal.{Refusal}
+use Rattle.refusals.specs.Refusals.{Told}
 use Rattle.segments.specs.Segments.{orientation_of, straddles_of, crosses_of, touches_of, intersect_of}
 use Rattle.segments.specs.Calls.{intersect_call}
 use Rattle.ring_distance.specs.Distance.{ring_distance_of}
@@ -47,14 +47,14 @@ distance_exchanged a b =
 
 -- ---- the refusals of two lists
 
-abbrev faulty : ℕ → ℕ → Refusal
+abbrev faulty : ℕ → ℕ → Told
 faulty num at = unless (eqb num 0) num at
 
 -- a fault's number does not depend on the place
 fault_is : (e : Extent) (at : ℕ) → list_fault e at ≡ faulty (fault_number e) at
 fault_is e at = by (eqb (e.size % e.width) 0) (leb e.least (e.size / e.width)) (leb (e.size / e.width) e.most)
   where
-    row : Bool → Bool → Bool → ℕ → Refusal
+    row : Bool → Bool → Bool → ℕ → Told
     row a b c at = first (unless a 1 at) (first (unless b 8 at) (unless c 9 at))
 
     by : (a b c : Bool) → row a b c at ≡ faulty (row a b c 0).number at
@@ -69,7 +69,7 @@ either_order true false = refl
 either_order false true = refl
 either_order false false = refl
 
-by_faults : {A : Type 0} (n m : ℕ) (w w' : Refusal) (v v' : A) → w' ≡ w → v' ≡ v
+by_faults : {A : Type 0} (n m : ℕ) (w w' : Told) (v v' : A) → w' ≡ w → v' ≡ v
     → Exchanged n m (outcome (first (first (faulty n 0) (faulty m 1)) w) v) (outcome (first (first (faulty m 0) (faulty n 1)) w') v')
 by_faults zero zero w w' v v' e f = rw (e, f) refl
 by_faults (suc n) zero w w' v v' e f = let z = ne_eqb (suc n) 0 (λ q. omega arith) in (simp z, simp z)
@@ -122,5 +122,5 @@ points_exchanged false b false d = refl
 pub intersect_call_exchanged : (p1 p2 p3 p4 : Point) → intersect_call p3 p4 p1 p2 ≡ intersect_call p1 p2 p3 p4
 unfolding of_points4
 intersect_call_exchanged p1 p2 p3 p4 =
-    ap₂ (λ (r : Refusal) (v : Bool). outcome r v) (points_exchanged (point_ok p1) (point_ok p2) (point_ok p3) (point_ok p4))
+    ap₂ (λ (r : Told) (v : Bool). outcome r v) (points_exchanged (point_ok p1) (point_ok p2) (point_ok p3) (point_ok p4))
     (intersect_exchanged p1 p2 p3 p4)

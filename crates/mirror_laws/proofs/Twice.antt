@@ -12,10 +12,11 @@ use Rattle.ring.specs.Ring.{count}
 use Rattle.ring.specs.Room.{laid}
 use Rattle.refusals.specs.Refusals.{passed}
 use Rattle.refusals.specs.Bounds.{coordinate, every, coordinates}
+use Rattle.refusals.specs.Screens.{wrong_room}
 use Rattle.refusals.specs.Rows.{of_ring}
+use Rattle.refusals.proofs.Sized.{row_parts, is_ring}
 use Rattle.ring_copies.specs.Copies.{mirrored}
 use Rattle.ring_copies.specs.Calls.{copy_refusal, mirror_room}
-use Rattle.ring_copies.proofs.Screened.{passing}
 use Rattle.mirror_laws.specs.Mirrored.{Returns}
 
 -- ---- numbers
@@ -89,10 +90,15 @@ returns r h =
       writes = λ room. rw (refusal_mirrored r (length room) h, twice r h) refl;
     }
 
+-- a ring that the call takes has whole points
+whole_points : (r : List Float) (size : ℕ) → passed (copy_refusal r (count r) size) ≡ true → length r % 2 ≡ 0
+unfolding copy_refusal
+whole_points r size h = (is_ring r (row_parts (of_ring r) (wrong_room (count r) size) h).0).even
+
 -- What the call wrote of a ring that it took, given to the call again, comes back as the ring.
 pub mirror_twice : (r room : List Float) → passed (copy_refusal r (count r) (length room)) ≡ true
     → Returns r (take (length r) (mirror_room r room))
 mirror_twice r room h =
-    let p = passing r (count r) (length room) refl refl h in
-    let e : take (length r) (laid (mirrored r) room) ≡ mirrored r = take_at (mirrored r) _ (length r) (length_mirrored r p.0.even) in
-    rw (h, e) (returns r p.0.even)
+    let p = whole_points r (length room) h in
+    let e : take (length r) (laid (mirrored r) room) ≡ mirrored r = take_at (mirrored r) _ (length r) (length_mirrored r p) in
+    rw (h, e) (returns r p)

@@ -15,7 +15,7 @@ use Rattle.refusals.specs.Bounds.{coordinates as bounded-by, settings_ok, work_o
 use Rattle.refusals.specs.Lists.{Extent, list_fault, polygon_extent}
 use Rattle.refusals.specs.Screens.{wrong_number, wrong_settings, wrong_work}
 use Rattle.refusals.specs.Rows.{of_two_polygons, of_trace}
-use Rattle.refusals.specs.declared.Refusal.{Refusal}
+use Rattle.refusals.specs.Refusals.{Told}
 use Rattle.refusals.specs.declared.Settings.{Settings}
 use Rattle.ring.specs.Ring.{count}
 use Rattle.start_position.specs.Start.{start_of}
@@ -85,10 +85,10 @@ module _ (s : Scene) (room : ℕ) where
 -- ---- tests in a row
 
 -- a test that does not give refusal 5
-abbrev NotFive : Refusal → Type 0
+abbrev NotFive : Told → Type 0
 NotFive r = r.number ≡ 5 → ⊥
 
-either_not : (a b : Refusal) → NotFive a → NotFive b → NotFive (first a b)
+either_not : (a b : Told) → NotFive a → NotFive b → NotFive (first a b)
 either_not a b h k = by (passed a)
   where
     by : (t : Bool) → NotFive (cond t b a)
@@ -189,5 +189,5 @@ module _ (st orb : List Float) (s : Settings) (work : ℕ) where
           → (refusal_of (cond b (came_to t s.contact_tolerance) (denied (of_trace st orb s work result)))).number ≡ 5 → ⊥
       by true e h =
           fits t.full (brief t) s.contact_tolerance refl
-          (never_full (lent_ready st orb s work result refl refl e).0.limit w) h
+          (never_full (lent_ready st orb s work result e).0.limit w) h
       by false e h = lent_number result h

@@ -178,7 +178,7 @@ larger st orb s work result limit' work' result' c g =
     let t = traced_of st orb s (length work) in
     let tol = s.contact_tolerance in
     let e = complete st orb s (length work) (length result) c in
-    let ready = lent_ready st orb s (length work) (length result) refl refl e.taken in
+    let ready = lent_ready st orb s (length work) (length result) e.taken in
     let row = same_row st orb s (length work) (length result) limit' (length work') (length result') e.taken g.bounded g.whole
     g.enough in
     let enough : length work' ≤ length result' = leb-true _ _ (holds (leb (length work') (length result')) 4 0 refl g.enough) in

@@ -1,21 +1,24 @@
 -- From the start to the end of a trace: the room with the start in it, the polygons made counter-clockwise, the path at the front of the room. Assumes nothing.
-use Prim.Native.Nat.{ℕ, ◌*◌, ◌/◌, ◌%◌, ◌≤◌, ◌<◌}
+use Prim.Native.Nat.{ℕ, ◌*◌, ◌%◌, ◌≤◌}
 use native.Mathlib.Omega.{arith}
-use mathlib.Core.Path.{◌≡◌, refl, sym, ap, ◌∙◌}
-use mathlib.Core.Bool.{Bool, true, false, ◌&&◌}
-use mathlib.Core.List.{List, [], ◌∷◌, ◌++◌}
-use lib.ListN.{length, take, drop, length-append, length-drop}
+use mathlib.Core.Path.{◌≡◌, refl, ap, ◌∙◌}
+use mathlib.Core.Bool.{true, ◌&&◌}
+use mathlib.Core.List.{List, []}
+use lib.ListN.{length, take, length-append, length-drop}
 use lib.Seq.{take_at}
 use lib.Dec.{leb}
 use lib.Ieee.{Float}
 use borrow.Author.Tests.{leb-true}
 use Rattle.laws.proofs.Both.{both}
 use Rattle.plane.specs.declared.Point.{Point}
-use Rattle.refusals.specs.Refusals.{passed, first}
+use Rattle.std.specs.Prelude.{Result, Err}
+use Rattle.refusals.specs.Refusals.{none, passed, first}
+use Rattle.refusals.specs.Answers.{tells}
 use Rattle.refusals.specs.Screens.{wrong_settings, wrong_work, wrong_result}
 use Rattle.refusals.specs.Rows.{of_two_polygons, of_trace}
 use Rattle.refusals.specs.Bounds.{tolerance_ok, smallest_ok, settings_ok, work_ok}
 use Rattle.refusals.specs.declared.Refusal.{Refusal}
+use Rattle.refusals.proofs.Tests.{refused}
 use Rattle.refusals.specs.declared.Settings.{Settings}
 use Rattle.refusals.proofs.Sized.{row_parts, holds, two_polygons}
 use Rattle.ring.specs.Ring.{count}
@@ -25,13 +28,14 @@ use Rattle.winding.specs.Winding.{ccw_of}
 use Rattle.winding.proofs.Order.{ccw_length, ccw_front}
 use Rattle.start_position.specs.Start.{start_of}
 use Rattle.centroid.specs.Centroid.{centroid_of}
-use Rattle.pass.specs.Pass.{Scene, scene}
+use Rattle.pass.specs.Pass.{scene}
 use Rattle.pass_run.specs.declared.run.End.{End}
 use Rattle.pass_run.specs.Run.{Done, run_of, state}
 use Rattle.nfp_sliding.specs.Path.{Trace, ended, end_of, coordinates_of, at_start, margins_of, TraceReady, trace_from, traced_of}
 use Rattle.nfp_sliding.specs.Calls.{traced, came_to, result_after, trace_call, trace_work, trace_result}
-use Rattle.nfp_sliding.specs.declared.answer.Traced.{Traced}
-use Rattle.nfp_sliding.specs.declared.answer.Traced.TheVariants.{Refused}
+use Rattle.nfp_sliding.specs.declared.answer.Trace as answer
+use Rattle.nfp_sliding.specs.declared.answer.Untraced.{Untraced}
+use Rattle.nfp_sliding.specs.declared.answer.Untraced.TheVariants.{Refused}
 use Rattle.nfp_sliding.proofs.Same.{Same, put_path, same_run}
 
 pub sides : {st orb : List Float} {s : Settings} {n : ℕ} → TraceReady st orb s n → Sides (count st) (count orb)
@@ -113,11 +117,10 @@ within s h =
     (both (smallest_ok s.min_translation) _ (both (tolerance_ok s.contact_tolerance) (smallest_ok s.min_translation && leb s.max_iterations 10000) h).1).1
 
 -- what the tests leave of what is lent
-pub lent_ready : (st orb : List Float) (s : Settings) (work result : ℕ) {n : Refusal} {p : Bool} → n ≡ of_trace st orb s work result → p ≡ passed n → p ≡ true
+pub lent_ready : (st orb : List Float) (s : Settings) (work result : ℕ) → passed (of_trace st orb s work result) ≡ true
     → TraceReady st orb s work × (work ≤ result)
 unfolding of_trace
-lent_ready st orb s work result e h t =
-    let g : passed (of_trace st orb s work result) ≡ true = rw (← e, ← h) t in
+lent_ready st orb s work result g =
     let rooms = first (wrong_work work) (wrong_result work result) in
     let a = row_parts (of_two_polygons st orb) (first (wrong_settings s) rooms) g in
     let b = row_parts (wrong_settings s) rooms a.1 in
@@ -137,19 +140,19 @@ lent_ready st orb s work result e h t =
     )
 
 -- what the call answers and leaves where no test refuses, and where one does
-module _ (st orb : List Float) (s : Settings) (work result : List Float) {n : Refusal} {p : Bool} (e : n ≡ of_trace st orb s (length work) (length result))
-    (h : p ≡ passed n) where
-  pub goes : {x : End} (r : Traced) {w o : List Float} → p ≡ true → x ≡ end_of (traced_of st orb s (length work)) → w ≡ laid (traced_of st orb s (length work)).path work
+module _ (st orb : List Float) (s : Settings) (work result : List Float) where
+  pub goes : {x : End} (r : Result answer.Trace Untraced) {w o : List Float} → none ≡ of_trace st orb s (length work) (length result) → x ≡ end_of (traced_of st orb s (length work))
+      → w ≡ laid (traced_of st orb s (length work)).path work
       → traced r ≡ came_to (ended x.full x.reason x.passes (take (2 * x.stored) w)) s.contact_tolerance
       → o ≡ result_after (ended x.full x.reason x.passes (take (2 * x.stored) w)) s.contact_tolerance result
       → (traced r ≡ trace_call st orb s (length work) (length result)) × (w ≡ trace_work st orb s work (length result)) × (o ≡ trace_result st orb s (length work) result)
   unfolding trace_call trace_work trace_result
-  goes r t q a b d =
-      let l = (lent_ready st orb s (length work) (length result) e h t).0.room in
+  goes r e q a b d =
+      let l = (lent_ready st orb s (length work) (length result) (rw (← e))).0.room in
       let z = same_trace st orb s work l q a in
-      (rw (← e, ← h, t, b, z) refl, rw (← e, ← h, t, a) refl, rw (← e, ← h, t, d, z) refl)
+      (rw (← e, b, z) refl, rw (← e, a) refl, rw (← e, d, z) refl)
 
-  pub stops : p ≡ false
-      → (traced (Refused n) ≡ trace_call st orb s (length work) (length result)) × (work ≡ trace_work st orb s work (length result)) × (result ≡ trace_result st orb s (length work) result)
+  pub stops : (r : Refusal) → tells r ≡ of_trace st orb s (length work) (length result)
+      → (traced (Err (Refused r)) ≡ trace_call st orb s (length work) (length result)) × (work ≡ trace_work st orb s work (length result)) × (result ≡ trace_result st orb s (length work) result)
   unfolding trace_call trace_work trace_result
-  stops t = (rw (← e, ← h, t) refl, rw (← e, ← h, t) refl, rw (← e, ← h, t) refl)
+  stops r e = (rw (← e, refused r) refl, rw (← e, refused r) refl, rw (← e, refused r) refl)

@@ -1,12 +1,11 @@
 -- The trace, said of the path as a list. Definitions only.
-use Rattle.std.specs.Prelude.{ℕ, zero, suc, ◌+◌, ◌-◌, ◌%◌, ◌≤◌, ◌≡◌, Bool, true, false, cond, List, [], ◌∷◌, ◌++◌, length, ltb, Float}
+use Rattle.std.specs.Prelude.{ℕ, zero, suc, ◌+◌, ◌-◌, ◌%◌, ◌≤◌, ◌≡◌, Bool, true, false, cond, List, [], ◌∷◌, ◌++◌, None, length, ltb, Float}
 use Rattle.plane.specs.declared.Point.{Point}
 use Rattle.refusals.specs.declared.Settings.{Settings}
 use Rattle.ring.specs.Ring.{count}
 use Rattle.winding.specs.Winding.{ccw_of}
 use Rattle.start_position.specs.Start.{start_of}
 use Rattle.centroid.specs.Centroid.{centroid_of}
-use Rattle.selection.specs.declared.Previous.TheVariants.{None}
 use Rattle.pass.specs.Stop.{passes_used}
 use Rattle.pass.specs.Pass.{Scene, scene, pass_of}
 use Rattle.pass.specs.declared.Margins.{Margins}

@@ -1,40 +1,49 @@
-// What a trace answers: how many points the result and the path have, the passes begun and the reason it stopped; or the refusal.
+// What a trace comes to, or why it has no outline.
 ghost use Rattle.std.specs.Prelude.{◌≡◌};
-ghost use Rattle.nfp_sliding.specs.Calls.{traced, refusal_of};
+ghost use Rattle.refusals.specs.Answers.{tells};
+ghost use Rattle.nfp_sliding.specs.Calls.{untraced, refusal_of};
+ghost use Rattle.nfp_sliding.specs.declared.answer.Untraced.TheVariants.{Refused};
 
-use refusals::{REFUSED_FIT, REFUSED_SHORT_PATH, Refusal};
+use refusals::Refusal;
 
+// How many points the result and the path have, the passes begun and the reason it stopped.
 #[derive(Clone, Copy)]
-pub enum Traced {
-    Is {
-        points: usize,
-        stored: usize,
-        passes: u64,
-        stop: u32,
-    },
-    Refused(Refusal),
-    // The path has more points than the work room.
-    Full(u64),
-    // The path has fewer than three points.
-    Short {
-        passes: u64,
-        stop: u32,
-    },
+pub struct Trace {
+    pub points: usize,
+    pub stored: usize,
+    pub passes: u64,
+    pub stop: u32,
 }
 
-// The refusal that it is.
-pub fn refusal(answer: Traced) -> Refusal
-    ensures { result ≡ refusal_of (traced answer) }
-{
-    match answer {
-        Traced::Is {
-            points: _,
-            stored: _,
-            passes: _,
-            stop: _,
-        } => Refusal::none(),
-        Traced::Refused(no) => no,
-        Traced::Full(_) => Refusal::new(REFUSED_FIT, 0),
-        Traced::Short { passes: _, stop: _ } => Refusal::new(REFUSED_SHORT_PATH, 0),
+// Why there is no result.
+#[derive(Clone, Copy)]
+pub enum Untraced {
+    // What is lent is refused.
+    Refused(Refusal),
+    // The path has more points than the work room, after so many passes.
+    Full(u64),
+    // The path has fewer than three points.
+    Short { passes: u64, stop: u32 },
+}
+
+impl Untraced {
+    // The refusal that it is.
+    #[tactic(auto, unfolding(crate::specs::Calls::refusal_of))]
+    pub fn refusal(self) -> Refusal
+        ensures { tells result ≡ refusal_of (untraced self) }
+    {
+        match self {
+            Untraced::Refused(refusal) => refusal,
+            Untraced::Full(_) => Refusal::Fit,
+            Untraced::Short { passes: _, stop: _ } => Refusal::ShortPath,
+        }
+    }
+}
+
+impl From<Refusal> for Untraced {
+    ghost from_gives = { λ refusal untraced. untraced ≡ Refused refusal };
+
+    fn from(refusal: Refusal) -> Untraced {
+        Untraced::Refused(refusal)
     }
 }

@@ -1,8 +1,10 @@
 // The public call: compute_nfp_sliding.
+#![tactic(auto, using(refusals::proofs::Tests::refused))]
+
 ghost use Rattle.std.specs.Prelude.{◌≡◌, length};
 ghost use Rattle.nfp_sliding.specs.Calls.{traced, trace_call, trace_work, trace_result};
 
-use crate::answer::Traced;
+use crate::answer::{Trace, Untraced};
 use crate::trace::{finish, trace};
 use refusals::{Settings, row};
 
@@ -14,7 +16,7 @@ pub fn compute_nfp_sliding(
     settings: Settings,
     work: &mut [f64],
     res: &mut [f64],
-) -> Traced
+) -> Result<Trace, Untraced>
     ensures { (traced result ≡ trace_call stationary.now orbiting.now settings (length work.old)
         (length res.old))
         × (work.new ≡ trace_work stationary.now orbiting.now settings work.old
@@ -22,11 +24,7 @@ pub fn compute_nfp_sliding(
         × (res.new ≡ trace_result stationary.now orbiting.now settings (length work.old)
         res.old) }
 {
-    let no = row::tracing(stationary, orbiting, settings, work.len(), res.len());
-    if no.passed() {
-        let end = trace(stationary, orbiting, settings, work);
-        finish(end, settings.contact_tolerance, work, res)
-    } else {
-        Traced::Refused(no)
-    }
+    row::tracing(stationary, orbiting, settings, work.len(), res.len())?;
+    let end = trace(stationary, orbiting, settings, work);
+    finish(end, settings.contact_tolerance, work, res)
 }

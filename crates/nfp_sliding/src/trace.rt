@@ -4,14 +4,13 @@ ghost use Rattle.ring.specs.Room.{laid};
 ghost use Rattle.nfp_sliding.specs.Path.{ended, end_of, TraceReady, trace_from, traced_of};
 ghost use Rattle.nfp_sliding.specs.Calls.{traced, came_to, result_after};
 
-use crate::answer::Traced;
+use crate::answer::{Trace, Untraced};
 use centroid::centroid;
 use directions::fill;
 use pass::{Margins, Pose};
 use pass_run::run::{End, State, run};
 use refusals::Settings;
 use ring::room::put;
-use selection::Previous;
 use simplify::simplify;
 use start_position::find_start_position;
 use winding::ensure_ccw;
@@ -29,7 +28,7 @@ fn follow(stationary: &[f64], orbiting: &[f64], settings: Settings, work: &mut [
     let first = State {
         pose: Pose {
             position: start,
-            previous: Previous::None,
+            previous: None,
             stuck: 0,
         },
         stored: 1,
@@ -67,7 +66,7 @@ pub fn trace(stationary: &[f64], orbiting: &[f64], settings: Settings, work: &mu
 }
 
 // What a trace answers that ended so, its path at the front of the work room; the simplified path is written to the result room.
-pub fn finish(end: End, tol: f64, work: &[f64], res: &mut [f64]) -> Traced
+pub fn finish(end: End, tol: f64, work: &[f64], res: &mut [f64]) -> Result<Trace, Untraced>
     requires stored_in_bounds { 2 * end.stored ≤ length work.now }
     requires work_in_bounds { length work.now ≤ length res.old }
     ensures result_value { traced result ≡ came_to (ended end.full end.reason end.passes (take (2 * end.stored) work.now)) tol }
@@ -76,20 +75,20 @@ pub fn finish(end: End, tol: f64, work: &[f64], res: &mut [f64]) -> Traced
 {
     let stored = end.stored;
     if end.full {
-        return Traced::Full(end.passes);
+        return Err(Untraced::Full(end.passes));
     }
     if stored < 3 {
-        return Traced::Short {
+        return Err(Untraced::Short {
             passes: end.passes,
             stop: end.reason,
-        };
+        });
     }
     let len = 2 * stored;
     let points = simplify(&work[..len], tol, res);
-    Traced::Is {
+    Ok(Trace {
         points,
         stored,
         passes: end.passes,
         stop: end.reason,
-    }
+    })
 }

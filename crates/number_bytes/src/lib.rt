@@ -63,11 +63,9 @@ pub fn put(room: &mut [u8], at: usize, k: usize, n: u64)
     ensures { room.new ≡ sets room.old at (bytes_of k n) }
 {
     let mut rest = n;
-    let mut i = 0;
-    while i < k {
+    for i in 0..k {
         room[at + i] = (rest % 256) as u8;
-        rest = rest / 256;
-        i += 1;
+        rest /= 256;
     }
 }
 

@@ -1,7 +1,6 @@
 -- When two polygons overlap, as `polygons_overlap_with_tolerance` of `nfp_sliding.rs` tests it. Definitions only.
 use Rattle.std.specs.Prelude.{ℕ, Bool, not, ◌&&◌, ◌||◌, List, Float}
 use Rattle.std.specs.Float.Ieee.{lt, neg}
-use Rattle.scalar.specs.Float.{float}
 use Rattle.scalar.specs.Scalar.{abs_of}
 use Rattle.plane.specs.Vector.{point, minus_of, normalize_of, f1e_10}
 use Rattle.plane.specs.declared.Point.{Point}

@@ -58,12 +58,10 @@ pub fn compute_bbox(polygon: &[f64]) -> Bounds
         max: -1.0 / 0.0,
     };
     let mut y = x;
-    let mut i = 0;
-    while i < n {
+    for i in 0..n {
         let p = point_at(polygon, i);
         x = wider(x, p.x);
         y = wider(y, p.y);
-        i += 1;
     }
     Bounds { x, y }
 }
@@ -77,10 +75,8 @@ fn project_polygon_on_axis(polygon: &[f64], axis: Point) -> Extent
         min: 1.0 / 0.0,
         max: -1.0 / 0.0,
     };
-    let mut i = 0;
-    while i < n {
+    for i in 0..n {
         e = wider(e, dot(point_at(polygon, i), axis));
-        i += 1;
     }
     e
 }
@@ -135,11 +131,8 @@ fn meets_along(a: &[f64], b: &[f64], edges: &[f64], tolerance: f64) -> bool
     ensures { result ≡ meets_along a.now b.now edges.now tolerance }
 {
     let n = edges.len() / 2;
-    let mut i = 0;
-    while i < n {
-        if meets_on(a, b, axis_of(edges, i), tolerance) {
-            i += 1;
-        } else {
+    for i in 0..n {
+        if !meets_on(a, b, axis_of(edges, i), tolerance) {
             return false;
         }
     }

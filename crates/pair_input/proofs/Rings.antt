@@ -10,9 +10,10 @@ use lib.Seq.{take-append-le, drop-append-le}
 use lib.Ieee.{Float, binary64, of_bits}
 use Rattle.ring.specs.Room.{laid}
 use Rattle.refusals.specs.Refusals.{passed}
+use Rattle.refusals.specs.Refusals.{Told}
+use Rattle.std.specs.Prelude.{Result, Ok, Err}
+use Rattle.refusals.specs.Answers.{tells}
 use Rattle.refusals.specs.declared.Refusal.{Refusal}
-use Rattle.refusals.specs.declared.answer.Count.{Count}
-use Rattle.refusals.specs.declared.answer.Count.TheVariants.{Is, Refused}
 use Rattle.refusals.specs.Rings.{vertices_least, vertices_most, rings_most, within, total, sized_all}
 use Rattle.book_layout.specs.Layout.{numbers_most, counts_of, parts_of}
 use Rattle.book_layout.specs.Faults.{◌passes, book_check}
@@ -77,8 +78,8 @@ pub record Pair (f : List ℕ) (x : List Float) (n : List ℕ) : Type 0 where
   pub stationary_is : first_part x (get_or n 0 0) ≡ stationary_in f
   pub orbiting_is : second_part x (get_or n 0 0) (get_or n 1 0) ≡ orbiting_in f
 
-module _ (f : List ℕ) (bytes : (i : ℕ) → get_or f i 0 < 256) (x : List Float) (n q : List ℕ) (r : Count) (p : Promised f room counts parts r x n q) where
-  module _ (k : ℕ) (e : r ≡ Is k) where
+module _ (f : List ℕ) (bytes : (i : ℕ) → get_or f i 0 < 256) (x : List Float) (n q : List ℕ) (r : Result ℕ Refusal) (p : Promised f room counts parts r x n q) where
+  module _ (k : ℕ) (e : r ≡ Ok k) where
     held : Held (numbers_of f) (counts_of f) (parts_of f)
     held = book_held f bytes room x counts n parts q r p k e
 
@@ -121,21 +122,21 @@ module _ (f : List ℕ) (bytes : (i : ℕ) → get_or f i 0 < 256) (x : List Flo
       orbiting_is = orbiting;
     }
 
-  module _ (told : Refusal) (e : r ≡ Refused told) where
-    pub fault_read : (passed (book_check f) ≡ false) × (told ≡ book_check f)
+  module _ (why : Refusal) (e : r ≡ Err why) where
+    pub fault_read : (passed (book_check f) ≡ false) × (tells why ≡ book_check f)
     fault_read =
         let l = length-replicate numbers_most (of_bits binary64 0) in
         let m = length-replicate {A = ℕ} rings_most 0 in
-        no_book f bytes room x counts n parts q r p (omega (arith, l)) (omega (arith, m)) (omega (arith, m)) told e
+        no_book f bytes room x counts n parts q r p (omega (arith, l)) (omega (arith, m)) (omega (arith, m)) why e
 
 -- ---- what is said of a book: its two polygons in one way, or its fault in another
 
-module _ (say : List Float → List Float → List ℕ) (fault : Refusal → List ℕ) (f : List ℕ) where
+module _ (say : List Float → List Float → List ℕ) (fault : Told → List ℕ) (f : List ℕ) where
   abbrev book_text : List ℕ
   book_text = cond (passed (book_check f)) (say (stationary_in f) (orbiting_in f)) (fault (book_check f))
 
   pub pair_said : {x : List Float} {n : List ℕ} → Pair f x n → say (first_part x (get_or n 0 0)) (second_part x (get_or n 0 0) (get_or n 1 0)) ≡ book_text
   pair_said p = rw p.book (ap₂ say p.stationary_is p.orbiting_is)
 
-  pub fault_said : {told : Refusal} → (passed (book_check f) ≡ false) × (told ≡ book_check f) → fault told ≡ book_text
+  pub fault_said : {told : Told} → (passed (book_check f) ≡ false) × (told ≡ book_check f) → fault told ≡ book_text
   fault_said b = rw b.0 (ap fault b.1)

@@ -24,9 +24,8 @@ use Rattle.pass.specs.Slide.{slide_of}
 use Rattle.pass.specs.Pass.{Scene, regain_of, unstick_of, chosen, pass_at}
 use Rattle.pass.specs.declared.Pose.{Pose}
 use Rattle.pass.specs.declared.Step.{Step}
-use Rattle.choose.specs.declared.Choice.{Choice}
+use Rattle.std.specs.Prelude.{Option, None, Some}
 use Rattle.vectors.specs.declared.TranslationVector.{TranslationVector}
-use Rattle.choose.specs.declared.Choice.TheVariants.{Nothing, Vector}
 
 -- stuck for the third time at most, and more often
 pub few : (n : ℕ) → n < 3 → ltb 3 (n + 1) ≡ false
@@ -43,32 +42,32 @@ module _ (s : Scene) (moved path : List Float) (pose : Pose) where
   unfolding pass_at
   loose e h = rw (e, h)
 
-  module _ {ccw : Point} {v : Choice} (t : has_contact s.stationary moved tol ≡ true) (p : ccw ≡ preferred_of s.centroid pose.position)
+  module _ {ccw : Point} {v : Option TranslationVector} (t : has_contact s.stationary moved tol ≡ true) (p : ccw ≡ preferred_of s.centroid pose.position)
       (q : v ≡ choice_of (fit_of s.stationary moved pose.position path tol) pose.previous ccw) where
     by : {r : Step} → r ≡ chosen v s moved path pose → r ≡ pass_at s moved path pose
     unfolding pass_at
     by h = h ∙ (rw (t, q, p) refl)
 
-    pub stuck : {r : Step} → v ≡ Nothing → r ≡ unstick_of s.stationary s.orbiting s.margins pose → r ≡ pass_at s moved path pose
+    pub stuck : {r : Step} → v ≡ None → r ≡ unstick_of s.stationary s.orbiting s.margins pose → r ≡ pass_at s moved path pose
     unfolding chosen
     stuck e h = by (rw (e, h))
 
-    slides_there : {r : Step} {w : TranslationVector} → v ≡ Vector w → r ≡ slide_of s.stationary moved s.margins s.start path pose w → r ≡ pass_at s moved path pose
+    slides_there : {r : Step} {w : TranslationVector} → v ≡ Some w → r ≡ slide_of s.stationary moved s.margins s.start path pose w → r ≡ pass_at s moved path pose
     unfolding chosen
     slides_there e h = by (rw (e, h))
 
   -- a vector is that of a contact
-  no_vector : (ccw : Point) → has_contact s.stationary moved tol ≡ false → choice_of (fit_of s.stationary moved pose.position path tol) pose.previous ccw ≡ Nothing
+  no_vector : (ccw : Point) → has_contact s.stationary moved tol ≡ false → choice_of (fit_of s.stationary moved pose.position path tol) pose.previous ccw ≡ None
   unfolding kept_vectors vectors_from choice_of vector_no
   no_vector ccw e = rw (none_there (contacts_of s.stationary moved tol) e) refl
 
-  pub slides : {ccw : Point} {v : Choice} {r : Step} {w : TranslationVector} → ccw ≡ preferred_of s.centroid pose.position
-      → v ≡ choice_of (fit_of s.stationary moved pose.position path tol) pose.previous ccw → v ≡ Vector w
+  pub slides : {ccw : Point} {v : Option TranslationVector} {r : Step} {w : TranslationVector} → ccw ≡ preferred_of s.centroid pose.position
+      → v ≡ choice_of (fit_of s.stationary moved pose.position path tol) pose.previous ccw → v ≡ Some w
       → r ≡ slide_of s.stationary moved s.margins s.start path pose w → r ≡ pass_at s moved path pose
   slides {ccw} {v} {r} {w} p q e h = go (has_contact s.stationary moved tol) refl
     where
       go : (b : Bool) → has_contact s.stationary moved tol ≡ b → r ≡ pass_at s moved path pose
-      go false t = absurd (let z : Nothing ≡ Vector w = sym (no_vector ccw t) ∙ sym q ∙ e in let y : ◌≡◌ {A = ℕ} 0 1 = cc in omega arith)
+      go false t = absurd (let z : None ≡ Some w = sym (no_vector ccw t) ∙ sym q ∙ e in let y : ◌≡◌ {A = ℕ} 0 1 = cc in omega arith)
       go true t = slides_there t p q e h
 
 -- the front of the array that the orbiting polygon was moved into is the moved polygon

@@ -11,11 +11,8 @@ use Rattle.plane.specs.Vector.{distance_of}
 use Rattle.plane.specs.declared.Point.{Point}
 use Rattle.contacts.specs.Contacts.{has_contact}
 use Rattle.ring.specs.Moved.{moved_of}
-use Rattle.refusals.specs.declared.answer.Found.{Found}
-use Rattle.refusals.specs.declared.answer.Found.TheVariants as found_is
+use Rattle.std.specs.Prelude.{Option, None, Some}
 use Rattle.vectors.specs.declared.TranslationVector.{TranslationVector}
-use Rattle.choose.specs.declared.Choice.{Choice}
-use Rattle.choose.specs.declared.Choice.TheVariants as choice-is
 use Rattle.pass.specs.Slide.{f1000, closes_of, land_of, slide_of}
 use Rattle.pass.specs.Pass.{Scene, regained, regain_of, interlocked, unstick_of, chosen, pass_at, pass_of}
 use Rattle.pass.specs.declared.Margins.{Margins}
@@ -33,15 +30,15 @@ either : (b : Bool) {x y : Step} → Reasoned x → Reasoned y → Reasoned (con
 either true h k = h
 either false h k = k
 
-regains : (f : Found) (pose : Pose) → Reasoned (regained f pose)
+regains : (f : Option Point) (pose : Pose) → Reasoned (regained f pose)
 unfolding regained
-regains found_is.Nothing pose = stops 1 (omega arith) (omega arith)
-regains (found_is.At p) pose = stays _
+regains None pose = stops 1 (omega arith) (omega arith)
+regains (Some p) pose = stays _
 
-interlocks : (f : Found) (m : Margins) (pose : Pose) → Reasoned (interlocked f m pose)
+interlocks : (f : Option Point) (m : Margins) (pose : Pose) → Reasoned (interlocked f m pose)
 unfolding interlocked
-interlocks found_is.Nothing m pose = stops 2 (omega arith) (omega arith)
-interlocks (found_is.At p) m pose =
+interlocks None m pose = stops 2 (omega arith) (omega arith)
+interlocks (Some p) m pose =
     either (lt m.smallest (distance_of p pose.position)) (stores _) (stops 2 (omega arith) (omega arith))
 
 lands : (m : Margins) (start : Point) (path : List Float) (pose : Pose) (dir at : Point) → Reasoned (land_of m start path pose dir at)
@@ -57,11 +54,11 @@ slides st moved m start path pose v =
     either (lt (smaller_of v.distance f1000) m.smallest) (stops 3 (omega arith) (omega arith))
     (lands m start path pose v.direction _)
 
-chooses : (c : Choice) (s : Scene) (moved path : List Float) (pose : Pose) → Reasoned (chosen c s moved path pose)
+chooses : (c : Option TranslationVector) (s : Scene) (moved path : List Float) (pose : Pose) → Reasoned (chosen c s moved path pose)
 unfolding chosen unstick_of
-chooses choice-is.Nothing s moved path pose =
+chooses None s moved path pose =
     either (ltb 3 (pose.stuck + 1)) (stops 2 (omega arith) (omega arith)) (interlocks _ s.margins pose)
-chooses (choice-is.Vector v) s moved path pose = slides s.stationary moved s.margins s.start path pose v
+chooses (Some v) s moved path pose = slides s.stationary moved s.margins s.start path pose v
 
 passes : (s : Scene) (path : List Float) (pose : Pose) → Reasoned (pass_of s path pose)
 unfolding pass_of pass_at regain_of

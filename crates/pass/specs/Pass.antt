@@ -1,5 +1,5 @@
 -- One pass of the trace, in the order of `trace_nfp_boundary` of `nfp_sliding.rs`. Definitions only.
-use Rattle.std.specs.Prelude.{◌+◌, cond, not, List, ltb, Float}
+use Rattle.std.specs.Prelude.{◌+◌, cond, not, List, ltb, Float, Option, None, Some}
 use Rattle.std.specs.Float.Ieee.{lt}
 use Rattle.plane.specs.Vector.{distance_of}
 use Rattle.plane.specs.declared.Point.{Point}
@@ -7,8 +7,6 @@ use Rattle.contacts.specs.Contacts.{has_contact}
 use Rattle.vectors.specs.Fit.{fit_of}
 use Rattle.selection.specs.Score.{preferred_of}
 use Rattle.ring.specs.Moved.{moved_of}
-use Rattle.refusals.specs.declared.answer.Found.{Found}
-use Rattle.refusals.specs.declared.answer.Found.TheVariants as found_is
 use Rattle.recovery.specs.Recovery.{recover_of}
 use Rattle.interlocking.specs.Interlocking.{interlock_of}
 use Rattle.choose.specs.Choose.{choice_of}
@@ -18,8 +16,7 @@ use Rattle.pass.specs.declared.Margins.{Margins}
 use Rattle.pass.specs.declared.Pose.{Pose}
 use Rattle.pass.specs.declared.Step.{Step}
 use Rattle.pass.specs.declared.Step.TheVariants.{Stop, Stay, Store}
-use Rattle.choose.specs.declared.Choice.{Choice}
-use Rattle.choose.specs.declared.Choice.TheVariants as choice-is
+use Rattle.vectors.specs.declared.TranslationVector.{TranslationVector}
 
 -- what stays the same from pass to pass: both polygons, counter-clockwise, the margins, the stationary one's centroid, the
 -- start. How many passes there may be is no part of it
@@ -34,17 +31,17 @@ abbrev pub scene : List Float → List Float → Margins → Point → Point →
 scene st orb m c p = record { stationary = st; orbiting = orb; margins = m; centroid = c; start = p }
 
 -- where contact was recovered the trace goes on from there
-unfoldable pub regained : Found → Pose → Step
-regained found_is.Nothing pose = Stop no_contact
-regained (found_is.At p) pose = Stay (record { position = p; previous = pose.previous; stuck = pose.stuck })
+unfoldable pub regained : Option Point → Pose → Step
+regained None pose = Stop no_contact
+regained (Some p) pose = Stay (record { position = p; previous = pose.previous; stuck = pose.stuck })
 
 unfoldable pub regain_of : List Float → List Float → Float → Pose → Step
 regain_of st moved tol pose = regained (recover_of st moved pose.position tol) pose
 
 -- an interlocking position is stored where it is farther than the smallest move
-unfoldable pub interlocked : Found → Margins → Pose → Step
-interlocked found_is.Nothing m pose = Stop no_vector
-interlocked (found_is.At p) m pose =
+unfoldable pub interlocked : Option Point → Margins → Pose → Step
+interlocked None m pose = Stop no_vector
+interlocked (Some p) m pose =
     cond (lt m.smallest (distance_of p pose.position))
     (Store (record { position = p; previous = pose.previous; stuck = pose.stuck + 1 }))
     (Stop no_vector)
@@ -55,9 +52,9 @@ unstick_of st orb m pose =
     cond (ltb 3 (pose.stuck + 1)) (Stop no_vector) (interlocked (interlock_of st orb pose.position m.tolerance) m pose)
 
 -- the slide along the vector chosen
-unfoldable pub chosen : Choice → Scene → List Float → List Float → Pose → Step
-chosen choice-is.Nothing s moved path pose = unstick_of s.stationary s.orbiting s.margins pose
-chosen (choice-is.Vector v) s moved path pose = slide_of s.stationary moved s.margins s.start path pose v
+unfoldable pub chosen : Option TranslationVector → Scene → List Float → List Float → Pose → Step
+chosen None s moved path pose = unstick_of s.stationary s.orbiting s.margins pose
+chosen (Some v) s moved path pose = slide_of s.stationary moved s.margins s.start path pose v
 
 -- the pass of the moved polygon
 unfoldable pub pass_at : Scene → List Float → List Float → Pose → Step

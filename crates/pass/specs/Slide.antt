@@ -1,5 +1,5 @@
 -- The slide along a vector, in the order of operations of `nfp_sliding.rs`. Definitions only.
-use Rattle.std.specs.Prelude.{Bool, ◌&&◌, cond, List, ltb, Float}
+use Rattle.std.specs.Prelude.{Bool, ◌&&◌, cond, List, ltb, Float, Option, None, Some}
 use Rattle.std.specs.Float.Ieee.{lt}
 use Rattle.scalar.specs.Float.{◌⊖◌, ◌⊗◌, float, f0}
 use Rattle.scalar.specs.Scalar.{smaller_of, larger_of}
@@ -8,10 +8,8 @@ use Rattle.plane.specs.declared.Point.{Point}
 use Rattle.ring.specs.Ring.{count}
 use Rattle.vectors.specs.Fit.{f10}
 use Rattle.vectors.specs.declared.TranslationVector.{TranslationVector}
-use Rattle.selection.specs.declared.Previous.TheVariants.{Direction}
 use Rattle.collision.specs.Check.{collision_of}
-use Rattle.collision.specs.declared.Collision.{Collision}
-use Rattle.collision.specs.declared.Collision.TheVariants.{Nothing, Hit}
+use Rattle.collision.specs.declared.Hit.{Hit}
 use Rattle.pass.specs.Stop.{short_move, path_closed}
 use Rattle.pass.specs.declared.Margins.{Margins}
 use Rattle.pass.specs.declared.Pose.{Pose}
@@ -27,9 +25,9 @@ unfoldable pub times_of : Point → Float → Point
 times_of dir far = point (dir.x ⊗ far) (dir.y ⊗ far)
 
 -- the full move, or the hit's distance less the tolerance
-unfoldable pub made_of : Collision → Point → Float → Float → Point
-made_of Nothing dir far tol = times_of dir far
-made_of (Hit d k s o) dir far tol = times_of dir (larger_of (d ⊖ tol) f0)
+unfoldable pub made_of : Option Hit → Point → Float → Float → Point
+made_of None dir far tol = times_of dir far
+made_of (Some hit) dir far tol = times_of dir (larger_of (hit.distance ⊖ tol) f0)
 
 unfoldable pub blocked_of : List Float → List Float → Point → Float → Float → Point
 blocked_of st moved dir far tol = made_of (collision_of st moved (times_of dir far) tol) dir far tol
@@ -43,7 +41,7 @@ unfoldable pub land_of : Margins → Point → List Float → Pose → Point →
 land_of m start path pose dir at =
     cond (closes_of path at start m.tolerance) (Stop path_closed)
     (cond (lt m.smallest (distance_of at pose.position))
-    (Store (record { position = at; previous = Direction dir; stuck = 0 }))
+    (Store (record { position = at; previous = Some dir; stuck = 0 }))
     (Stay (record { position = at; previous = pose.previous; stuck = 0 })))
 
 -- the trace ends where the vector, capped at 1000, is shorter than the smallest move

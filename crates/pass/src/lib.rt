@@ -10,15 +10,14 @@ ghost use Rattle.pairs.specs.Pairs.{Sides};
 ghost use Rattle.directions.specs.Directions.{Directed};
 ghost use Rattle.pass.specs.Pass.{scene, regain_of, unstick_of, pass_at, pass_of};
 
-use choose::{Choice, choose};
+use choose::choose;
 use contacts::has_contact;
 use interlocking::detect_interlocking_opportunity;
 use near::is_far;
 use plane::Point;
 use recovery::recover_contact;
-use refusals::answer::Found;
 use ring::moving::move_ring;
-use selection::{Previous, preferred};
+use selection::preferred;
 use slide::slide;
 
 // What a pass measures by: the contact tolerance, and the smallest move that is made and stored.
@@ -32,7 +31,7 @@ pub struct Margins {
 #[derive(Clone, Copy)]
 pub struct Pose {
     pub position: Point,
-    pub previous: Previous,
+    pub previous: Option<Point>,
     pub stuck: u32,
 }
 
@@ -50,8 +49,8 @@ fn regain(stationary: &[f64], moved: &[f64], tol: f64, pose: Pose) -> Step
 {
     let previous = pose.previous;
     match recover_contact(stationary, moved, pose.position, tol) {
-        Found::Nothing => Step::Stop(stop::NO_CONTACT),
-        Found::At(position) => Step::Stay(Pose {
+        None => Step::Stop(stop::NO_CONTACT),
+        Some(position) => Step::Stay(Pose {
             position,
             previous,
             stuck: pose.stuck,
@@ -71,8 +70,8 @@ fn unstick(stationary: &[f64], orbiting: &[f64], margins: Margins, pose: Pose) -
         let previous = pose.previous;
         let tol = margins.tolerance;
         match detect_interlocking_opportunity(stationary, orbiting, from, tol) {
-            Found::Nothing => Step::Stop(stop::NO_VECTOR),
-            Found::At(position) => {
+            None => Step::Stop(stop::NO_VECTOR),
+            Some(position) => {
                 if is_far(position, from, margins.smallest) {
                     Step::Store(Pose {
                         position,
@@ -117,14 +116,14 @@ fn pass_at(
     match choose(
         stationary, dirs, moved, orbiting, headings, tol, from, path, previous, ccw,
     ) {
-        Choice::Nothing => {
+        None => {
             if has_contact(stationary, moved, tol) {
                 unstick(stationary, orbiting, margins, pose)
             } else {
                 regain(stationary, moved, tol, pose)
             }
         }
-        Choice::Vector(v) => slide(stationary, moved, margins, start, path, pose, v),
+        Some(v) => slide(stationary, moved, margins, start, path, pose, v),
     }
 }
 

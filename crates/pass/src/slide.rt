@@ -3,12 +3,11 @@ ghost use Rattle.std.specs.Prelude.{◌≡◌};
 ghost use Rattle.pass.specs.Slide.{times_of, blocked_of, closes_of, land_of, slide_of};
 
 use crate::{Margins, Pose, Step, stop};
-use collision::{Collision, check_translation_collision};
+use collision::check_translation_collision;
 use near::{is_far, is_near};
 use plane::Point;
 use plane::vector::plus;
 use scalar::{larger, smaller};
-use selection::Previous;
 use vectors::TranslationVector;
 
 // So far in a direction.
@@ -26,16 +25,10 @@ fn blocked(stationary: &[f64], moved: &[f64], dir: Point, far: f64, tol: f64) ->
     ensures { result ≡ blocked_of stationary.now moved.now dir far tol }
 {
     let full = times(dir, far);
-    let Collision::Hit {
-        distance,
-        kind: _,
-        stationary: _,
-        orbiting: _,
-    } = check_translation_collision(stationary, moved, full, tol)
-    else {
-        return full;
-    };
-    times(dir, larger(distance - tol, 0.0))
+    match check_translation_collision(stationary, moved, full, tol) {
+        None => full,
+        Some(hit) => times(dir, larger(hit.distance - tol, 0.0)),
+    }
 }
 
 // Whether a position closes the path: the path has more than two points and the start is nearer than ten tolerances.
@@ -59,7 +52,7 @@ fn land(margins: Margins, start: Point, path: &[f64], pose: Pose, dir: Point, at
     if is_far(at, pose.position, margins.smallest) {
         Step::Store(Pose {
             position: at,
-            previous: Previous::Direction(dir),
+            previous: Some(dir),
             stuck: 0,
         })
     } else {

@@ -132,8 +132,7 @@ pub fn run(
         limit 0 first room.old).room }
 {
     let mut state = first;
-    let mut passes = 0;
-    while passes < limit {
+    for passes in 0..limit {
         match one_pass(
             stationary, dirs, orbiting, headings, margins, centroid, start, state, room, moved,
         ) {
@@ -163,14 +162,13 @@ pub fn run(
                     };
                 }
                 state = next;
-                passes += 1;
             }
         }
     }
     End {
         full: false,
         reason: stop::PASSES,
-        passes,
+        passes: limit,
         stored: state.stored,
     }
 }

@@ -3,20 +3,15 @@ ghost use Rattle.bitwise.specs.Same.{Same};
 
 use bitwise::same_point;
 use pass::Pose;
-use selection::Previous;
+use plane::Point;
 
-fn same_previous(a: Previous, b: Previous) -> bool
+fn same_previous(a: Option<Point>, b: Option<Point>) -> bool
     ensures { Same result a b }
 {
-    match a {
-        Previous::None => match b {
-            Previous::None => true,
-            Previous::Direction(_) => false,
-        },
-        Previous::Direction(p) => match b {
-            Previous::None => false,
-            Previous::Direction(q) => same_point(p, q),
-        },
+    match (a, b) {
+        (None, None) => true,
+        (Some(p), Some(q)) => same_point(p, q),
+        _ => false,
     }
 }
 

@@ -2,5 +2,4 @@
 pub mod Search
 pub mod Placed
 pub mod Told
-pub mod Only
 pub mod Worked

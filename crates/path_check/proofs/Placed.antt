@@ -1,7 +1,6 @@
 -- The polygon moved into the front of a room, and what lists that are not refused are known to be. Assumes nothing.
 use Prim.Native.Nat.{ℕ, ◌%◌}
-use mathlib.Core.Path.{◌≡◌}
-use mathlib.Core.Bool.{Bool, true}
+use mathlib.Core.Path.{◌≡◌, refl}
 use mathlib.Core.List.{List}
 use native.Mathlib.Omega.{arith}
 use lib.ListN.{length, take}
@@ -12,9 +11,8 @@ use Rattle.ring.specs.Room.{laid}
 use Rattle.ring.specs.Moved.{moved_of}
 use Rattle.ring.proofs.Moved.{moved_front, moved_count}
 use Rattle.pairs.specs.Pairs.{Sides}
-use Rattle.refusals.specs.Refusals.{passed, first}
+use Rattle.refusals.specs.Refusals.{none, first}
 use Rattle.refusals.specs.Lists.{list_fault, polygon_extent}
-use Rattle.refusals.specs.declared.Refusal.{Refusal}
 use Rattle.refusals.specs.declared.Settings.{Settings}
 use Rattle.refusals.proofs.Sized.{Polygon, row_parts, fine, is_polygon}
 use Rattle.path_check.specs.Rows.{path_extent, path_lengths, path_numbers, of_path}
@@ -37,12 +35,12 @@ lent_sides st orb p q =
     }
 
 -- polygons that are not refused
-module _ (st orb : List Float) (s : Settings) (path : List Float) {n : Refusal} {p : Bool} where
-  pub polygons : n ≡ of_path st orb s path → p ≡ passed n → p ≡ true → Polygon st × Polygon orb
+module _ (st orb : List Float) (s : Settings) (path : List Float) where
+  pub polygons : none ≡ of_path st orb s path → Polygon st × Polygon orb
   unfolding of_path path_lengths
-  polygons e h t =
+  polygons e =
       let last = list_fault (path_extent path) 2 in
-      let lists = (row_parts (path_lengths st orb path) (path_numbers st orb s path) (rw (← e, ← h) t)).0 in
+      let lists = (row_parts (path_lengths st orb path) (path_numbers st orb s path) (rw (← e) refl)).0 in
       let a = row_parts (list_fault (polygon_extent st) 0) (first (list_fault (polygon_extent orb) 1) last) lists in
       let b = row_parts (list_fault (polygon_extent orb) 1) last a.1 in
       (is_polygon st (fine (polygon_extent st) 0 a.0), is_polygon orb (fine (polygon_extent orb) 1 b.0))

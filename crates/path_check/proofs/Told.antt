@@ -3,7 +3,7 @@
 use Prim.Native.Nat.{ℕ, zero, suc, ◌+◌, ◌≤◌, ◌<◌}
 use mathlib.Core.Path.{◌≡◌, refl, sym, ap, subst, ◌∙◌}
 use mathlib.Core.Bool.{Bool, true, false}
-use mathlib.Core.Logic.{◌⊎◌, inl, inr, ⊎_elim}
+use mathlib.Core.Logic.{⊎_elim}
 use mathlib.Core.List.{List}
 use native.Mathlib.Omega.{arith}
 use native.Mathlib.Nat.{eq-or-lt_of_le, lt_of_not-le, le_antisymm}
@@ -12,12 +12,12 @@ use Rattle.ring.specs.Ring.{count, point_at}
 use Rattle.ring.specs.Moved.{moved_of}
 use Rattle.contacts.specs.Contacts.{has_contact}
 use Rattle.collision.specs.Check.{collision_of}
-use Rattle.collision.specs.declared.Collision.{Collision}
-use Rattle.collision.specs.declared.Collision.TheVariants as collision-is
+use Rattle.std.specs.Prelude.{Option, None, Some}
+use Rattle.collision.specs.declared.Hit.{Hit}
 use Rattle.path_check.specs.Path.{leg_of, leg_by, fault_by, fault_at, or_else, first_fault, path_fault}
 use Rattle.path_check.specs.Told.{Touches, Free, Good, Told, accepted, point, leg}
 use Rattle.path_check.specs.declared.Fault.{Fault}
-use Rattle.path_check.specs.declared.Fault.TheVariants.{Nothing, Point, Leg}
+use Rattle.path_check.specs.declared.Fault.TheVariants.{Point, Leg}
 
 module _ (st orb : List Float) (tol : Float) (path : List Float) where
   -- one point more
@@ -30,21 +30,21 @@ module _ (st orb : List Float) (tol : Float) (path : List Float) where
   no_bool : {A : Type 0} → true ≡ false → A
   no_bool e = absurd (let z : ◌≡◌ {A = ℕ} 0 1 = cc in omega arith)
 
-  hit_is_none : {A : Type 0} {d : Float} {k s o : ℕ} → collision-is.Hit d k s o ≡ collision-is.Nothing → A
+  hit_is_none : {A : Type 0} {hit : Hit} → Some hit ≡ None → A
   hit_is_none e = absurd (let z : ◌≡◌ {A = ℕ} 0 1 = cc in omega arith)
 
   -- a point and its leg, and then the rest
-  told_here : (k : ℕ) → k < count path → Good st orb tol path k → (rest : Fault) → (Good st orb tol path (suc k) → Told st orb tol path rest)
+  told_here : (k : ℕ) → k < count path → Good st orb tol path k → (rest : Option Fault) → (Good st orb tol path (suc k) → Told st orb tol path rest)
       → Told st orb tol path (or_else (fault_at st orb tol path k) rest)
   unfolding fault_at fault_by leg_by or_else
   told_here k h g rest next = go (has_contact st (moved_of orb (point_at path k)) tol) refl (collision_of st (moved_of orb (point_at path k)) (leg_of path k) tol) refl
     where
       go : (b : Bool) → has_contact st (moved_of orb (point_at path k)) tol ≡ b
-          → (c : Collision) → collision_of st (moved_of orb (point_at path k)) (leg_of path k) tol ≡ c
+          → (c : Option Hit) → collision_of st (moved_of orb (point_at path k)) (leg_of path k) tol ≡ c
           → Told st orb tol path (or_else (fault_at st orb tol path k) rest)
       go false t c f = rw t (point h g (λ u. no_bool (sym u ∙ t)))
-      go true t collision-is.Nothing f = rw (t, f) (next (good_next k g t f))
-      go true t (collision-is.Hit d kd s o) f = rw (t, f) (leg h g t (λ u. hit_is_none (sym f ∙ u)))
+      go true t None f = rw (t, f) (next (good_next k g t f))
+      go true t (Some hit) f = rw (t, f) (leg h g t (λ u. hit_is_none (sym f ∙ u)))
 
   told_from : (k m : ℕ) → k + m ≡ count path → Good st orb tol path k → Told st orb tol path (first_fault (fault_at st orb tol path) k m)
   unfolding first_fault
@@ -63,25 +63,25 @@ module _ (st orb : List Float) (tol : Float) (path : List Float) where
       less h = omega arith
 
   -- no two answers
-  pub one_told : (f g : Fault) → Told st orb tol path f → Told st orb tol path g → f ≡ g
+  pub one_told : (f g : Option Fault) → Told st orb tol path f → Told st orb tol path g → f ≡ g
   one_told f g (accepted a) (accepted b) = refl
   one_told f g (accepted a) (point h b n) = absurd (n (a _ h).0)
   one_told f g (accepted a) (leg h b t n) = absurd (n (a _ h).1)
   one_told f g (point h b n) (accepted a) = absurd (n (a _ h).0)
   one_told f g (leg h b t n) (accepted a) = absurd (n (a _ h).1)
-  one_told f g (point h b n) (point k c m) = ap Point (same_place (λ l. n (c _ l).0) (λ l. m (b _ l).0))
+  one_told f g (point h b n) (point k c m) = ap (λ i. Some (Point i)) (same_place (λ l. n (c _ l).0) (λ l. m (b _ l).0))
   one_told f g (point h b n) (leg k c t m) =
       absurd (n (subst (Touches st orb tol path) (same_place (λ l. m (b _ l).1) (λ l. n (c _ l).0)) t))
   one_told f g (leg h b t n) (point k c m) =
       absurd (m (subst (Touches st orb tol path) (same_place (λ l. n (c _ l).1) (λ l. m (b _ l).0)) t))
-  one_told f g (leg h b t n) (leg k c u m) = ap Leg (same_place (λ l. n (c _ l).1) (λ l. m (b _ l).1))
+  one_told f g (leg h b t n) (leg k c u m) = ap (λ i. Some (Leg i)) (same_place (λ l. n (c _ l).1) (λ l. m (b _ l).1))
 
   -- accepted exactly if all is good
-  pub accepts : path_fault st orb tol path ≡ Nothing → Good st orb tol path (count path)
+  pub accepts : path_fault st orb tol path ≡ None → Good st orb tol path (count path)
   accepts e = go (subst (Told st orb tol path) e path_told)
     where
-      go : Told st orb tol path Nothing → Good st orb tol path (count path)
+      go : Told st orb tol path None → Good st orb tol path (count path)
       go (accepted g) = g
 
-  pub good_accepted : Good st orb tol path (count path) → path_fault st orb tol path ≡ Nothing
+  pub good_accepted : Good st orb tol path (count path) → path_fault st orb tol path ≡ None
   good_accepted g = one_told _ _ path_told (accepted g)

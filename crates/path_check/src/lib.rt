@@ -1,7 +1,6 @@
 // A path that another program traced, gone through point by point and leg by leg: the first fault.
 #![tactic(auto)]
 
-pub mod answer;
 pub mod calls;
 pub mod row;
 
@@ -10,38 +9,32 @@ ghost use Rattle.ring.specs.Ring.{count};
 ghost use Rattle.pairs.specs.Pairs.{Sides};
 ghost use Rattle.path_check.specs.Path.{fault_by, leg_of, fault_at, path_fault};
 
-use collision::{Collision, check_translation_collision};
+use collision::check_translation_collision;
 use contacts::has_contact;
 use plane::Point;
 use plane::vector::minus;
 use ring::moving::move_ring;
 use ring::{next, point_at};
 
-// What is wrong with a path: nothing; the point has no contact; the leg from the point to the next runs into something.
-#[derive(Clone, Copy)]
+// What is wrong with a path: the point has no contact, or the leg from the point to the next runs into something.
+#[derive(Clone, Copy, Debug, PartialEq, Eq)]
 pub enum Fault {
-    Nothing,
     Point(usize),
     Leg(usize),
 }
 
 // What is wrong at the point i, at which the orbiting polygon is `moved`, or on the leg that leads on from it.
-fn fault_by(stationary: &[f64], moved: &[f64], tol: f64, leg: Point, i: usize) -> Fault
+#[tactic(auto, unfolding(crate::specs::Path::fault_by, crate::specs::Path::leg_by))]
+fn fault_by(stationary: &[f64], moved: &[f64], tol: f64, leg: Point, i: usize) -> Option<Fault>
     requires { Sides (count stationary.now) (count moved.now) }
     ensures { result ≡ fault_by stationary.now moved.now tol leg i }
 {
-    if has_contact(stationary, moved, tol) {
-        match check_translation_collision(stationary, moved, leg, tol) {
-            Collision::Nothing => Fault::Nothing,
-            Collision::Hit {
-                distance: _,
-                kind: _,
-                stationary: _,
-                orbiting: _,
-            } => Fault::Leg(i),
-        }
-    } else {
-        Fault::Point(i)
+    if !has_contact(stationary, moved, tol) {
+        return Some(Fault::Point(i));
+    }
+    match check_translation_collision(stationary, moved, leg, tol) {
+        None => None,
+        Some(_) => Some(Fault::Leg(i)),
     }
 }
 
@@ -61,7 +54,7 @@ fn fault_at(
     path: &[f64],
     i: usize,
     room: &mut [f64],
-) -> Fault
+) -> Option<Fault>
     requires sides { Sides (count stationary.now) (count orbiting.now) }
     requires orbiting_len { (length orbiting.now % 2 ≡ 0) × (length orbiting.now ≤ length room.old) }
     requires i_bound { i < count path.now }
@@ -73,20 +66,17 @@ fn fault_at(
 }
 
 // The first fault of a path: of each point, and then of the leg that leads on from it.
-pub fn path_fault(stationary: &[f64], orbiting: &[f64], tol: f64, path: &[f64]) -> Fault
+pub fn path_fault(stationary: &[f64], orbiting: &[f64], tol: f64, path: &[f64]) -> Option<Fault>
     requires sides { Sides (count stationary.now) (count orbiting.now) }
     requires orbiting_len { (length orbiting.now % 2 ≡ 0) × (length orbiting.now ≤ 512) }
     ensures { result ≡ path_fault stationary.now orbiting.now tol path.now }
 {
     let n = path.len() / 2;
     let mut room = [0.0; 512];
-    let mut i = 0;
-    while i < n {
-        match fault_at(stationary, orbiting, tol, path, i, &mut room) {
-            Fault::Nothing => i += 1,
-            Fault::Point(j) => return Fault::Point(j),
-            Fault::Leg(j) => return Fault::Leg(j),
+    for i in 0..n {
+        if let Some(fault) = fault_at(stationary, orbiting, tol, path, i, &mut room) {
+            return Some(fault);
         }
     }
-    Fault::Nothing
+    None
 }

@@ -5,14 +5,14 @@ pub mod segment;
 pub mod vector;
 
 // A point, or a vector.
-#[derive(Clone, Copy)]
+#[derive(Clone, Copy, Debug, PartialEq)]
 pub struct Point {
     pub x: f64,
     pub y: f64,
 }
 
 // Which way three points turn.
-#[derive(Clone, Copy)]
+#[derive(Clone, Copy, Debug, PartialEq, Eq)]
 pub enum Orientation {
     CounterClockwise,
     Clockwise,

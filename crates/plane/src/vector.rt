@@ -29,7 +29,7 @@ pub fn plus(a: Point, b: Point) -> Point
 pub fn same(a: Point, b: Point) -> bool
     ensures { result ≡ same_of a b }
 {
-    if a.x == b.x { a.y == b.y } else { false }
+    a.x == b.x && a.y == b.y
 }
 
 // The dot product.

@@ -5,8 +5,8 @@ use mathlib.Core.List.{List, [], ◌∷◌, ◌++◌, append_assoc, append-nil}
 use native.Mathlib.Omega.{arith}
 use native.Mathlib.Nat.{add-zero, min-le_right, mod-lt, not-suc-le-zero}
 use native.Mathlib.Numerals.{add-one}
-use lib.ListN.{length, take, get_or, set, length-append, length-take}
-use lib.Seq.{take-suc, take-suc-set, take-length}
+use lib.ListN.{length, take, set, length-append, length-take}
+use lib.Seq.{take-suc-set}
 use Rattle.print.specs.Text.{Put}
 use Rattle.print.specs.Digits.{digit, digits}
 
@@ -28,24 +28,6 @@ then {a} {b} {c} {t} {u} {at} p q = record {
   ends = omega (arith, length-append t u, p.ends, q.ends);
   holds = q.holds ∙ ap (λ (l : List ℕ). l ++ u) p.holds ∙ append_assoc (take at a) t u;
 }
-
--- a text byte by byte
-pub byte_more : (room₀ room text : List ℕ) (at i : ℕ) → at + i < length room → i < length text → take (at + i) room ≡ take at room₀ ++ take i text
-    → take (at + (i + 1)) (set room (at + i) (get_or text i 0)) ≡ take at room₀ ++ take (i + 1) text
-byte_more room₀ room text at i h k e =
-    let q : at + (i + 1) ≡ (at + i) + 1 = omega arith in
-    let b = get_or text i 0 in
-    ap (λ (n : ℕ). take n (set room (at + i) b)) q
-    ∙ one room (at + i) b h
-    ∙ ap (λ (l : List ℕ). l ++ (b ∷ [])) e
-    ∙ append_assoc (take at room₀) (take i text) (b ∷ [])
-    ∙ ap (λ (l : List ℕ). take at room₀ ++ l) (sym (take-suc text i 0 k) ∙ ap (λ (n : ℕ). take n text) (sym (add-one i)))
-
-pub byte_all : (room₀ room text : List ℕ) (at i : ℕ) → i ≤ length text → length text ≤ i → take (at + i) room ≡ take at room₀ ++ take i text
-    → take (at + length text) room ≡ take at room₀ ++ text
-byte_all room₀ room text at i h k e =
-    let q : i ≡ length text = omega arith in
-    ap (λ (n : ℕ). take (at + n) room) (sym q) ∙ e ∙ ap (λ (l : List ℕ). take at room₀ ++ l) (ap (λ (n : ℕ). take n text) q ∙ take-length text)
 
 pub small : (n base : ℕ) → 0 < base → base ≤ 16 → n % base < 16
 small n base h k = omega (arith, mod-lt n h)

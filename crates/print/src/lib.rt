@@ -10,12 +10,9 @@ pub fn put_text(room: &mut [u8], at: usize, text: &[u8]) -> usize
     requires { at + length text.now ≤ length room.old }
     ensures { Put room.old at text.now room.new result }
 {
-    let mut i = 0;
-    while i < text.len() {
-        room[at + i] = text[i];
-        i += 1;
-    }
-    at + text.len()
+    let end = at + text.len();
+    room[at..end].copy_from_slice(text);
+    end
 }
 
 // The byte of a digit.
@@ -42,15 +39,13 @@ fn width_of(n: u64) -> usize
     ensures { (result ≡ width n) × (result ≤ 20) }
 {
     let mut rest = n / 10;
-    let mut w = 1;
-    while w < 20 {
+    for w in 1..20 {
         if rest == 0 {
             return w;
         }
         rest = rest / 10;
-        w += 1;
     }
-    w
+    20
 }
 
 // A number in decimal digits.

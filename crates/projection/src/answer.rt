@@ -1,10 +1,9 @@
 // What project_point_to_segment answers.
 use crate::foot::Foot;
-use refusals::Refusal;
 
-// The foot's parameter and where it sits, or the refusal of what is lent.
+// The foot's parameter, 0 at the segment's start and 1 at its end, and where it sits.
 #[derive(Clone, Copy)]
-pub enum Projected {
-    Is { parameter: f64, foot: Foot },
-    Refused(Refusal),
+pub struct Projection {
+    pub parameter: f64,
+    pub foot: Foot,
 }

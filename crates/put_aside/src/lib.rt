@@ -50,20 +50,6 @@ fn way_of(how: u32) -> u32
     if how <= 10 { how } else { how - 10 }
 }
 
-// The smaller of two numbers.
-fn smaller(x: u64, y: u64) -> u64
-    ensures { result ≡ min x y }
-{
-    if y < x { y } else { x }
-}
-
-// The larger of two numbers.
-fn larger(x: u64, y: u64) -> u64
-    ensures { result ≡ max x y }
-{
-    if x < y { y } else { x }
-}
-
 // How far a corner lies across the move, and 8,000,000,000,000.
 fn across_of(from: Spot, to: Spot, v: Spot) -> u64
     requires { Small from × Small to × Small v }
@@ -94,12 +80,10 @@ fn middle_of(axis: u32, list: &[u64], from: Spot, to: Spot) -> u64
     let n = list.len() / 2;
     let mut low = level(axis, from, to, spot_at(list, 0));
     let mut high = low;
-    let mut i = 0;
-    while i < n {
+    for i in 0..n {
         let k = level(axis, from, to, spot_at(list, i));
-        low = smaller(low, k);
-        high = larger(high, k);
-        i += 1;
+        low = low.min(k);
+        high = high.max(k);
     }
     (low + high) / 2
 }
@@ -112,8 +96,8 @@ fn rule_of(list: &[u64], from: Spot, to: Spot, how: u32) -> Rule
     Rule {
         way: way_of(how),
         w: width_of(how),
-        from: from,
-        to: to,
+        from,
+        to,
         x: middle_of(0, list, from, to),
         y: middle_of(1, list, from, to),
         across: middle_of(2, list, from, to),
@@ -155,10 +139,10 @@ fn step_by(east: u64, west: u64, north: u64, south: u64) -> Step
     ensures { result ≡ step_by east west north south }
 {
     Step {
-        east: east,
-        west: west,
-        north: north,
-        south: south,
+        east,
+        west,
+        north,
+        south,
     }
 }
 
@@ -249,12 +233,10 @@ fn stay_by(list: &[u64], r: Rule) -> bool
     ensures { result ≡ stay_by list.now r }
 {
     let n = list.len() / 2;
-    let mut i = 0;
-    while i < n {
+    for i in 0..n {
         if !on_grid(corner_by(r, spot_at(list, i))) {
             return false;
         }
-        i += 1;
     }
     true
 }
@@ -274,10 +256,8 @@ fn lay(list: &[u64], r: Rule, room: &mut [u64])
     ensures { room.new ≡ laid (aside_by list.now r) room.old }
 {
     let n = list.len() / 2;
-    let mut i = 0;
-    while i < n {
+    for i in 0..n {
         put(room, i, corner_by(r, spot_at(list, i)));
-        i += 1;
     }
 }
 

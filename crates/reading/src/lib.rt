@@ -56,10 +56,8 @@ fn fill(ring: &[f64], room: &mut [u64])
     requires ring_in_bounds { length ring.now ≤ length room.old }
     ensures { Keyed room.new ring.now }
 {
-    let mut i = 0;
-    while i < ring.len() {
-        room[i] = key(kept_bits(ring[i]));
-        i += 1;
+    for (i, &x) in ring.iter().enumerate() {
+        room[i] = key(kept_bits(x));
     }
 }
 
@@ -79,8 +77,7 @@ fn before(ring: &[f64], keys: &[u64], a: usize, b: usize) -> bool
     requires a_in_bounds { (a < length ring.now) × (b < length ring.now) }
     ensures { result ≡ earlier (choice (ring_of ring.now) a) (choice (ring_of ring.now) b) }
 {
-    let mut j = 0;
-    while j < ring.len() {
+    for j in 0..ring.len() {
         let u = key_at(ring, keys, a, j);
         let v = key_at(ring, keys, b, j);
         if u < v {
@@ -89,7 +86,6 @@ fn before(ring: &[f64], keys: &[u64], a: usize, b: usize) -> bool
         if v < u {
             return false;
         }
-        j += 1;
     }
     false
 }
@@ -157,6 +153,7 @@ fn settle(ring: &[f64], keys: &[u64], back: bool) -> Starts
         second: 1,
         alike: 0,
     };
+    // What the keys are decides which starts come next, so a `for` would be no plainer.
     while s.second < n {
         if s.alike == ring.len() {
             return s;

@@ -15,7 +15,7 @@ use ring::next;
 use shifted::{Spot, spot_at};
 
 // What is found: the reason holds; this edge is the first that is not parted; all are, and the way is enclosed.
-#[derive(Clone, Copy)]
+#[derive(Clone, Copy, Debug, PartialEq, Eq)]
 pub enum Ground {
     Clear,
     Edge(usize),
@@ -50,7 +50,7 @@ fn right_on(p: Spot, q: Spot, v: Spot) -> bool
 pub fn differ(p: Spot, q: Spot) -> bool
     ensures { result ≡ differ p q }
 {
-    if p.x == q.x { p.y != q.y } else { true }
+    p != q
 }
 
 // Whether the whole way is left of the line from p to q, or on it.
@@ -59,15 +59,13 @@ pub fn way_left(a: &[u64], b: &[u64], p: Spot, q: Spot) -> bool
     ensures { result ≡ way_left (spot_at a.now) (spot_at b.now) (length a.now / 2) p q }
 {
     let n = a.len() / 2;
-    let mut i = 0;
-    while i < n {
+    for i in 0..n {
         if !left_on(p, q, spot_at(a, i)) {
             return false;
         }
         if !left_on(p, q, spot_at(b, i)) {
             return false;
         }
-        i += 1;
     }
     true
 }
@@ -102,7 +100,7 @@ pub fn parts(a: &[u64], b: &[u64], s: Spot, t: Spot, p: Spot, q: Spot) -> bool
 pub fn smaller(x: u64, y: u64) -> u64
     ensures { result ≡ min x y }
 {
-    if y < x { y } else { x }
+    x.min(y)
 }
 
 // The least height of the way's corners, at the start and at the end.
@@ -112,10 +110,8 @@ pub fn lowest(a: &[u64], b: &[u64]) -> u64
 {
     let n = a.len() / 2;
     let mut low = a[1];
-    let mut i = 0;
-    while i < n {
+    for i in 0..n {
         low = smaller(smaller(low, a[2 * i + 1]), b[2 * i + 1]);
-        i += 1;
     }
     low
 }
@@ -141,15 +137,13 @@ pub fn balanced(st: &[u64], ls: &[u64], h: u64) -> bool
     let m = st.len() / 2;
     let mut up = 0;
     let mut down = 0;
-    let mut j = 0;
-    while j < m {
+    for j in 0..m {
         let p = spot_at(ls, 2 * j);
         let q = spot_at(ls, 2 * j + 1);
         let s = spot_at(st, j);
         let t = spot_at(st, next(j, m));
         up += mark(h, p, q, s, t);
         down += mark(h, p, q, t, s);
-        j += 1;
     }
     up == down
 }
@@ -170,11 +164,8 @@ pub fn check(st: &[u64], a: &[u64], b: &[u64], ls: &[u64]) -> Ground
     ensures { ground result ≡ check_of st.now a.now b.now ls.now }
 {
     let m = st.len() / 2;
-    let mut j = 0;
-    while j < m {
-        if parts_edge(st, a, b, ls, j) {
-            j += 1;
-        } else {
+    for j in 0..m {
+        if !parts_edge(st, a, b, ls, j) {
             return Ground::Edge(j);
         }
     }

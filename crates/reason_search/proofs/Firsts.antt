@@ -9,6 +9,7 @@ use mathlib.Core.List.{List}
 use lib.Dec.{ltb}
 use lib.ListN.{length}
 use borrow.Author.Tests.{ltb-true, ltb-false}
+use Rattle.std.proofs.Common.{Some, None}
 use Rattle.laws.proofs.Both.{both}
 use Rattle.shifted.specs.Shifted.{spot_at, Small}
 use Rattle.shifted.specs.declared.Spot.{Spot}
@@ -17,7 +18,7 @@ use Rattle.reasons.specs.First.{first_from}
 use Rattle.reasons.proofs.First.{first_passes, none_before}
 use Rattle.reason_check.specs.Lent.{WayLent}
 use Rattle.reason_search.specs.Lines.{line, box_low, box_high, box_line, either_way}
-use Rattle.reason_search.specs.Search.{parts_by, line_for, tried, first_line, anew, onward}
+use Rattle.reason_search.specs.Search.{parts_by, parting, line_for, tried, first_line, anew, onward}
 use Rattle.reason_search.specs.Noted.{IsBox, beside_box, first_side, leaves, useful, way_lines, line_in}
 use Rattle.reason_search.specs.Noted.{helpful, first_of_way, Held}
 use Rattle.reason_search.specs.declared.Line.{Line}
@@ -70,6 +71,29 @@ module _ (a b : List ℕ) (s t : Spot) where
   unfolding helpful useful
   unnoted c e h = h ∙ ap (parts_by a b s t) e ∙ parts_both (line_in a b c)
 
+-- ---- a line where it parts the edge
+
+module _ (a b : List ℕ) (s t : Spot) where
+  pub some_is : {l m : Line} {x : Bool} → l ≡ m → x ≡ parts_by a b s t l → x ≡ true → Some l ≡ parting a b s t m
+  some_is {l} e f h = ap (λ (y : Bool). cond y (Some l) None) (sym h ∙ f) ∙ ap (parting a b s t) e
+
+  pub none_is : {l m : Line} {x : Bool} → l ≡ m → x ≡ parts_by a b s t l → x ≡ false → None ≡ parting a b s t m
+  none_is {l} e f h = ap (λ (y : Bool). cond y (Some l) None) (sym h ∙ f) ∙ ap (parting a b s t) e
+
+  pub of_some : {l m : Line} → Some l ≡ parting a b s t m → (l ≡ m) × (true ≡ parts_by a b s t l)
+  of_some {l} {m} h = go (parts_by a b s t m) refl h
+    where
+      go : (x : Bool) → parts_by a b s t m ≡ x → Some l ≡ cond x (Some m) None → (l ≡ m) × (true ≡ parts_by a b s t l)
+      go true e f = let q : l ≡ m = cc in (q, sym (ap (parts_by a b s t) q ∙ e))
+      go false e f = cc
+
+  pub of_none : (m : Line) → None ≡ parting a b s t m → parts_by a b s t m ≡ false
+  of_none m h = go (parts_by a b s t m) refl h
+    where
+      go : (x : Bool) → parts_by a b s t m ≡ x → None ≡ cond x (Some m) None → parts_by a b s t m ≡ false
+      go true e f = cc
+      go false e f = e
+
 -- ---- the lines of an edge, one after the other
 
 module _ (a b : List ℕ) (s t : Spot) where
@@ -77,15 +101,15 @@ module _ (a b : List ℕ) (s t : Spot) where
   abbrev pub test : ℕ → Bool
   test k = parts_by a b s t (line_for a b s t k)
 
-  abbrev None : ℕ → Type 0
-  None k = (i : ℕ) → i < k → test i ≡ false
+  abbrev NoneTo : ℕ → Type 0
+  NoneTo k = (i : ℕ) → i < k → test i ≡ false
 
   -- what is told of a line that is taken
   abbrev pub Right : Line → Type 0
   Right l = (l ≡ anew a b s t) × (true ≡ parts_by a b s t l)
 
   -- line k is the first that parts the edge
-  found : (k : ℕ) {l : Line} → None k → k < tried a → l ≡ line_for a b s t k → parts_by a b s t l ≡ true → Right l
+  found : (k : ℕ) {l : Line} → NoneTo k → k < tried a → l ≡ line_for a b s t k → parts_by a b s t l ≡ true → Right l
   unfolding first_line
   found k none h e p =
       (e ∙ ap (line_for a b s t) (sym (is_first test (tried a) k none h (ap (parts_by a b s t) (sym e) ∙ p))), sym p)
@@ -108,7 +132,7 @@ module _ (a b : List ℕ) (s t : Spot) where
     side_row : c ≡ first_side low high s t
     side_row = ec ∙ (rw (eu, ev))
 
-    side_none : (k : ℕ) → k ≤ c → k ≤ 4 → None k
+    side_none : (k : ℕ) → k ≤ c → k ≤ 4 → NoneTo k
     side_none k l m i h =
         side_test i (omega arith) ∙ none_before (beside_box low high s t) 0 4 i (omega arith) (omega (arith, side_row))
 
@@ -127,7 +151,7 @@ module _ (a b : List ℕ) (s t : Spot) where
         ap (parts_by a b s t) (line_way (spot_at a) (spot_at b) (length a / 2) s t i h) ∙ parts_both a b s t (line_in a b i)
 
     module _ (no-side : 4 ≤ c) {r : ℕ} (er : r ≡ first_of_way a b s t) where
-      way_none : (k : ℕ) → k ≤ r → k ≤ way_lines a → None (4 + k)
+      way_none : (k : ℕ) → k ≤ r → k ≤ way_lines a → NoneTo (4 + k)
       way_none k l m i h = go (ltb i 4) refl
         where
           go : (x : Bool) → ltb i 4 ≡ x → test i ≡ false
@@ -158,7 +182,7 @@ module _ (a b : List ℕ) (s t : Spot) where
         pub anew_own : x ≡ true → Right (line s t)
         anew_own h = found (4 + way_lines a) (way_none (way_lines a) no_way (omega arith)) (omega arith) (sym own) (sym ex ∙ h)
 
-        own_none : x ≡ false → None (5 + way_lines a)
+        own_none : x ≡ false → NoneTo (5 + way_lines a)
         own_none h i l = go (ltb i (4 + way_lines a)) refl
           where
             go : (y : Bool) → ltb i (4 + way_lines a) ≡ y → test i ≡ false

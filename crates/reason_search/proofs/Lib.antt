@@ -1,4 +1,5 @@
 -- The modules of laws.
+pub mod Below
 pub mod Boxes
 pub mod WayLines
 pub mod Flags

@@ -1,7 +1,7 @@
 -- The search for a reason: for each edge the line of the edge before, or else the first line that parts it from the way, and then
 -- the balance. All lists hold x, y, x, y .. moved up: st the stationary corners, a the orbiting ones at the start, b at the end.
 -- Definitions only.
-use Rattle.std.specs.Prelude.{ℕ, zero, suc, ◌+◌, ◌*◌, ◌/◌, Bool, not, cond, List, length}
+use Rattle.std.specs.Prelude.{ℕ, zero, suc, ◌+◌, ◌*◌, ◌/◌, Bool, not, cond, List, length, Option, Some, None}
 use Rattle.shifted.specs.Shifted.{spot_at}
 use Rattle.shifted.specs.declared.Spot.{Spot}
 use Rattle.reasons.specs.Parting.{parts}
@@ -16,6 +16,10 @@ use Rattle.reason_search.specs.declared.Line.{Line}
 -- the line parts it from the way
 abbrev pub parts_by : List ℕ → List ℕ → Spot → Spot → Line → Bool
 parts_by a b s t l = parts (spot_at a) (spot_at b) (length a / 2) s t l.p l.q
+
+-- a line where it does
+abbrev pub parting : List ℕ → List ℕ → Spot → Spot → Line → Option Line
+parting a b s t l = cond (parts_by a b s t l) (Some l) None
 
 -- line k, and how many there are
 abbrev pub line_for : List ℕ → List ℕ → Spot → Spot → ℕ → Line

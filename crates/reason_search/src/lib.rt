@@ -2,19 +2,19 @@
 // parts it, and then the balance. All numbers are moved up, so that none is below zero: 1000000 stands for 0.
 #![tactic(auto)]
 
-ghost use Rattle.std.specs.Prelude.{◌≡◌, ◌+◌, ◌*◌, ◌/◌, ◌≤◌, ◌<◌, max, length};
+ghost use Rattle.std.specs.Prelude.{◌≡◌, ◌+◌, ◌*◌, ◌/◌, ◌≤◌, ◌<◌, length};
 ghost use Rattle.std.proofs.lemmas.List.Edits.{sets};
 ghost use Rattle.shifted.specs.Shifted.{Small, spot_at};
-ghost use Rattle.reasons.specs.Crossing.{one};
 ghost use Rattle.reason_check.specs.Lent.{WayLent};
 ghost use Rattle.reason_check.specs.Told.{ground};
 ghost use Rattle.reason_search.specs.Lines.{line, spot, lesser, greater, box_line, either_way};
-ghost use Rattle.reason_search.specs.Search.{parts_by, anew, onward, reached, search_of};
+ghost use Rattle.reason_search.specs.Below.{below};
+ghost use Rattle.reason_search.specs.Search.{parting, anew, onward, reached, search_of};
 ghost use Rattle.reason_search.specs.Room.{SearchLent, numbers, room_of};
 ghost use Rattle.reason_search.specs.Noted.{IsBox, first_side, useful, way_lines, line_in, Noted};
 ghost use Rattle.reason_search.specs.Noted.{Prepared, Ready, helpful, first_of_way, Held};
 
-use reason_check::{Ground, balanced, differ, edge_right, lowest, parts, smaller, way_left};
+use reason_check::{Ground, balanced, differ, edge_right, lowest, parts, way_left};
 use ring::next;
 use shifted::{Spot, spot_at};
 
@@ -32,27 +32,13 @@ pub struct Span {
     pub high: Spot,
 }
 
-// The line that is taken for an edge, and whether it parts it.
-#[derive(Clone, Copy)]
-pub struct Taken {
-    pub line: Line,
-    pub parted: bool,
-}
-
-// The larger of two numbers.
-fn larger(x: u64, y: u64) -> u64
-    ensures { result ≡ max x y }
-{
-    if x < y { y } else { x }
-}
-
 // The lower left corner of the box of two points.
 fn low_of(u: Spot, v: Spot) -> Spot
     ensures { result ≡ lesser u v }
 {
     Spot {
-        x: smaller(u.x, v.x),
-        y: smaller(u.y, v.y),
+        x: u.x.min(v.x),
+        y: u.y.min(v.y),
     }
 }
 
@@ -61,8 +47,8 @@ fn high_of(u: Spot, v: Spot) -> Spot
     ensures { result ≡ greater u v }
 {
     Spot {
-        x: larger(u.x, v.x),
-        y: larger(u.y, v.y),
+        x: u.x.max(v.x),
+        y: u.y.max(v.y),
     }
 }
 
@@ -74,16 +60,11 @@ fn box_of(a: &[u64], b: &[u64]) -> Span
     let n = a.len() / 2;
     let mut low = spot_at(a, 0);
     let mut high = spot_at(a, 0);
-    let mut i = 0;
-    while i < n {
+    for i in 0..n {
         low = low_of(low_of(low, spot_at(a, i)), spot_at(b, i));
         high = high_of(high_of(high, spot_at(a, i)), spot_at(b, i));
-        i += 1;
     }
-    Span {
-        low: low,
-        high: high,
-    }
+    Span { low, high }
 }
 
 // The line from (px, py) to (qx, qy).
@@ -108,20 +89,18 @@ fn side(c: usize, x: Span) -> Line
     }
 }
 
-// The first side of a box that has the edge from s to t right of it or on it, or 4.
-fn first_side(x: Span, s: Spot, t: Spot) -> usize
+// The first side of a box that has the edge from s to t right of it or on it.
+fn first_side(x: Span, s: Spot, t: Spot) -> Option<usize>
     requires { Small x.low × Small x.high × Small s × Small t }
-    ensures { (result ≡ first_side x.low x.high s t) × (result ≤ 4) }
+    ensures { result ≡ below 4 (first_side x.low x.high s t) }
 {
-    let mut c = 0;
-    while c < 4 {
+    for c in 0..4 {
         let k = side(c, x);
         if edge_right(k.p, k.q, s, t) {
-            return c;
+            return Some(c);
         }
-        c += 1;
     }
-    c
+    None
 }
 
 // The line from u to v, and for 1 the same turned round.
@@ -166,23 +145,14 @@ fn is_useful(a: &[u64], b: &[u64], c: usize) -> bool
     }
 }
 
-// 1 for true.
-fn flag(yes: bool) -> u8
-    ensures { result ≡ one yes }
-{
-    if yes { 1 } else { 0 }
-}
-
 // Notes for each line of the way whether it is of use.
 fn note(a: &[u64], b: &[u64], flags: &mut [u8])
     requires { WayLent a.now b.now × (way_lines a.now ≤ length flags.old) }
     ensures { Noted a.now b.now flags.new (way_lines a.now) }
 {
     let most = 6 * (a.len() / 2);
-    let mut c = 0;
-    while c < most {
-        flags[c] = flag(is_useful(a, b, c));
-        c += 1;
+    for c in 0..most {
+        flags[c] = u8::from(is_useful(a, b, c));
     }
 }
 
@@ -212,20 +182,18 @@ fn helps(a: &[u64], b: &[u64], flags: &[u8], s: Spot, t: Spot, c: usize) -> bool
     }
 }
 
-// The first line of the way that parts the edge from s to t, or the number of all.
-fn first_of_way(a: &[u64], b: &[u64], flags: &[u8], s: Spot, t: Spot) -> usize
+// The first line of the way that parts the edge from s to t.
+fn first_of_way(a: &[u64], b: &[u64], flags: &[u8], s: Spot, t: Spot) -> Option<usize>
     requires { Prepared a.now b.now flags.now × Small s × Small t }
-    ensures { (result ≡ first_of_way a.now b.now s t) × (result ≤ way_lines a.now) }
+    ensures { result ≡ below (way_lines a.now) (first_of_way a.now b.now s t) }
 {
     let most = 6 * (a.len() / 2);
-    let mut c = 0;
-    while c < most {
+    for c in 0..most {
         if helps(a, b, flags, s, t, c) {
-            return c;
+            return Some(c);
         }
-        c += 1;
     }
-    c
+    None
 }
 
 // Whether line c of the way parts the edge from s to t, without the notes. The edge is looked at first.
@@ -237,26 +205,24 @@ fn helps_unnoted(a: &[u64], b: &[u64], s: Spot, t: Spot, c: usize) -> bool
     parts(a, b, s, t, l.p, l.q)
 }
 
-// The first line of the way that does, or the number of all.
-fn first_unnoted(a: &[u64], b: &[u64], s: Spot, t: Spot) -> usize
+// The first line of the way that does.
+fn first_unnoted(a: &[u64], b: &[u64], s: Spot, t: Spot) -> Option<usize>
     requires { WayLent a.now b.now × (length a.now ≤ 512) × Small s × Small t }
-    ensures { (result ≡ first_of_way a.now b.now s t) × (result ≤ way_lines a.now) }
+    ensures { result ≡ below (way_lines a.now) (first_of_way a.now b.now s t) }
 {
     let most = 6 * (a.len() / 2);
-    let mut c = 0;
-    while c < most {
+    for c in 0..most {
         if helps_unnoted(a, b, s, t, c) {
-            return c;
+            return Some(c);
         }
-        c += 1;
     }
-    c
+    None
 }
 
 // The same, without the notes for the first eight edges that ask, and then with them: most rings ask less often.
-fn first_helping(a: &[u64], b: &[u64], flags: &mut [u8], s: Spot, t: Spot) -> usize
+fn first_helping(a: &[u64], b: &[u64], flags: &mut [u8], s: Spot, t: Spot) -> Option<usize>
     requires { Ready a.now b.now flags.old × Small s × Small t }
-    ensures value { (result ≡ first_of_way a.now b.now s t) × (result ≤ way_lines a.now) }
+    ensures value { result ≡ below (way_lines a.now) (first_of_way a.now b.now s t) }
     ensures ready { Ready a.now b.now flags.new }
 {
     let asked = flags[1536];
@@ -269,51 +235,35 @@ fn first_helping(a: &[u64], b: &[u64], flags: &mut [u8], s: Spot, t: Spot) -> us
 }
 
 // The first line that parts the edge from s to t: a side of the way's box, which has the way on its left whatever the way, a line
-// of the way, or the edge's own; the last of them where none does.
-fn take_anew(a: &[u64], b: &[u64], x: Span, flags: &mut [u8], s: Spot, t: Spot) -> Taken
+// of the way, or the edge's own.
+fn take_anew(a: &[u64], b: &[u64], x: Span, flags: &mut [u8], s: Spot, t: Spot) -> Option<Line>
     requires { Ready a.now b.now flags.old × IsBox a.now b.now x × Small s × Small t }
-    ensures line_value { result.line ≡ anew a.now b.now s t }
-    ensures parted_value { result.parted ≡ parts_by a.now b.now s t result.line }
+    ensures value { result ≡ parting a.now b.now s t (anew a.now b.now s t) }
     ensures ready { Ready a.now b.now flags.new }
 {
-    let c = first_side(x, s, t);
-    if c < 4 {
-        return Taken {
-            line: side(c, x),
-            parted: true,
-        };
+    if let Some(c) = first_side(x, s, t) {
+        return Some(side(c, x));
     }
-    let i = first_helping(a, b, flags, s, t);
-    if i < 6 * (a.len() / 2) {
-        return Taken {
-            line: way_line(a, b, i),
-            parted: true,
-        };
+    if let Some(i) = first_helping(a, b, flags, s, t) {
+        return Some(way_line(a, b, i));
     }
     if parts(a, b, s, t, s, t) {
-        return Taken {
-            line: Line { p: s, q: t },
-            parted: true,
-        };
+        return Some(Line { p: s, q: t });
     }
-    Taken {
-        line: Line { p: t, q: s },
-        parted: parts(a, b, s, t, t, s),
+    if parts(a, b, s, t, t, s) {
+        return Some(Line { p: t, q: s });
     }
+    None
 }
 
 // The line of the edge from s to t, where the edge before has the line l: l again, if it has the edge right of it or on it.
-fn take(a: &[u64], b: &[u64], x: Span, flags: &mut [u8], l: Line, s: Spot, t: Spot) -> Taken
+fn take(a: &[u64], b: &[u64], x: Span, flags: &mut [u8], l: Line, s: Spot, t: Spot) -> Option<Line>
     requires { Ready a.now b.now flags.old × IsBox a.now b.now x × Small s × Small t × Held a.now b.now l }
-    ensures line_value { result.line ≡ onward a.now b.now s t l }
-    ensures parted_value { result.parted ≡ parts_by a.now b.now s t result.line }
+    ensures value { result ≡ parting a.now b.now s t (onward a.now b.now s t l) }
     ensures ready { Ready a.now b.now flags.new }
 {
     if edge_right(l.p, l.q, s, t) {
-        return Taken {
-            line: l,
-            parted: true,
-        };
+        return Some(l);
     }
     take_anew(a, b, x, flags, s, t)
 }
@@ -329,28 +279,32 @@ fn put(lines: &mut [u64], j: usize, l: Line)
     lines[4 * j + 3] = l.q.y;
 }
 
-// Edge after edge its line, written to its place, until an edge that none parts: how many are written. Before the first edge the
+// Edge after edge its line, written to its place, until the first edge that none parts, which is told. Before the first edge the
 // line is the right side of the way's box, which would be tried first anyway.
-fn lay(st: &[u64], a: &[u64], b: &[u64], x: Span, flags: &mut [u8], lines: &mut [u64]) -> usize
+fn lay(
+    st: &[u64],
+    a: &[u64],
+    b: &[u64],
+    x: Span,
+    flags: &mut [u8],
+    lines: &mut [u64],
+) -> Option<usize>
     requires { SearchLent st.now a.now b.now lines.old × Ready a.now b.now flags.old × IsBox a.now b.now x }
-    ensures value { result ≡ reached st.now a.now b.now }
+    ensures value { result ≡ below (length st.now / 2) (reached st.now a.now b.now) }
     ensures lines_after { lines.new ≡ room_of st.now a.now b.now lines.old }
 {
     let m = st.len() / 2;
     let mut l = side(0, x);
-    let mut j = 0;
-    while j < m {
+    for j in 0..m {
         let s = spot_at(st, j);
         let t = spot_at(st, next(j, m));
-        let k = take(a, b, x, flags, l, s, t);
-        if !k.parted {
-            return j;
+        match take(a, b, x, flags, l, s, t) {
+            Some(k) => l = k,
+            None => return Some(j),
         }
-        l = k.line;
         put(lines, j, l);
-        j += 1;
     }
-    j
+    None
 }
 
 // The search: the first edge that no line parts; else the balance of the lines decides, which stand at the front of the room.
@@ -361,8 +315,7 @@ pub fn search(st: &[u64], a: &[u64], b: &[u64], lines: &mut [u64]) -> Ground
 {
     let x = box_of(a, b);
     let mut flags = [0u8; 1537];
-    let j = lay(st, a, b, x, &mut flags, lines);
-    if j < st.len() / 2 {
+    if let Some(j) = lay(st, a, b, x, &mut flags, lines) {
         return Ground::Edge(j);
     }
     if balanced(st, lines, lowest(a, b)) {

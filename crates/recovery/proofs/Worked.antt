@@ -2,7 +2,7 @@
 -- toward (4, 1) by 2 less half the tolerance; Q moved by (4, 1) touches S and stays. Assumes nothing.
 use mathlib.Core.Path.{◌≡◌, refl}
 use mathlib.Core.List.{List, [], ◌∷◌}
-use mathlib.Core.Option.{none, some}
+use Rattle.std.specs.Prelude.{Some, None}
 use lib.Ieee.{Float, add, sub, mul, div, lt, le, eq, neg, of_bits}
 use Rattle.scalar.specs.Float.{◌⊘◌, float, f0, f1}
 use Rattle.scalar.specs.Scalar.{abs_of, clamp_of}
@@ -31,11 +31,11 @@ away = f6 ∷ f1 ∷ f8 ∷ f1 ∷ f8 ∷ f3 ∷ f6 ∷ f3 ∷ []
 abbrev beside : List Float
 beside = f4 ∷ f1 ∷ f6 ∷ f1 ∷ f6 ∷ f3 ∷ f4 ∷ f3 ∷ []
 
-drawn : recover_call S away (point f6 f1) tolerance ≡ answers (some (point (float 0x4010_6918_dafa_053d) (float 0x3fd7_85d9_e535_7144)))
+drawn : recover_call S away (point f6 f1) tolerance ≡ answers (Some (point (float 0x4010_6918_dafa_053d) (float 0x3fd7_85d9_e535_7144)))
 unfolding of_moving of_two_polygons every coordinate finite recover_of move_to toward_of closest_of nest over better closest_on centroid_of moments_to grown_of ahead_of project_of clamped_foot along_of clamp_of point_at minus_of dot_of length_of distance_of normalize_of abs_of sqrt_of add sub mul div lt le eq neg of_bits
 drawn = refl
 
-stays : recover_call S beside (point f4 f1) tolerance ≡ answers none
+stays : recover_call S beside (point f4 f1) tolerance ≡ answers None
 unfolding of_moving of_two_polygons every coordinate finite recover_of move_to closest_of nest over better closest_on project_of clamped_foot along_of clamp_of point_at minus_of dot_of length_of distance_of abs_of sqrt_of add sub mul div lt le eq neg of_bits
 stays = refl
 

@@ -1,11 +1,12 @@
 // The public call: recover_contact.
+#![tactic(auto, using(refusals::proofs::Tests::refused))]
+
 ghost use Rattle.std.specs.Prelude.{◌≡◌};
-ghost use Rattle.refusals.specs.Answers.{position};
+ghost use Rattle.refusals.specs.Answers.{answered};
 ghost use Rattle.recovery.specs.Calls.{recover_call};
 
 use plane::Point;
-use refusals::answer::Position;
-use refusals::row;
+use refusals::{Refusal, row};
 
 // Where the orbiting polygon, lent where it is, is moved to from its current position to touch the stationary one again, or nothing.
 pub fn recover_contact(
@@ -13,13 +14,9 @@ pub fn recover_contact(
     orbiting: &[f64],
     current: Point,
     tolerance: f64,
-) -> Position
-    ensures { position result ≡ recover_call stationary.now orbiting.now current tolerance }
+) -> Result<Option<Point>, Refusal>
+    ensures { answered result ≡ recover_call stationary.now orbiting.now current tolerance }
 {
-    let no = row::moving(stationary, orbiting, current, tolerance);
-    if no.passed() {
-        Position::Is(crate::recover_contact(stationary, orbiting, current, tolerance))
-    } else {
-        Position::Refused(no)
-    }
+    row::moving(stationary, orbiting, current, tolerance)?;
+    Ok(crate::recover_contact(stationary, orbiting, current, tolerance))
 }

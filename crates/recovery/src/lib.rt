@@ -12,14 +12,13 @@ use centroid::centroid;
 use plane::Point;
 use plane::segment::{along, project_point_to_segment};
 use plane::vector::{ahead, distance, minus, normalize};
-use refusals::answer::Found;
 use ring::{next, point_at};
 
 // A point and its distance, or +infinity and nothing.
 #[derive(Clone, Copy)]
 pub struct Closest {
     pub distance: f64,
-    pub target: Found,
+    pub target: Option<Point>,
 }
 
 // The point of the edge i that is nearest to v.
@@ -32,7 +31,7 @@ fn foot(v: Point, ring: &[f64], i: usize) -> Closest
     let p = along(a, b, project_point_to_segment(v, a, b));
     Closest {
         distance: distance(v, p),
-        target: Found::At(p),
+        target: Some(p),
     }
 }
 
@@ -53,10 +52,8 @@ fn row(best: Closest, v: Point, ring: &[f64]) -> Closest
 {
     let n = ring.len() / 2;
     let mut near = best;
-    let mut i = 0;
-    while i < n {
+    for i in 0..n {
         near = keep(near, foot(v, ring, i));
-        i += 1;
     }
     near
 }
@@ -68,12 +65,10 @@ fn scan(stationary: &[f64], orbiting: &[f64]) -> Closest
     let n = orbiting.len() / 2;
     let mut near = Closest {
         distance: 1.0 / 0.0,
-        target: Found::Nothing,
+        target: None,
     };
-    let mut i = 0;
-    while i < n {
+    for i in 0..n {
         near = row(near, point_at(orbiting, i), stationary);
-        i += 1;
     }
     near
 }
@@ -86,22 +81,20 @@ fn toward(target: Point, orbiting: &[f64], current: Point, far: f64) -> Point
 }
 
 // The position from which the polygons touch again, where the nearest point is farther than the tolerance.
+#[tactic(auto, unfolding(crate::specs::Recovery::recover_of, crate::specs::Recovery::move_to))]
 pub fn recover_contact(
     stationary: &[f64],
     orbiting: &[f64],
     current: Point,
     tolerance: f64,
-) -> Found
+) -> Option<Point>
     ensures { result ≡ recover_of stationary.now orbiting.now current tolerance }
 {
     let near = scan(stationary, orbiting);
-    let target = near.target;
-    let Found::At(p) = target else {
-        return Found::Nothing;
-    };
+    let p = near.target?;
     if near.distance > tolerance {
-        Found::At(toward(p, orbiting, current, near.distance - tolerance * 0.5))
+        Some(toward(p, orbiting, current, near.distance - tolerance * 0.5))
     } else {
-        Found::Nothing
+        None
     }
 }

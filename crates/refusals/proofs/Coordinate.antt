@@ -1,5 +1,5 @@
 -- What the two comparisons of `is_coordinate` say: the magnitude is at most a million; and that a coordinate is no NaN. Assumes nothing.
-use Prim.Native.Nat.{ℕ, zero, suc, ◌+◌, ◌*◌, ◌^◌, ◌≤◌, ◌<◌}
+use Prim.Native.Nat.{ℕ, suc, ◌+◌, ◌*◌, ◌≤◌, ◌<◌}
 use mathlib.Core.Path.{◌≡◌, refl, sym, ap, ◌∙◌}
 use mathlib.Core.Bool.{Bool, true, false, not, ◌&&◌, ◌||◌, and-true, true≢false}
 use native.Mathlib.Omega.{arith}
@@ -8,7 +8,7 @@ use native.Mathlib.Decide.{dec_le}
 use lib.Pow.{pow_pos}
 use lib.IntN.{ℤ, pos, negsuc}
 use lib.Dec.{T, leb, ltb, eqb}
-use lib.Ieee.{Float, nan, inf, fin, binary64, is_nan, le, lt, eq, neg, up, down, of_bits, of_fields, odd}
+use lib.Ieee.{Float, nan, inf, fin, binary64, is_nan, le, lt, eq, neg, up, down, of_bits}
 use borrow.Author.Tests.{lt-ltb, le-ltb, le-leb, lt-leb, eq-eqb, ne_eqb}
 use Rattle.refusals.specs.Bounds.{coordinate}
 

@@ -1,34 +1,28 @@
 -- The fault of a list, test by test; and the loop over vertex counts, in which the counts left decide. Assumes nothing.
 use Prim.Native.Nat.{ℕ, suc, ◌+◌, ◌%◌, ◌/◌, ◌≤◌, ◌<◌}
-use mathlib.Core.Path.{◌≡◌, refl, sym, ap, ◌∙◌}
-use mathlib.Core.Bool.{Bool, true, false, ◌&&◌}
+use mathlib.Core.Path.{◌≡◌, refl, sym, ◌∙◌}
+use mathlib.Core.Bool.{Bool, true, false}
 use mathlib.Core.List.{List, [], ◌∷◌, map}
 use native.Mathlib.Omega.{arith}
 use native.Mathlib.Numerals.{add-one}
-use lib.ListN.{length, get_or, drop, drop_of_length-le}
+use lib.ListN.{length, get_or, drop}
 use lib.Seq.{drop-cons}
 use lib.Dec.{leb, eqb}
 use lib.Ieee.{Float}
-use borrow.Author.Tests.{le-leb, lt-leb, eq-eqb, ne_eqb}
+use borrow.Author.Tests.{le-leb, eq-eqb}
 use Rattle.laws.proofs.Both.{both}
-use Rattle.refusals.specs.Refusals.{refused_length, refused_few, refused_many, none, refuse, passed, unless, first, first_of}
+use Rattle.refusals.specs.Refusals.{refused_length, refused_few, refused_many, none, passed, unless, first, first_of}
 use Rattle.refusals.specs.Rings.{vertices_least, vertices_most, within, sized_all}
-use Rattle.refusals.specs.Lists.{Extent, list_fault, faults_from, fault_of, count_extent, vectors_extent}
-use Rattle.refusals.specs.declared.Refusal.{Refusal}
-use Rattle.refusals.proofs.First.{on, off}
+use Rattle.refusals.specs.Lists.{Extent, list_fault, faults_from, count_extent, vectors_extent}
+use Rattle.refusals.specs.Refusals.{Told}
+use Rattle.refusals.proofs.Tests.{first_passed}
 use Rattle.refusals.proofs.Sized.{Fine, fine, row_parts}
 use Rattle.refusals.proofs.Counts.{within_true, is_within}
 
 -- ---- one list
 
 module _ (e : Extent) (at : ℕ) where
-  pub fault_length : (e.size % e.width ≡ 0 → ⊥) → refuse refused_length at ≡ list_fault e at
-  fault_length n = rw (ne_eqb (e.size % e.width) 0 n)
-
-  pub fault_few : e.size % e.width ≡ 0 → e.size / e.width < e.least → refuse refused_few at ≡ list_fault e at
-  fault_few w l = rw (eq-eqb (e.size % e.width) 0 w, lt-leb e.least (e.size / e.width) l)
-
-  pub fault_rest : {r : Refusal} → e.size % e.width ≡ 0 → e.least ≤ e.size / e.width → r ≡ unless (leb (e.size / e.width) e.most) refused_many at
+  pub fault_rest : {r : Told} → e.size % e.width ≡ 0 → e.least ≤ e.size / e.width → r ≡ unless (leb (e.size / e.width) e.most) refused_many at
       → r ≡ list_fault e at
   fault_rest w l q = rw (eq-eqb (e.size % e.width) 0 w, le-leb e.least (e.size / e.width) l) q
 
@@ -48,7 +42,7 @@ vectors_whole vs at = rw (le-leb (length vs / 3) (length vs) (omega arith)) (go 
 
 -- ---- the rings of a book, by their vertex counts
 
-firstOf_first : (r : Refusal) (rs : List Refusal) → (passed r ≡ true → r ≡ none) → first_of (r ∷ rs) ≡ first r (first_of rs)
+firstOf_first : (r : Told) (rs : List Told) → (passed r ≡ true → r ≡ none) → first_of (r ∷ rs) ≡ first r (first_of rs)
 firstOf_first r [] n = go (passed r) refl
   where
     go : (p : Bool) → passed r ≡ p → r ≡ first r none
@@ -56,7 +50,7 @@ firstOf_first r [] n = go (passed r) refl
     go false h = rw h
 firstOf_first r (s ∷ rs) n = refl
 
-abbrev pub counts_from : ℕ → List ℕ → Refusal
+abbrev pub counts_from : ℕ → List ℕ → Told
 counts_from at ns = first_of (faults_from at (map count_extent ns))
 
 counts_cons : (at n : ℕ) (ns : List ℕ) → counts_from at (n ∷ ns) ≡ first (list_fault (count_extent n) at) (counts_from (suc at) ns)
@@ -66,15 +60,8 @@ module _ (ns : List ℕ) (i : ℕ) where
   counts_here : i < length ns → counts_from i (drop i ns) ≡ first (list_fault (count_extent (get_or ns i 0)) i) (counts_from (i + 1) (drop (i + 1) ns))
   counts_here h = rw (drop-cons ns i 0 h, add-one) (counts_cons i (get_or ns i 0) (drop (suc i) ns))
 
-  module _ {n : Refusal} {p : Bool} (e : n ≡ list_fault (count_extent (get_or ns i 0)) i) (q : p ≡ passed n) where
-    pub counts_on : i < length ns → p ≡ true → counts_from i (drop i ns) ≡ counts_from (i + 1) (drop (i + 1) ns)
-    counts_on h t = counts_here h ∙ on _ _ e q t
-
-    pub counts_off : i < length ns → p ≡ false → n ≡ counts_from i (drop i ns)
-    counts_off h t = e ∙ sym (counts_here h ∙ off _ _ e q t)
-
-  pub counts_end : length ns ≤ i → none ≡ counts_from i (drop i ns)
-  counts_end h = rw (drop_of_length-le ns h)
+  pub counts_on : i < length ns → none ≡ list_fault (count_extent (get_or ns i 0)) i → counts_from i (drop i ns) ≡ counts_from (i + 1) (drop (i + 1) ns)
+  counts_on h e = counts_here h ∙ first_passed _ _ e
 
 -- no ring has a fault exactly if each has 3 to 256 vertices
 pub counts_sized : (at : ℕ) (ns : List ℕ) → passed (counts_from at ns) ≡ true → sized_all ns ≡ true

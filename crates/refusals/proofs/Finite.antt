@@ -1,7 +1,7 @@
 -- What the two comparisons of `is_finite` say. Assumes nothing.
 use mathlib.Core.Path.{◌≡◌, refl}
-use mathlib.Core.Bool.{Bool, true, false, ◌&&◌}
-use lib.Ieee.{Float, nan, inf, fin, binary64, lt, neg, div, of_bits}
+use mathlib.Core.Bool.{true, false, ◌&&◌}
+use lib.Ieee.{Float, nan, inf, fin, lt, neg, div, of_bits}
 use Rattle.scalar.specs.Float.{◌⊘◌, f0, f1}
 use Rattle.refusals.specs.Bounds.{finite}
 

@@ -1,18 +1,11 @@
 -- The first of several refusals, test by test. Assumes nothing.
-use mathlib.Core.Path.{◌≡◌, refl, sym, ◌∙◌}
-use mathlib.Core.Bool.{Bool, true, false, cond}
+use mathlib.Core.Path.{◌≡◌, refl}
+use mathlib.Core.Bool.{Bool, true, false}
 use Rattle.refusals.specs.Refusals.{passed, first}
-use Rattle.refusals.specs.declared.Refusal.{Refusal}
-
--- past a test that holds, and at one that does not
-pub on : {p : Bool} {n : Refusal} (a b : Refusal) → n ≡ a → p ≡ passed n → p ≡ true → first a b ≡ b
-on a b e h t = rw (← e, ← h, t)
-
-pub off : {p : Bool} {n : Refusal} (a b : Refusal) → n ≡ a → p ≡ passed n → p ≡ false → first a b ≡ a
-off a b e h t = rw (← e, ← h, t)
+use Rattle.refusals.specs.Refusals.{Told}
 
 -- a first of two within a row of tests
-pub first_assoc : (a b c : Refusal) → first (first a b) c ≡ first a (first b c)
+pub first_assoc : (a b c : Told) → first (first a b) c ≡ first a (first b c)
 first_assoc a b c = go (passed a) refl
   where
     go : (p : Bool) → passed a ≡ p → first (first a b) c ≡ first a (first b c)

@@ -3,7 +3,7 @@ pub mod Coordinate
 pub mod Finite
 pub mod Every
 pub mod First
-pub mod Room
+pub mod Tests
 pub mod Calls
 pub mod Sized
 pub mod Counts

@@ -1,7 +1,7 @@
 -- The row of tests of rings, their vertex counts and their parts, one after the other. Assumes nothing.
-use Prim.Native.Nat.{ℕ, ◌*◌, ◌/◌, ◌≤◌}
-use mathlib.Core.Path.{◌≡◌, refl, sym, ap, ◌∙◌}
-use mathlib.Core.Bool.{Bool, true, false}
+use Prim.Native.Nat.{ℕ, ◌*◌, ◌≤◌}
+use mathlib.Core.Path.{◌≡◌, refl}
+use mathlib.Core.Bool.{true}
 use mathlib.Core.List.{List, map}
 use native.Mathlib.Omega.{arith}
 use lib.ListN.{length}
@@ -14,8 +14,7 @@ use Rattle.refusals.specs.Rings.{rings_most, total, sized_all, sum_ok}
 use Rattle.refusals.specs.Lists.{list_fault, fault_of, rings_extent, count_extent}
 use Rattle.refusals.specs.Screens.{wrong_sum, wrong_parts, wrong_number}
 use Rattle.refusals.specs.Rows.{of_rings}
-use Rattle.refusals.specs.declared.Refusal.{Refusal}
-use Rattle.refusals.proofs.First.{on, off, first_assoc}
+use Rattle.refusals.specs.Refusals.{Told}
 use Rattle.refusals.proofs.Sized.{Fine, fine, row_parts, holds}
 use Rattle.refusals.proofs.Faults.{fault_none, counts_sized, sized_counts}
 
@@ -24,24 +23,24 @@ are_rings : (ns : List ℕ) (at : ℕ) → passed (list_fault (rings_extent ns) 
 are_rings ns at h = let f = fine (rings_extent ns) at h in (omega (arith, f.enough), omega (arith, f.within))
 
 module _ (xs : List Float) (ns ps : List ℕ) where
-  abbrev rings : Refusal
+  abbrev rings : Told
   rings = list_fault (rings_extent ns) (length ns)
 
-  abbrev each : Refusal
+  abbrev each : Told
   each = fault_of (map count_extent ns)
 
-  abbrev later : Refusal
+  abbrev later : Told
   later = first (wrong_parts ns ps) (wrong_number xs)
 
-  abbrev last : Refusal
+  abbrev last : Told
   last = first (wrong_sum xs ns) later
 
   -- their sum, and the number of parts
-  abbrev sums : Refusal
+  abbrev sums : Told
   sums = first (wrong_sum xs ns) (wrong_parts ns ps)
 
   -- the rings one by one, and the two
-  abbrev pub lists : Refusal
+  abbrev pub lists : Told
   lists = first each sums
 
   -- rings that are not refused
@@ -68,27 +67,3 @@ module _ (xs : List Float) (ns ps : List ℕ) where
   taken_rings one few sized whole bounded many =
       let f : Fine (rings_extent ns) = record { whole = omega arith; enough = omega (arith, one); within = omega (arith, few) } in
       rw (← fault_none (rings_extent ns) (length ns) f, sized_counts 0 ns sized, eq-eqb (length xs) (2 * total ns) whole, eq-eqb (length ps) (length ns) many, bounded)
-
-  -- the first test that refuses speaks
-  module _ {n : Refusal} {p : Bool} (e : n ≡ rings) (h : p ≡ passed n) where
-    pub number_speaks : p ≡ false → n ≡ of_rings xs ns ps
-    unfolding of_rings
-    number_speaks f = e ∙ sym (off rings (first each last) e h f)
-
-    pub few_rings : p ≡ true → length ns ≤ rings_most
-    few_rings t = (are_rings ns (length ns) (rw (← e, ← h) t)).1
-
-    module _ (t : p ≡ true) {m : Refusal} {q : Bool} (d : m ≡ lists) (g : q ≡ passed m) where
-      whole : of_rings xs ns ps ≡ first lists (wrong_number xs)
-      unfolding of_rings
-      whole =
-          on rings (first each last) e h t
-          ∙ sym (first_assoc each sums (wrong_number xs) ∙ ap (first each) (first_assoc (wrong_sum xs ns) (wrong_parts ns ps) (wrong_number xs)))
-
-      pub lists_speak : q ≡ false → m ≡ of_rings xs ns ps
-      unfolding of_rings
-      lists_speak f = d ∙ sym (whole ∙ off lists (wrong_number xs) d g f)
-
-      pub numbers_speak : {r : Refusal} → q ≡ true → r ≡ wrong_number xs → r ≡ of_rings xs ns ps
-      unfolding of_rings
-      numbers_speak u s = s ∙ sym (whole ∙ on lists (wrong_number xs) d g u)

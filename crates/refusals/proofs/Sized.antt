@@ -2,7 +2,7 @@
 use Prim.Native.Nat.{ℕ, ◌%◌, ◌/◌, ◌≤◌}
 use mathlib.Core.Path.{◌≡◌, refl, sym}
 use mathlib.Core.Bool.{Bool, true, false, true≢false}
-use mathlib.Core.List.{List, [], ◌∷◌}
+use mathlib.Core.List.{List}
 use native.Mathlib.Omega.{arith}
 use lib.ListN.{length}
 use lib.Dec.{leb, eqb}
@@ -12,9 +12,9 @@ use Rattle.refusals.specs.Refusals.{refused_length, refused_few, refused_many, p
 use Rattle.refusals.specs.Bounds.{coordinates}
 use Rattle.plane.specs.declared.Point.{Point}
 use Rattle.refusals.specs.Screens.{wrong_number, wrong_infinite, wrong_position, wrong_tolerance, wrong_fit}
-use Rattle.refusals.specs.Lists.{Extent, list_fault, fault_of, ring_extent, polygon_extent, points_extent}
+use Rattle.refusals.specs.Lists.{Extent, list_fault, ring_extent, polygon_extent, points_extent}
 use Rattle.refusals.specs.Rows.{of_ring, of_polygon, of_two_polygons, of_list, of_touching, of_moving, fit_lengths, fit_numbers, of_fit, of_rooms}
-use Rattle.refusals.specs.declared.Refusal.{Refusal}
+use Rattle.refusals.specs.Refusals.{Told}
 
 -- an even length, of at most 512
 pub record Sized (r : List Float) : Type 0 where
@@ -28,7 +28,7 @@ pub record Polygon (r : List Float) : Type 0 where
   pub most : length r ≤ 512
 
 -- where a row passes, its first part does, and so does the rest
-pub row_parts : (a b : Refusal) → passed (first a b) ≡ true → (passed a ≡ true) × (passed b ≡ true)
+pub row_parts : (a b : Told) → passed (first a b) ≡ true → (passed a ≡ true) × (passed b ≡ true)
 row_parts a b h = go (passed a) refl
   where
     go : (p : Bool) → passed a ≡ p → (passed a ≡ true) × (passed b ≡ true)
@@ -98,7 +98,7 @@ module _ (a b : List Float) (h : passed (of_two_polygons a b) ≡ true) where
       (holds (coordinates a) 2 0 refl q.0, holds (coordinates b) 2 0 refl q.1)
 
 -- where a row passes that begins with two polygons, they are polygons
-module _ (a b : List Float) (tol : Float) {n : Refusal} {p : Bool} where
+module _ (a b : List Float) (tol : Float) {n : Told} {p : Bool} where
   pub touching_polygons : n ≡ of_touching a b tol → p ≡ passed n → p ≡ true → Polygon a × Polygon b
   unfolding of_touching
   touching_polygons e h t = two_polygons a b (row_parts (of_two_polygons a b) (wrong_tolerance tol) (rw (← e, ← h) t)).0
@@ -108,7 +108,7 @@ module _ (a b : List Float) (tol : Float) {n : Refusal} {p : Bool} where
   moving_polygons q e h t =
       two_polygons a b (row_parts (of_two_polygons a b) (first (wrong_position q) (wrong_tolerance tol)) (rw (← e, ← h) t)).0
 
-pub fit_polygons : (a b : List Float) (from : Point) (visited : List Float) (tol : Float) {n : Refusal} {p : Bool} → n ≡ of_fit a b from visited tol
+pub fit_polygons : (a b : List Float) (from : Point) (visited : List Float) (tol : Float) {n : Told} {p : Bool} → n ≡ of_fit a b from visited tol
     → p ≡ passed n → p ≡ true → Polygon a × Polygon b
 unfolding of_fit fit_lengths
 fit_polygons a b from visited tol e h t =
@@ -119,7 +119,7 @@ fit_polygons a b from visited tol e h t =
     (is_polygon a (fine (polygon_extent a) 0 p.0), is_polygon b (fine (polygon_extent b) 1 q.0))
 
 -- both rooms are long enough
-pub rooms_fit : (x s y t : ℕ) {m : Refusal} {q : Bool} → m ≡ of_rooms x s y t → q ≡ passed m → q ≡ true → (x ≤ s) × (y ≤ t)
+pub rooms_fit : (x s y t : ℕ) {m : Told} {q : Bool} → m ≡ of_rooms x s y t → q ≡ passed m → q ≡ true → (x ≤ s) × (y ≤ t)
 unfolding of_rooms
 rooms_fit x s y t e h z =
     let p = row_parts (wrong_fit x s) (wrong_fit y t) (rw (← e, ← h) z) in

@@ -1,15 +1,15 @@
 -- Worked examples, by computation: the bounds and the next value past each, and the faults of two polygons. Assumes nothing.
 use Prim.Native.Nat.{ℕ}
 use mathlib.Core.Path.{◌≡◌, refl}
-use mathlib.Core.Bool.{Bool, true, false}
-use lib.Ieee.{Float, nan, inf, lt, le, eq, of_bits}
+use mathlib.Core.Bool.{true, false}
+use lib.Ieee.{inf, lt, le, eq, of_bits}
 use Rattle.scalar.specs.Float.{float, f0, f1}
 use mathlib.Core.List.{[], ◌∷◌}
 use Rattle.refusals.specs.Refusals.{none, refuse}
 use Rattle.refusals.specs.Bounds.{coordinate, every, finite, tolerance_ok}
 use Rattle.refusals.specs.Lists.{Extent, fault_of}
 use Rattle.refusals.specs.Rows.{of_two_polygons}
-use Rattle.refusals.specs.declared.Refusal.{Refusal}
+use Rattle.refusals.specs.Refusals.{Told}
 
 -- 1,000,000 and the next f64
 million : coordinate (float 0x412e_8480_0000_0000) ≡ true
@@ -65,7 +65,7 @@ numbers_last = refl
 abbrev polygon : ℕ → Extent
 polygon n = record { width = 2; least = 3; most = 256; size = n }
 
-abbrev two : ℕ → ℕ → Refusal
+abbrev two : ℕ → ℕ → Told
 two a b = fault_of (polygon a ∷ polygon b ∷ [])
 
 both_fine : two 6 512 ≡ none

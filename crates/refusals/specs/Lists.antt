@@ -1,9 +1,9 @@
 -- The first fault of a row of lists: 1 for a length that fits no whole number of entries, 8 for too few entries, 9 for too many, each with
 -- the list's place in the row; of one list all three come before the next list. Definitions only.
-use Rattle.std.specs.Prelude.{ℕ, suc, ◌%◌, ◌/◌, List, [], ◌∷◌, map, length, leb, eqb, Float}
+use Rattle.std.specs.Prelude.{ℕ, suc, ◌%◌, ◌/◌, List, [], ◌∷◌, length, leb, eqb, Float}
 use Rattle.refusals.specs.Refusals.{refused_length, refused_few, refused_many, unless, first_of}
 use Rattle.refusals.specs.Rings.{vertices_least, vertices_most, rings_least, rings_most}
-use Rattle.refusals.specs.declared.Refusal.{Refusal}
+use Rattle.refusals.specs.Refusals.{Told}
 
 -- a lent list: how many numbers an entry has, how few and how many entries there may be, and how many numbers there are
 pub record Extent : Type 0 where
@@ -13,7 +13,7 @@ pub record Extent : Type 0 where
   pub size : ℕ
 
 -- a list in its place
-abbrev pub list_fault : Extent → ℕ → Refusal
+abbrev pub list_fault : Extent → ℕ → Told
 list_fault e at =
     let entries = e.size / e.width in
     first_of
@@ -23,12 +23,12 @@ list_fault e at =
     ∷ [])
 
 -- lists one after the other, the first of them in this place
-abbrev pub faults_from : ℕ → List Extent → List Refusal
+abbrev pub faults_from : ℕ → List Extent → List Told
 faults_from at [] = []
 faults_from at (e ∷ es) = list_fault e at ∷ faults_from (suc at) es
 
 -- a row of lists
-abbrev pub fault_of : List Extent → Refusal
+abbrev pub fault_of : List Extent → Told
 fault_of es = first_of (faults_from 0 es)
 
 -- ---- what calls are lent

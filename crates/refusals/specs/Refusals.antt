@@ -1,6 +1,5 @@
--- A refusal, its numbers, and the first of several. Definitions only.
-use Rattle.std.specs.Prelude.{ℕ, Bool, ◌||◌, cond, List, [], ◌∷◌, eqb}
-use Rattle.refusals.specs.declared.Refusal.{Refusal}
+-- What is told of a refusal, its numbers, and the first of several. Definitions only.
+use Rattle.std.specs.Prelude.{ℕ, Bool, ◌||◌, cond, List, [], ◌∷◌, eqb, Option, Some, None}
 
 -- ---- docs/SCOPE.md's numbers
 
@@ -65,28 +64,37 @@ unfoldable pub tells_place : ℕ → Bool
 tells_place num =
     eqb num refused_length || (eqb num refused_book || (eqb num refused_few || (eqb num refused_many || eqb num refused_wkb)))
 
--- ---- refusals
+-- ---- what is told
+
+-- a refusal's number, and the place that it tells, 0 where it tells none; the number 0 is no refusal
+pub record Told : Type 0 where
+  pub number : ℕ
+  pub place : ℕ
 
 -- no refusal
-abbrev pub none : Refusal
+abbrev pub none : Told
 none = record { number = 0; place = 0 }
 
 -- the refusal with a number and a place
-abbrev pub refuse : ℕ → ℕ → Refusal
+abbrev pub refuse : ℕ → ℕ → Told
 refuse num at = record { number = num; place = at }
 
-abbrev pub passed : Refusal → Bool
+-- the place, where it tells one
+abbrev pub place_told : Told → Option ℕ
+place_told t = cond (tells_place t.number) (Some t.place) None
+
+abbrev pub passed : Told → Bool
 passed r = eqb r.number 0
 
 -- what a test gives: the refusal with its number and place exactly if it does not hold
-abbrev pub unless : Bool → ℕ → ℕ → Refusal
+abbrev pub unless : Bool → ℕ → ℕ → Told
 unless ok num at = cond ok none (refuse num at)
 
-abbrev pub first : Refusal → Refusal → Refusal
+abbrev pub first : Told → Told → Told
 first a b = cond (passed a) b a
 
 -- the first of the tests, in their order, that does not hold
-abbrev pub first_of : List Refusal → Refusal
+abbrev pub first_of : List Told → Told
 first_of [] = none
 first_of (r ∷ []) = r
 first_of (r ∷ s ∷ rs) = first r (first_of (s ∷ rs))

@@ -1,7 +1,6 @@
-// The refusals of the public calls: the record and its numbers, the tests of what a call is lent, and the rows in which they speak.
+// The refusals of the public calls: what they are and tell, the tests of what a call is lent, and the rows in which they speak.
 #![tactic(auto)]
 
-pub mod answer;
 pub mod lists;
 pub mod rings;
 pub mod row;
@@ -9,49 +8,8 @@ pub mod screen;
 pub mod test;
 
 ghost use Rattle.std.specs.Prelude.{◌≡◌};
-ghost use Rattle.refusals.specs.Refusals.{none, refuse, passed, tells_place};
-
-// A list's length fits no whole number of entries, or the lists of rings don't add up.
-pub const REFUSED_LENGTH: u32 = 1;
-
-// A lent number is out of its bounds.
-pub const REFUSED_NUMBER: u32 = 2;
-
-// A setting is out of its bounds.
-pub const REFUSED_SETTING: u32 = 3;
-
-// The rooms of a trace or of a book are too short, or not of the form asked.
-pub const REFUSED_ROOM: u32 = 4;
-
-// The answer has more entries than its room.
-pub const REFUSED_FIT: u32 = 5;
-
-// The path of a trace has under three points.
-pub const REFUSED_SHORT_PATH: u32 = 6;
-
-// A book is wrong.
-pub const REFUSED_BOOK: u32 = 7;
-
-// A list has too few entries.
-pub const REFUSED_FEW: u32 = 8;
-
-// A list has too many entries.
-pub const REFUSED_MANY: u32 = 9;
-
-// A drawing in well-known binary is wrong.
-pub const REFUSED_WKB: u32 = 10;
-
-// Of a mended ring fewer than three vertices remain.
-pub const REFUSED_REMAINING: u32 = 11;
-
-// A disc has no such number of vertices in a quarter.
-pub const REFUSED_QUARTER: u32 = 12;
-
-// The number of a path's points, that of a shift's places, or the start, is out of its bounds.
-pub const REFUSED_INSPECTION: u32 = 13;
-
-// A number times the units of a grid is out of the bounds of whole coordinates.
-pub const REFUSED_GRID: u32 = 14;
+ghost use Rattle.refusals.specs.Refusals.{place_told};
+ghost use Rattle.refusals.specs.Answers.{tells};
 
 // A polygon, and a ring of a book, has 3 to 256 vertices.
 pub const VERTICES_LEAST: usize = 3;
@@ -66,50 +24,75 @@ pub const RINGS_MOST: usize = 8;
 // A list of points has 10,001 at most.
 pub const POINTS_MOST: usize = 10001;
 
-// A refusal's number and the place it tells, 0 where it tells none. The number 0 is no refusal.
-#[derive(Clone, Copy)]
-pub struct Refusal {
-    pub number: u32,
-    pub place: u64,
+// Why a call refuses what it is lent, with the place that it tells where it tells one: which list or ring it was, or the byte of a file's
+// first fault.
+#[derive(Clone, Copy, Debug, PartialEq, Eq)]
+pub enum Refusal {
+    // A list's length fits no whole number of entries, or the lists of rings don't add up.
+    Length(u64),
+    // A lent number is out of its bounds.
+    Number,
+    // A setting is out of its bounds.
+    Setting,
+    // The rooms of a trace or of a book are too short, or not of the form asked.
+    Room,
+    // The answer has more entries than its room.
+    Fit,
+    // The path of a trace has under three points.
+    ShortPath,
+    // A book is wrong.
+    Book(u64),
+    // A list has too few entries.
+    Few(u64),
+    // A list has too many entries.
+    Many(u64),
+    // A drawing in well-known binary is wrong.
+    Wkb(u64),
+    // Of a mended ring fewer than three vertices remain.
+    Remaining,
+    // A disc has no such number of vertices in a quarter.
+    Quarter,
+    // The number of a path's points, that of a shift's places, or the start, is out of its bounds.
+    Inspection,
+    // A number times the units of a grid is out of the bounds of whole coordinates.
+    Grid,
 }
 
 impl Refusal {
-    // No refusal.
-    pub fn none() -> Self
-        ensures { result ≡ none }
+    // Its number in docs/SCOPE.md, which C is told.
+    pub fn number(self) -> u32
+        ensures { result ≡ (tells self).number }
     {
-        Refusal {
-            number: 0,
-            place: 0,
+        match self {
+            Refusal::Length(_) => 1,
+            Refusal::Number => 2,
+            Refusal::Setting => 3,
+            Refusal::Room => 4,
+            Refusal::Fit => 5,
+            Refusal::ShortPath => 6,
+            Refusal::Book(_) => 7,
+            Refusal::Few(_) => 8,
+            Refusal::Many(_) => 9,
+            Refusal::Wkb(_) => 10,
+            Refusal::Remaining => 11,
+            Refusal::Quarter => 12,
+            Refusal::Inspection => 13,
+            Refusal::Grid => 14,
         }
     }
 
-    // The refusal with a number and a place.
-    pub fn new(number: u32, place: u64) -> Self
-        ensures { result ≡ refuse number place }
+    // The place that it tells: 1, 7, 8, 9 and 10 do.
+    #[tactic(auto, unfolding(crate::specs::Refusals::tells_place))]
+    pub fn place(self) -> Option<u64>
+        ensures { result ≡ place_told (tells self) }
     {
-        Refusal { number, place }
-    }
-
-    // Whether it is no refusal.
-    pub fn passed(self) -> bool
-        ensures { result ≡ passed self }
-    {
-        self.number == 0
-    }
-
-    // Whether it tells a place: 1, 7, 8, 9 and 10 do.
-    pub fn tells_place(self) -> bool
-        ensures { result ≡ tells_place self.number }
-    {
-        let number = self.number;
-        match number {
-            1 => true,
-            7 => true,
-            8 => true,
-            9 => true,
-            10 => true,
-            _ => false,
+        match self {
+            Refusal::Length(place)
+            | Refusal::Book(place)
+            | Refusal::Few(place)
+            | Refusal::Many(place)
+            | Refusal::Wkb(place) => Some(place),
+            _ => None,
         }
     }
 }

@@ -4,9 +4,10 @@ ghost use Rattle.refusals.specs.Rings.{rings_most, total};
 ghost use Rattle.refusals.specs.Refusals.{first};
 ghost use Rattle.refusals.specs.Screens.{wrong_sum, wrong_parts};
 ghost use Rattle.refusals.specs.Rows.{of_rings};
+ghost use Rattle.refusals.specs.Answers.{tested};
 
-use crate::screen::{first, numbers, unless};
-use crate::{REFUSED_LENGTH, Refusal, lists};
+use crate::screen::{numbers, unless};
+use crate::{Refusal, lists};
 
 // The sum of at most 8 vertex counts.
 pub fn sum_of(counts: &[u32]) -> usize
@@ -15,49 +16,43 @@ pub fn sum_of(counts: &[u32]) -> usize
     ensures upper_bound { result ≤ 34359738360 }
 {
     let mut sum: usize = 0;
-    let mut i = 0;
-    while i < counts.len() {
-        sum += counts[i] as usize;
-        i += 1;
+    for &n in counts {
+        sum += n as usize;
     }
     sum
 }
 
 // The sum of at most 8 counts, for a list of coordinates.
-fn sum(xs: &[f64], counts: &[u32]) -> Refusal
+fn sum(xs: &[f64], counts: &[u32]) -> Result<(), Refusal>
     requires { length counts.now ≤ rings_most }
-    ensures { result ≡ wrong_sum xs.now counts.now }
+    ensures { tested result ≡ wrong_sum xs.now counts.now }
 {
     unless(
         xs.len() == 2 * sum_of(counts),
-        REFUSED_LENGTH,
-        counts.len() as u64,
+        Refusal::Length(counts.len() as u64),
     )
 }
 
 // The sum of at most 8 counts, and then that there are as many parts.
-fn sums(xs: &[f64], counts: &[u32], parts: &[u32]) -> Refusal
+#[tactic(auto, using(crate::proofs::Tests::refused), unfolding(crate::specs::Rows::of_rings))]
+fn sums(xs: &[f64], counts: &[u32], parts: &[u32]) -> Result<(), Refusal>
     requires { length counts.now ≤ rings_most }
-    ensures { result ≡ first (wrong_sum xs.now counts.now) (wrong_parts counts.now parts.now) }
+    ensures { tested result ≡ first (wrong_sum xs.now counts.now) (wrong_parts counts.now parts.now) }
 {
-    let number = unless(
+    sum(xs, counts)?;
+    unless(
         parts.len() == counts.len(),
-        REFUSED_LENGTH,
-        counts.len() as u64,
-    );
-    first(sum(xs, counts), number)
+        Refusal::Length(counts.len() as u64),
+    )
 }
 
 // The rings that the coordinates and the vertex counts are, and their parts. Coordinates are read only where the lengths are right.
-pub fn lent(xs: &[f64], counts: &[u32], parts: &[u32]) -> Refusal
-    ensures { result ≡ of_rings xs.now counts.now parts.now }
+#[tactic(auto, using(crate::proofs::Tests::refused), unfolding(crate::specs::Rows::of_rings))]
+pub fn lent(xs: &[f64], counts: &[u32], parts: &[u32]) -> Result<(), Refusal>
+    ensures { tested result ≡ of_rings xs.now counts.now parts.now }
 {
-    let rings = lists::rings(counts);
-    if !rings.passed() {
-        return rings;
-    }
-    let each = lists::counts(counts);
-    let sums = sums(xs, counts, parts);
-    let lists = first(each, sums);
-    if lists.passed() { numbers(xs) } else { lists }
+    lists::rings(counts)?;
+    lists::counts(counts)?;
+    sums(xs, counts, parts)?;
+    numbers(xs)
 }

@@ -20,11 +20,8 @@ pub fn is_coordinate(x: f64) -> bool
 pub fn are_coordinates(list: &[f64]) -> bool
     ensures { result ≡ coordinates list.now }
 {
-    let mut i = 0;
-    while i < list.len() {
-        if is_coordinate(list[i]) {
-            i += 1;
-        } else {
+    for &x in list {
+        if !is_coordinate(x) {
             return false;
         }
     }
@@ -42,11 +39,8 @@ pub fn is_finite(x: f64) -> bool
 pub fn are_finite(list: &[f64]) -> bool
     ensures { result ≡ all_finite list.now }
 {
-    let mut i = 0;
-    while i < list.len() {
-        if is_finite(list[i]) {
-            i += 1;
-        } else {
+    for &x in list {
+        if !is_finite(x) {
             return false;
         }
     }

@@ -1,19 +1,20 @@
-// What the replay programs share: words of a list of the oracle's answers, and the report.
+// What the replay programs share: the words of a record of the oracle's answers, and the loop over all records.
 #![tactic(auto)]
 
-ghost use Rattle.std.specs.Prelude.{◌≤◌, ◌<◌, length};
-ghost use Rattle.replay.specs.Tally.{Counted};
+ghost use Rattle.std.specs.Prelude.{◌≡◌, ◌≤◌, ◌↔◌, IsTrue};
+ghost use Rattle.std.specs.Float.{binary64};
+ghost use Rattle.std.specs.Float.Ieee.{to_bits};
 
 use number_bytes::{bits_of, float_of, number8};
 use std::io;
 use std::io::Read;
 
+// How many records are read at most.
+const MOST_RECORDS: u64 = 1_000_000;
+
 // The little-endian word at a byte of a list, 0 where the list ends before its end.
 pub fn word(bytes: &[u8], at: usize) -> u64 {
-    if bytes.len() < 8 {
-        return 0;
-    }
-    if bytes.len() - 8 < at {
+    if bytes.len() < 8 || bytes.len() - 8 < at {
         return 0;
     }
     number8(bytes, at)
@@ -27,213 +28,114 @@ pub fn list_length(header: &[u8], at: usize, most: usize) -> usize
     if n <= most as u64 { n as usize } else { most }
 }
 
-// Reads until the room is full, the input ends or a read fails, and answers how many bytes stand at the front of the room then.
-pub fn read_full<R: Read>(input: &mut R, room: &mut [u8]) -> usize
-    ensures { result ≤ length room.new }
-{
-    let mut done = 0;
-    while done < room.len() {
-        match input.read(&mut room[done..]) {
-            Ok(0) => break,
-            Ok(n) => done += n,
-            Err(_) => break,
+// What a word of a record stands for.
+pub trait Item: Copy {
+    // When two items are the same, bit for bit.
+    ghost Same: { Self → Self → Type 0 };
+
+    // The item that a word stands for.
+    fn from_word(word: u64) -> Self;
+
+    // Whether two items are the same, bit for bit.
+    fn is_same(self, other: Self) -> bool
+        ensures { IsTrue result ↔ Same self other };
+}
+
+impl Item for f64 {
+    ghost Same = { λ x y. to_bits binary64 x ≡ to_bits binary64 y };
+
+    fn from_word(word: u64) -> f64 {
+        float_of(word)
+    }
+
+    fn is_same(self, other: f64) -> bool {
+        bits_of(self) == bits_of(other)
+    }
+}
+
+impl Item for u64 {
+    ghost Same = { λ x y. x ≡ y };
+
+    fn from_word(word: u64) -> u64 {
+        word
+    }
+
+    fn is_same(self, other: u64) -> bool {
+        self == other
+    }
+}
+
+// A count is the low half of a word.
+impl Item for u32 {
+    ghost Same = { λ x y. x ≡ y };
+
+    fn from_word(word: u64) -> u32 {
+        (word & 0xffff_ffff) as u32
+    }
+
+    fn is_same(self, other: u32) -> bool {
+        self == other
+    }
+}
+
+// An integer is the low half of a word, in two's complement.
+impl Item for i32 {
+    ghost Same = { λ x y. x ≡ y };
+
+    fn from_word(word: u64) -> i32 {
+        u32::from_word(word).cast_signed()
+    }
+
+    fn is_same(self, other: i32) -> bool {
+        self == other
+    }
+}
+
+// Reads a word for each item of the list, as far as the input goes. The items past its end stay.
+pub fn load<T: Item, R: Read>(input: &mut R, list: &mut [T]) {
+    for item in list.iter_mut() {
+        let mut bytes = [0u8; 8];
+        let end = input.read_exact(&mut bytes).is_err();
+        *item = T::from_word(word(&bytes, 0));
+        if end {
+            return;
         }
     }
-    done
 }
 
-// Reads the next n bytes of the input to the front of the room, as far as there are so many.
-pub fn read<R: Read>(input: &mut R, room: &mut [u8], n: usize)
-    requires { n ≤ length room.old }
+// Reads the bytes of the list, as far as the input goes.
+pub fn load_bytes<R: Read>(input: &mut R, list: &mut [u8]) {
+    let _ = input.read_exact(list);
+}
+
+// Whether two lists of one length are the same, bit for bit.
+pub fn is_same<T: Item>(a: &[T], b: &[T]) -> bool {
+    a.len() == b.len() && a.iter().zip(b).all(|(&x, &y)| x.is_same(y))
+}
+
+// Reads records until the input ends, each a header and what `agrees` reads after it. Names the first that does not agree, and tells how many
+// were read and how many agreed.
+pub fn run<const N: usize, R: Read, F: FnMut(&mut R, &[u8]) -> bool>(
+    rt: &impl Print,
+    input: &mut R,
+    mut agrees: F,
+) -> io::Result<()>
+    requires callable { F.IsAlwaysCallable agrees }
+    requires header_bound { N ≤ 1024 }
 {
-    read_full(input, &mut room[..n]);
-}
-
-// The floats of the words from a byte on, at the front of the room.
-pub fn load(bytes: &[u8], n: usize, room: &mut [f64])
-    requires { n ≤ length room.old }
-{
-    let mut i = 0;
-    while i < n {
-        room[i] = float_of(word(bytes, 8 * i));
-        i += 1;
-    }
-}
-
-// The n words themselves, at the front of the room.
-pub fn load_words(bytes: &[u8], n: usize, room: &mut [u64])
-    requires { n ≤ length room.old }
-{
-    let mut i = 0;
-    while i < n {
-        room[i] = word(bytes, 8 * i);
-        i += 1;
-    }
-}
-
-// The low half of each of n words, at the front of the room.
-pub fn load_counts(bytes: &[u8], n: usize, room: &mut [u32])
-    requires { n ≤ length room.old }
-{
-    let mut i = 0;
-    while i < n {
-        room[i] = (word(bytes, 8 * i) % 4294967296) as u32;
-        i += 1;
-    }
-}
-
-// The integer that the low half of a word is, in two's complement.
-pub fn integer(word: u64) -> i32 {
-    let half = word % 4294967296;
-    if half < 2147483648 {
-        return half as i32;
-    }
-    -1 - ((4294967295 - half) as i32)
-}
-
-// The integers of n words, at the front of the room.
-pub fn load_integers(bytes: &[u8], n: usize, room: &mut [i32])
-    requires { n ≤ length room.old }
-{
-    let mut i = 0;
-    while i < n {
-        room[i] = integer(word(bytes, 8 * i));
-        i += 1;
-    }
-}
-
-// Whether the first n floats of two lists are the same, bit for bit.
-pub fn same_floats(a: &[f64], b: &[f64], n: usize) -> bool
-    requires { (n ≤ length a.now) × (n ≤ length b.now) }
-{
-    let mut i = 0;
-    while i < n {
-        if bits_of(a[i]) != bits_of(b[i]) {
-            return false;
+    let mut seen: u64 = 0;
+    let mut agreed: u64 = 0;
+    for _ in 0..MOST_RECORDS {
+        let mut header = [0u8; N];
+        if input.read_exact(&mut header).is_err() {
+            break;
         }
-        i += 1;
-    }
-    true
-}
-
-// Whether the first n counts of two lists are the same.
-pub fn same_counts(a: &[u32], b: &[u32], n: usize) -> bool
-    requires { (n ≤ length a.now) × (n ≤ length b.now) }
-{
-    let mut i = 0;
-    while i < n {
-        if a[i] != b[i] {
-            return false;
+        if agrees(input, &header) {
+            agreed += 1;
+        } else if seen == agreed {
+            println!(rt; "first that differs: record {seen}")?;
         }
-        i += 1;
+        seen += 1;
     }
-    true
-}
-
-// Whether the first n integers of two lists are the same.
-pub fn same_integers(a: &[i32], b: &[i32], n: usize) -> bool
-    requires { (n ≤ length a.now) × (n ≤ length b.now) }
-{
-    let mut i = 0;
-    while i < n {
-        if a[i] != b[i] {
-            return false;
-        }
-        i += 1;
-    }
-    true
-}
-
-// Whether the first n words of two lists are the same.
-pub fn same_words(a: &[u64], b: &[u64], n: usize) -> bool
-    requires { (n ≤ length a.now) × (n ≤ length b.now) }
-{
-    let mut i = 0;
-    while i < n {
-        if a[i] != b[i] {
-            return false;
-        }
-        i += 1;
-    }
-    true
-}
-
-// Whether the first n bytes of two lists are the same.
-pub fn same_bytes(a: &[u8], b: &[u8], n: usize) -> bool
-    requires { (n ≤ length a.now) × (n ≤ length b.now) }
-{
-    let mut i = 0;
-    while i < n {
-        if a[i] != b[i] {
-            return false;
-        }
-        i += 1;
-    }
-    true
-}
-
-// What reading a record came to.
-#[derive(Clone, Copy)]
-pub enum Verdict {
-    End,
-    Agrees,
-    Differs,
-}
-
-// How many records were seen and how many of them agreed, and how many more are read at most.
-#[derive(Clone, Copy)]
-pub struct Tally {
-    pub seen: u64,
-    pub agreed: u64,
-    pub left: u64,
-}
-
-// Nothing seen.
-pub fn begin() -> Tally
-    ensures { Counted result }
-{
-    Tally {
-        seen: 0,
-        agreed: 0,
-        left: 1000000,
-    }
-}
-
-// Names the first record that differs.
-pub fn name_first(rt: &impl Print, t: Tally, verdict: Verdict) -> io::Result<()> {
-    match verdict {
-        Verdict::Differs if t.seen == t.agreed => {
-            println!(rt; "first that differs: record {}", t.seen)
-        }
-        _ => Ok(()),
-    }
-}
-
-// The tally after one more record. At the end of the input none is left.
-pub fn after(t: Tally, verdict: Verdict) -> Tally
-    requires { Counted t × (0 < t.left) }
-    ensures { Counted result × (result.left < t.left) }
-{
-    match verdict {
-        Verdict::End => Tally {
-            seen: t.seen,
-            agreed: t.agreed,
-            left: 0,
-        },
-        Verdict::Agrees => Tally {
-            seen: t.seen + 1,
-            agreed: t.agreed + 1,
-            left: t.left - 1,
-        },
-        Verdict::Differs => Tally {
-            seen: t.seen + 1,
-            agreed: t.agreed,
-            left: t.left - 1,
-        },
-    }
-}
-
-// The last line: how many records were read and how many agreed.
-pub fn report(rt: &impl Print, t: Tally) -> io::Result<()> {
-    println!(rt; "{} of {} agree", t.agreed, t.seen)
+    println!(rt; "{agreed} of {seen} agree")
 }

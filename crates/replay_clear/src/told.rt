@@ -1,12 +1,10 @@
 // What a call on whole moves answers, as words: the refusal's number or 0, the ground, the leg and the edge, 0 where there is none, and the
 // place that the refusal tells or 0.
-use clear_calls::answer::Judged;
 use clear_path::PathGround;
-use clear_path::answer::PathJudged;
 use reason_check::Ground;
 use refusals::Refusal;
 
-#[derive(Clone, Copy)]
+#[derive(Clone, Copy, Debug, PartialEq, Eq)]
 pub struct Told {
     pub number: u64,
     pub ground: u64,
@@ -28,34 +26,30 @@ fn found(ground: u64, leg: usize, edge: usize) -> Told {
 
 fn refused(no: Refusal) -> Told {
     Told {
-        number: no.number as u64,
+        number: no.number() as u64,
         ground: 0,
         leg: 0,
         edge: 0,
-        place: no.place,
+        place: no.place().unwrap_or(0),
     }
 }
 
 // What is told of a move, or of a reason.
-pub fn judged(answer: Judged) -> Told {
+pub fn judged(answer: Result<Ground, Refusal>) -> Told {
     match answer {
-        Judged::Is(ground) => match ground {
-            Ground::Clear => found(0, 0, 0),
-            Ground::Edge(edge) => found(1, 0, edge),
-            Ground::Enclosed => found(2, 0, 0),
-        },
-        Judged::Refused(no) => refused(no),
+        Ok(Ground::Clear) => found(0, 0, 0),
+        Ok(Ground::Edge(edge)) => found(1, 0, edge),
+        Ok(Ground::Enclosed) => found(2, 0, 0),
+        Err(no) => refused(no),
     }
 }
 
 // What is told of a path.
-pub fn gone(answer: PathJudged) -> Told {
+pub fn gone(answer: Result<PathGround, Refusal>) -> Told {
     match answer {
-        PathJudged::Is(ground) => match ground {
-            PathGround::Clear => found(0, 0, 0),
-            PathGround::Edge { leg, edge } => found(1, leg, edge),
-            PathGround::Enclosed(leg) => found(2, leg, 0),
-        },
-        PathJudged::Refused(no) => refused(no),
+        Ok(PathGround::Clear) => found(0, 0, 0),
+        Ok(PathGround::Edge { leg, edge }) => found(1, leg, edge),
+        Ok(PathGround::Enclosed(leg)) => found(2, leg, 0),
+        Err(no) => refused(no),
     }
 }

@@ -1,12 +1,10 @@
 // What a call on a drawing answers, as words: the refusal's number or 0, the ground, the depth, how, the leg and the edge, 0 where there is
 // none, and the place that the refusal tells or 0.
 use clear_aside::{Found, depth_of};
-use clear_drawn::answer::Judged;
 use clear_drawn_path::PathFound;
-use clear_drawn_path::answer::PathJudged;
 use refusals::Refusal;
 
-#[derive(Clone, Copy)]
+#[derive(Clone, Copy, Debug, PartialEq, Eq)]
 pub struct Told {
     pub number: u64,
     pub ground: u64,
@@ -45,48 +43,42 @@ fn stopped(ground: u64, leg: usize, edge: usize) -> Told {
 
 fn refused(no: Refusal) -> Told {
     Told {
-        number: no.number as u64,
+        number: no.number() as u64,
         ground: 0,
         depth: 0,
         how: 0,
         leg: 0,
         edge: 0,
-        place: no.place,
+        place: no.place().unwrap_or(0),
     }
 }
 
 // What is told of a move.
-pub fn judged(answer: Judged) -> Told {
+pub fn judged(answer: Result<Found, Refusal>) -> Told {
     match answer {
-        Judged::Is(found) => match found {
-            Found::Clear(how) => parted(0, depth_of(how), how),
-            Found::Edge(edge) => stopped(1, 0, edge),
-            Found::Enclosed(how) => parted(2, depth_of(how), how),
-        },
-        Judged::Refused(no) => refused(no),
+        Ok(Found::Clear(how)) => parted(0, depth_of(how), how),
+        Ok(Found::Edge(edge)) => stopped(1, 0, edge),
+        Ok(Found::Enclosed(how)) => parted(2, depth_of(how), how),
+        Err(no) => refused(no),
     }
 }
 
 // What is told of a reason: how is lent, not told.
-pub fn checked(answer: Judged) -> Told {
+pub fn checked(answer: Result<Found, Refusal>) -> Told {
     match answer {
-        Judged::Is(found) => match found {
-            Found::Clear(how) => parted(0, depth_of(how), 0),
-            Found::Edge(edge) => stopped(1, 0, edge),
-            Found::Enclosed(how) => parted(2, depth_of(how), 0),
-        },
-        Judged::Refused(no) => refused(no),
+        Ok(Found::Clear(how)) => parted(0, depth_of(how), 0),
+        Ok(Found::Edge(edge)) => stopped(1, 0, edge),
+        Ok(Found::Enclosed(how)) => parted(2, depth_of(how), 0),
+        Err(no) => refused(no),
     }
 }
 
 // What is told of a path.
-pub fn gone(answer: PathJudged) -> Told {
+pub fn gone(answer: Result<PathFound, Refusal>) -> Told {
     match answer {
-        PathJudged::Is(found) => match found {
-            PathFound::Clear(depth) => parted(0, depth, 0),
-            PathFound::Edge { leg, edge } => stopped(1, leg, edge),
-            PathFound::Enclosed(leg) => stopped(2, leg, 0),
-        },
-        PathJudged::Refused(no) => refused(no),
+        Ok(PathFound::Clear(depth)) => parted(0, depth, 0),
+        Ok(PathFound::Edge { leg, edge }) => stopped(1, leg, edge),
+        Ok(PathFound::Enclosed(leg)) => stopped(2, leg, 0),
+        Err(no) => refused(no),
     }
 }

@@ -4,14 +4,11 @@
 
 mod told;
 
-ghost use Rattle.std.specs.Prelude.{◌≡◌, ◌≤◌, length};
+ghost use Rattle.std.specs.Prelude.{◌≤◌};
 
 use mending::calls::mend_ring;
 use plane::Point;
-use replay::{
-    Verdict, after, begin, list_length, load, load_words, name_first, read, read_full, report,
-    same_floats, same_words, word,
-};
+use replay::{is_same, list_length, load, load_bytes, word};
 use std::io;
 use std::io::{BufReader, Read};
 use told::Told;
@@ -46,84 +43,40 @@ fn on_rings(call: u64, a: &[f64], b: &[f64], room: &mut [f64]) -> Told {
     }
 }
 
-// The same on the first numbers of each list.
-fn on_parts(
-    call: u64,
-    a: &[f64],
-    an: usize,
-    b: &[f64],
-    bn: usize,
-    room: &mut [f64],
-    rn: usize,
-) -> Told
-    requires { (an ≤ length a.now) × (bn ≤ length b.now) × (rn ≤ length room.old) }
-{
-    on_rings(call, &a[..an], &b[..bn], &mut room[..rn])
-}
-
 // Whether a call is one on rings.
 fn takes_rings(call: u64) -> bool {
-    match call {
-        4..=9 => true,
-        _ => false,
+    4 <= call && call <= 9
+}
+
+// What a record says is told.
+fn told_in(header: &[u8]) -> Told {
+    Told {
+        number: word(header, 32),
+        value: word(header, 40),
+        place: word(header, 48),
     }
 }
 
-// n words of the list, as floats.
-fn floats<R: Read>(input: &mut R, n: usize) -> [f64; 600]
-    requires { n ≤ 600 }
-    ensures { 600 ≡ length result }
-{
-    let mut bytes = [0u8; 4800];
-    let mut list = [0.0; 600];
-    read(input, &mut bytes, 8 * n);
-    load(&bytes, n, &mut list);
-    list
-}
-
-// Whether what was told and what the room holds are what the record says.
-fn agrees(told: Told, header: &[u8; 56], room: &[f64; 600], left: &[f64; 600], n: usize) -> bool
-    requires { n ≤ 600 }
-{
-    if told.number != word(header, 32) {
-        return false;
-    }
-    if told.value != word(header, 40) {
-        return false;
-    }
-    if told.place != word(header, 48) {
-        return false;
-    }
-    same_floats(room, left, n)
-}
-
-// One record past its header: the lists are read, the call is made and compared.
-fn record<R: Read>(input: &mut R, header: &[u8; 56], an: usize, bn: usize, rn: usize) -> bool
-    requires { (an ≤ 600) × (bn ≤ 600) × (rn ≤ 600) }
-{
+// Whether a record of any call but mending says what its call tells and leaves: two lists follow its header, and the room at entry and at exit.
+fn call_agrees<R: Read>(input: &mut R, header: &[u8]) -> bool {
     let call = word(header, 0);
-    let a = floats(input, an);
-    let b = floats(input, bn);
-    let mut room = floats(input, rn);
-    let left = floats(input, rn);
-    if takes_rings(call) {
-        let told = on_parts(call, &a, an, &b, bn, &mut room, rn);
-        agrees(told, header, &room, &left, rn)
+    let an = list_length(header, 8, 600);
+    let bn = list_length(header, 16, 600);
+    let rn = list_length(header, 24, 600);
+    let mut a = [0.0; 600];
+    let mut b = [0.0; 600];
+    let mut room = [0.0; 600];
+    let mut left = [0.0; 600];
+    load(input, &mut a[..an]);
+    load(input, &mut b[..bn]);
+    load(input, &mut room[..rn]);
+    load(input, &mut left[..rn]);
+    let told = if takes_rings(call) {
+        on_rings(call, &a[..an], &b[..bn], &mut room[..rn])
     } else {
-        agrees(on_points(call, &a), header, &room, &left, rn)
-    }
-}
-
-// n words of the list.
-fn words<R: Read>(input: &mut R, n: usize) -> [u64; 600]
-    requires { n ≤ 600 }
-    ensures { 600 ≡ length result }
-{
-    let mut bytes = [0u8; 4800];
-    let mut list = [0u64; 600];
-    read(input, &mut bytes, 8 * n);
-    load_words(&bytes, n, &mut list);
-    list
+        on_points(call, &a)
+    };
+    told == told_in(header) && is_same(&room[..rn], &left[..rn])
 }
 
 // The length of a room of words, which stands before it.
@@ -131,89 +84,53 @@ fn words_length<R: Read>(input: &mut R) -> usize
     ensures { result ≤ 600 }
 {
     let mut bytes = [0u8; 8];
-    read(input, &mut bytes, 8);
+    load_bytes(input, &mut bytes);
     list_length(&bytes, 0, 600)
 }
 
-// What mending answers on the first numbers of each list.
-fn mend(
-    ring: &[f64],
-    n: usize,
-    room: &mut [f64],
-    rn: usize,
-    dropped: &mut [u64],
-    dn: usize,
-    points: &mut [f64],
-    pn: usize,
-) -> Told
-    requires { (n ≤ length ring.now) × (rn ≤ length room.old) × (dn ≤ length dropped.old) × (pn ≤ length points.old) }
-{
-    told::mended(mend_ring(
+// Whether a record of mending says what it tells and leaves: its second list is the room of points, whose numbers at exit follow those of the
+// ring's room, and then comes the room of indices and whys, its length before it.
+fn mending_agrees<R: Read>(input: &mut R, header: &[u8]) -> bool {
+    let n = list_length(header, 8, 600);
+    let pn = list_length(header, 16, 600);
+    let rn = list_length(header, 24, 600);
+    let mut ring = [0.0; 600];
+    let mut points = [0.0; 600];
+    let mut room = [0.0; 600];
+    let mut left = [0.0; 600];
+    let mut points_left = [0.0; 600];
+    load(input, &mut ring[..n]);
+    load(input, &mut points[..pn]);
+    load(input, &mut room[..rn]);
+    load(input, &mut left[..rn]);
+    load(input, &mut points_left[..pn]);
+    let dn = words_length(input);
+    let mut dropped = [0u64; 600];
+    let mut dropped_left = [0u64; 600];
+    load(input, &mut dropped[..dn]);
+    load(input, &mut dropped_left[..dn]);
+    let told = told::mended(mend_ring(
         &ring[..n],
         &mut room[..rn],
         &mut dropped[..dn],
         &mut points[..pn],
-    ))
+    ));
+    told == told_in(header)
+        && is_same(&dropped[..dn], &dropped_left[..dn])
+        && is_same(&points[..pn], &points_left[..pn])
+        && is_same(&room[..rn], &left[..rn])
 }
 
-// One record of mending past its header: the second list is the room of points, whose numbers at exit follow those of the ring's room, and then the room of
-// indices and whys, its length before it.
-fn mend_record<R: Read>(input: &mut R, header: &[u8; 56], n: usize, pn: usize, rn: usize) -> bool
-    requires { (n ≤ 600) × (pn ≤ 600) × (rn ≤ 600) }
-{
-    let ring = floats(input, n);
-    let mut points = floats(input, pn);
-    let mut room = floats(input, rn);
-    let left = floats(input, rn);
-    let points_left = floats(input, pn);
-    let dn = words_length(input);
-    let mut dropped = words(input, dn);
-    let dropped_left = words(input, dn);
-    let told = mend(&ring, n, &mut room, rn, &mut dropped, dn, &mut points, pn);
-    if !same_words(&dropped, &dropped_left, dn) {
-        return false;
-    }
-    if !same_floats(&points, &points_left, pn) {
-        return false;
-    }
-    agrees(told, header, &room, &left, rn)
-}
-
-// One record past its header, of mending or of another call.
-fn any_record<R: Read>(input: &mut R, header: &[u8; 56], an: usize, bn: usize, rn: usize) -> bool
-    requires { (an ≤ 600) × (bn ≤ 600) × (rn ≤ 600) }
-{
+// Whether a record, of mending or of another call, says what its call tells and leaves.
+fn agrees<R: Read>(input: &mut R, header: &[u8]) -> bool {
     if word(header, 0) == 14 {
-        mend_record(input, header, an, bn, rn)
+        mending_agrees(input, header)
     } else {
-        record(input, header, an, bn, rn)
-    }
-}
-
-// One record: read, worked out and compared.
-fn step<R: Read>(input: &mut R) -> Verdict {
-    let mut header = [0u8; 56];
-    let got = read_full(input, &mut header);
-    if got < 56 {
-        return Verdict::End;
-    }
-    let an = list_length(&header, 8, 600);
-    let bn = list_length(&header, 16, 600);
-    let rn = list_length(&header, 24, 600);
-    if any_record(input, &header, an, bn, rn) {
-        Verdict::Agrees
-    } else {
-        Verdict::Differs
+        call_agrees(input, header)
     }
 }
 
 fn main(rt: HostRuntime) -> io::Result<()> {
     let mut input = BufReader::new(rt.alloc(), rt.reader())?;
-    let mut tally = begin();
-    while 0 < tally.left {
-        let verdict = step(&mut input);
-        name_first(&rt, tally, verdict)?;
-        tally = after(tally, verdict);
-    }
-    report(&rt, tally)
+    replay::run::<56, _, _>(&rt, &mut input, agrees)
 }

@@ -2,7 +2,7 @@
 #![tactic(auto)]
 
 use number_bytes::{bits_of, float_of};
-use replay::{Verdict, after, begin, name_first, read_full, report, word};
+use replay::word;
 use std::io;
 use std::io::{BufReader, Read};
 
@@ -17,8 +17,8 @@ fn answer(op: u64, x: f64, y: f64, z: f64) -> f64 {
     }
 }
 
-// Whether a record's answer is the library's.
-fn agrees(record: &[u8; 40]) -> bool {
+// Whether a record's answer is the library's. Nothing follows a record.
+fn agrees<R: Read>(_input: &mut R, record: &[u8]) -> bool {
     let op = word(record, 0);
     let x = float_of(word(record, 8));
     let y = float_of(word(record, 16));
@@ -26,27 +26,7 @@ fn agrees(record: &[u8; 40]) -> bool {
     bits_of(answer(op, x, y, z)) == bits_of(float_of(word(record, 32)))
 }
 
-// One record: read, worked out and compared.
-fn step<R: Read>(input: &mut R) -> Verdict {
-    let mut record = [0u8; 40];
-    let got = read_full(input, &mut record);
-    if got < 40 {
-        return Verdict::End;
-    }
-    if agrees(&record) {
-        Verdict::Agrees
-    } else {
-        Verdict::Differs
-    }
-}
-
 fn main(rt: HostRuntime) -> io::Result<()> {
     let mut input = BufReader::new(rt.alloc(), rt.reader())?;
-    let mut tally = begin();
-    while 0 < tally.left {
-        let verdict = step(&mut input);
-        name_first(&rt, tally, verdict)?;
-        tally = after(tally, verdict);
-    }
-    report(&rt, tally)
+    replay::run::<40, _, _>(&rt, &mut input, agrees)
 }

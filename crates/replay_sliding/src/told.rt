@@ -1,16 +1,12 @@
 // What a call of the sliding answers, as words: the refusal's number or 0, up to nine values, 0 where there is none, and the place that the
 // refusal tells or 0.
-use collision::Collision;
-use collision::answer::Checked;
+use collision::Hit;
 use grounds::Explanation;
-use grounds::answer::Explained;
 use number_bytes::bits_of;
+use plane::Point;
 use refusals::Refusal;
-use refusals::answer::{Count, Found, Position, Truth};
-use selection::answer::Selected;
-use start_position::answer::Start;
 
-#[derive(Clone, Copy)]
+#[derive(Clone, Copy, Debug, PartialEq, Eq)]
 pub struct Told {
     pub number: u64,
     pub a: u64,
@@ -43,7 +39,7 @@ fn values(a: u64, b: u64, c: u64, d: u64, e: u64) -> Told {
 
 fn refused(r: Refusal) -> Told {
     Told {
-        number: r.number as u64,
+        number: r.number() as u64,
         a: 0,
         b: 0,
         c: 0,
@@ -53,66 +49,49 @@ fn refused(r: Refusal) -> Told {
         g: 0,
         h: 0,
         i: 0,
-        place: r.place,
+        place: r.place().unwrap_or(0),
     }
 }
 
-pub fn truth(t: Truth) -> Told {
-    match t {
-        Truth::Is(b) => {
-            if b {
-                values(1, 0, 0, 0, 0)
-            } else {
-                values(0, 0, 0, 0, 0)
-            }
-        }
-        Truth::Refused(r) => refused(r),
+pub fn truth(answer: Result<bool, Refusal>) -> Told {
+    match answer {
+        Ok(b) => values(b as u64, 0, 0, 0, 0),
+        Err(r) => refused(r),
     }
 }
 
-pub fn count(c: Count) -> Told {
-    match c {
-        Count::Is(n) => values(n as u64, 0, 0, 0, 0),
-        Count::Refused(r) => refused(r),
+pub fn count(answer: Result<usize, Refusal>) -> Told {
+    match answer {
+        Ok(n) => values(n as u64, 0, 0, 0, 0),
+        Err(r) => refused(r),
     }
 }
 
-fn found(f: Found) -> Told {
-    match f {
-        Found::Nothing => values(0, 0, 0, 0, 0),
-        Found::At(p) => values(1, bits_of(p.x), bits_of(p.y), 0, 0),
+pub fn position(answer: Result<Option<Point>, Refusal>) -> Told {
+    match answer {
+        Ok(None) => values(0, 0, 0, 0, 0),
+        Ok(Some(p)) => values(1, bits_of(p.x), bits_of(p.y), 0, 0),
+        Err(r) => refused(r),
     }
 }
 
-pub fn position(p: Position) -> Told {
-    match p {
-        Position::Is(f) => found(f),
-        Position::Refused(r) => refused(r),
-    }
-}
-
-fn collision(c: Collision) -> Told {
-    match c {
-        Collision::Nothing => values(0, 0, 0, 0, 0),
-        Collision::Hit {
-            distance,
-            kind,
-            stationary,
-            orbiting,
-        } => values(
+fn collision(found: Option<Hit>) -> Told {
+    match found {
+        None => values(0, 0, 0, 0, 0),
+        Some(hit) => values(
             1,
-            bits_of(distance),
-            kind as u64,
-            stationary as u64,
-            orbiting as u64,
+            bits_of(hit.distance),
+            hit.kind as u64,
+            hit.stationary as u64,
+            hit.orbiting as u64,
         ),
     }
 }
 
-pub fn checked(c: Checked) -> Told {
-    match c {
-        Checked::Is(x) => collision(x),
-        Checked::Refused(r) => refused(r),
+pub fn checked(answer: Result<Option<Hit>, Refusal>) -> Told {
+    match answer {
+        Ok(found) => collision(found),
+        Err(r) => refused(r),
     }
 }
 
@@ -136,24 +115,24 @@ fn explanation(x: Explanation) -> Told {
     }
 }
 
-pub fn explained(e: Explained) -> Told {
-    match e {
-        Explained::Is(x) => explanation(x),
-        Explained::Refused(r) => refused(r),
+pub fn explained(answer: Result<Explanation, Refusal>) -> Told {
+    match answer {
+        Ok(x) => explanation(x),
+        Err(r) => refused(r),
     }
 }
 
-pub fn selected(s: Selected) -> Told {
-    match s {
-        Selected::Nothing => values(0, 0, 0, 0, 0),
-        Selected::Index(i) => values(1, i as u64, 0, 0, 0),
-        Selected::Refused(r) => refused(r),
+pub fn selected(answer: Result<Option<usize>, Refusal>) -> Told {
+    match answer {
+        Ok(None) => values(0, 0, 0, 0, 0),
+        Ok(Some(i)) => values(1, i as u64, 0, 0, 0),
+        Err(r) => refused(r),
     }
 }
 
-pub fn started(s: Start) -> Told {
-    match s {
-        Start::Is(p) => values(bits_of(p.x), bits_of(p.y), 0, 0, 0),
-        Start::Refused(r) => refused(r),
+pub fn started(answer: Result<Point, Refusal>) -> Told {
+    match answer {
+        Ok(p) => values(bits_of(p.x), bits_of(p.y), 0, 0, 0),
+        Err(r) => refused(r),
     }
 }

@@ -5,11 +5,7 @@
 mod told;
 mod words;
 
-ghost use Rattle.std.specs.Prelude.{◌≡◌, ◌≤◌, length};
-
-use replay::{
-    Verdict, after, begin, list_length, load_integers, name_first, read, read_full, report, word,
-};
+use replay::{list_length, load, word};
 use std::io;
 use std::io::{BufReader, Read};
 use told::Told;
@@ -34,71 +30,30 @@ fn on_ring(call: u64, ring: &[i32]) -> Told {
     }
 }
 
-// The same on the first n numbers of a list.
-fn on_part(call: u64, list: &[i32], n: usize) -> Told
-    requires { n ≤ length list.now }
-{
-    on_ring(call, &list[..n])
-}
-
-// n words of the list, as integers.
-fn integers<R: Read>(input: &mut R, n: usize) -> [i32; 600]
-    requires { n ≤ 600 }
-    ensures { 600 ≡ length result }
-{
-    let mut bytes = [0u8; 4800];
-    let mut list = [0i32; 600];
-    read(input, &mut bytes, 8 * n);
-    load_integers(&bytes, n, &mut list);
-    list
-}
-
-// Whether what was told is what the record says.
-fn agrees(told: Told, header: &[u8; 40]) -> bool {
-    if told.number != word(header, 16) {
-        return false;
+// What a record says is told.
+fn told_in(header: &[u8]) -> Told {
+    Told {
+        number: word(header, 16),
+        value: word(header, 24),
+        place: word(header, 32),
     }
-    if told.value != word(header, 24) {
-        return false;
-    }
-    told.place == word(header, 32)
 }
 
-// One record past its header: the list is read, the call is made and compared.
-fn record<R: Read>(input: &mut R, header: &[u8; 40], n: usize) -> bool
-    requires { n ≤ 600 }
-{
+// Whether a record, whose list follows its header, says what its call tells.
+fn agrees<R: Read>(input: &mut R, header: &[u8]) -> bool {
     let call = word(header, 0);
-    let list = integers(input, n);
-    if call < 4 {
-        agrees(on_points(call, &list), header)
+    let n = list_length(header, 8, 600);
+    let mut list = [0i32; 600];
+    load(input, &mut list[..n]);
+    let told = if call < 4 {
+        on_points(call, &list)
     } else {
-        agrees(on_part(call, &list, n), header)
-    }
-}
-
-// One record: read, worked out and compared.
-fn step<R: Read>(input: &mut R) -> Verdict {
-    let mut header = [0u8; 40];
-    let got = read_full(input, &mut header);
-    if got < 40 {
-        return Verdict::End;
-    }
-    let n = list_length(&header, 8, 600);
-    if record(input, &header, n) {
-        Verdict::Agrees
-    } else {
-        Verdict::Differs
-    }
+        on_ring(call, &list[..n])
+    };
+    told == told_in(header)
 }
 
 fn main(rt: HostRuntime) -> io::Result<()> {
     let mut input = BufReader::new(rt.alloc(), rt.reader())?;
-    let mut tally = begin();
-    while 0 < tally.left {
-        let verdict = step(&mut input);
-        name_first(&rt, tally, verdict)?;
-        tally = after(tally, verdict);
-    }
-    report(&rt, tally)
+    replay::run::<40, _, _>(&rt, &mut input, agrees)
 }

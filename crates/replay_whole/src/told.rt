@@ -2,10 +2,8 @@
 use crate::words::word_of;
 use plane::Orientation;
 use refusals::Refusal;
-use refusals::answer::{Truth, Turn};
-use whole_engine::answer::Whole;
 
-#[derive(Clone, Copy)]
+#[derive(Clone, Copy, Debug, PartialEq, Eq)]
 pub struct Told {
     pub number: u64,
     pub value: u64,
@@ -22,33 +20,31 @@ fn answered(value: u64) -> Told {
 
 fn refused(r: Refusal) -> Told {
     Told {
-        number: r.number as u64,
+        number: r.number() as u64,
         value: 0,
-        place: r.place,
+        place: r.place().unwrap_or(0),
     }
 }
 
-pub fn truth(t: Truth) -> Told {
-    match t {
-        Truth::Is(b) => { if b { answered(1) } else { answered(0) } }
-        Truth::Refused(r) => refused(r),
+pub fn truth(answer: Result<bool, Refusal>) -> Told {
+    match answer {
+        Ok(b) => answered(b as u64),
+        Err(r) => refused(r),
     }
 }
 
-pub fn turn(t: Turn) -> Told {
-    match t {
-        Turn::Is(o) => match o {
-            Orientation::CounterClockwise => answered(1),
-            Orientation::Clockwise => answered(u64::MAX),
-            Orientation::Collinear => answered(0),
-        },
-        Turn::Refused(r) => refused(r),
+pub fn turn(answer: Result<Orientation, Refusal>) -> Told {
+    match answer {
+        Ok(Orientation::CounterClockwise) => answered(1),
+        Ok(Orientation::Clockwise) => answered(u64::MAX),
+        Ok(Orientation::Collinear) => answered(0),
+        Err(r) => refused(r),
     }
 }
 
-pub fn whole(w: Whole) -> Told {
-    match w {
-        Whole::Is(z) => answered(word_of(z)),
-        Whole::Refused(r) => refused(r),
+pub fn whole(answer: Result<i64, Refusal>) -> Told {
+    match answer {
+        Ok(z) => answered(word_of(z)),
+        Err(r) => refused(r),
     }
 }

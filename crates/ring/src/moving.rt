@@ -14,9 +14,7 @@ pub fn move_ring(ring: &[f64], by: Point, room: &mut [f64])
     ensures { room.new ≡ laid (moved_of ring.now by) room.old }
 {
     let n = ring.len() / 2;
-    let mut i = 0;
-    while i < n {
+    for i in 0..n {
         put(room, i, plus(point_at(ring, i), by));
-        i += 1;
     }
 }

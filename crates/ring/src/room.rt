@@ -18,9 +18,5 @@ pub fn copy(list: &[f64], len: usize, room: &mut [f64])
     requires { (len ≤ length list.now) × (len ≤ length room.old) }
     ensures { room.new ≡ laid (take len list.now) room.old }
 {
-    let mut i = 0;
-    while i < len {
-        room[i] = list[i];
-        i += 1;
-    }
+    room[..len].copy_from_slice(&list[..len]);
 }

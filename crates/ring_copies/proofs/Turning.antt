@@ -1,6 +1,6 @@
 -- The loop of `mirror`, over plain lists and numbers: r is the ring, d the room as it came, room as it is. The invariant: the k numbers
 -- at the room's front are what is left of the ring's end, mirrored, and the rest of the room is as it came. Assumes nothing.
-use Prim.Native.Nat.{ℕ, suc, ◌+◌, ◌-◌, ◌%◌, ◌≤◌, ◌<◌}
+use Prim.Native.Nat.{ℕ, suc, ◌+◌, ◌*◌, ◌-◌, ◌%◌, ◌≤◌, ◌<◌}
 use mathlib.Core.Path.{◌≡◌, refl}
 use mathlib.Core.List.{List, [], ◌∷◌, ◌++◌}
 use native.Mathlib.Omega.{arith}
@@ -8,7 +8,9 @@ use native.Mathlib.Numerals.{add-one}
 use lib.ListN.{length, drop, get_or, set, length-set, length-append}
 use lib.Seq.{drop-cons, drop-length}
 use lib.Ieee.{Float, nan, neg}
-use Rattle.ring.specs.Room.{laid}
+use Rattle.plane.specs.declared.Point.{Point}
+use Rattle.ring.specs.Ring.{count, point_at}
+use Rattle.ring.specs.Room.{laid, put_at}
 use Rattle.ring.proofs.Emit.{emit2}
 use Rattle.ring_copies.specs.Copies.{mirrored}
 
@@ -46,6 +48,18 @@ turn {r} {d} {room} {left} {k} fits more t =
       wrote = rw s (simp length-append (omega arith));
       holds = rw (s, t.holds) (emit2 (mirrored (drop left r)) d k _ _ t.wrote (omega arith));
     }
+
+-- the same by vertices: of those left the last is written as vertex i
+pub vertex : {r d room new : List Float} {i : ℕ} {p : Point} → length r ≤ length d → i < count r → Turning r d room (2 * (count r - i)) (2 * i)
+    → p ≡ point_at r (count r - 1 - i) → new ≡ put_at room i (record { x = neg p.x; y = p.y })
+    → Turning r d new (2 * (count r - (i + 1))) (2 * (i + 1))
+unfolding put_at point_at
+vertex {r} {d} {room} {new} {i} fits h t e f =
+    let a : 2 * (count r - i) - 2 ≡ 2 * (count r - 1 - i) = omega arith in
+    let b : 2 * (count r - i) - 2 ≡ 2 * (count r - (i + 1)) = omega arith in
+    let k : 2 * i + 2 ≡ 2 * (i + 1) = omega arith in
+    let z = turn fits (omega arith) t in
+    rw (f, e, ← b, ← k, ← a) z
 
 pub done : {r d room : List Float} {left k : ℕ} → left ≤ 0 → Turning r d room left k → room ≡ laid (mirrored r) d
 done {r} {d} {room} {left} {k} h t =

@@ -1,7 +1,6 @@
 -- Worked examples, by computation: the mirror of a triangle, and closing repeats of three and of four vertices.
 use mathlib.Core.Path.{◌≡◌, refl}
-use mathlib.Core.List.{List, [], ◌∷◌}
-use Prim.Native.Nat.{ℕ}
+use mathlib.Core.List.{[], ◌∷◌}
 use lib.Ieee.{Float, neg, eq, of_bits}
 use Rattle.scalar.specs.Float.{float, f0}
 use Rattle.plane.specs.Vector.{same_of}

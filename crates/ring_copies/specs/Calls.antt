@@ -6,11 +6,11 @@ use Rattle.refusals.specs.Refusals.{first_of}
 use Rattle.refusals.specs.Screens.{wrong_room}
 use Rattle.refusals.specs.Rows.{of_ring}
 use Rattle.refusals.specs.Answers.{Outcome, outcome, left}
-use Rattle.refusals.specs.declared.Refusal.{Refusal}
+use Rattle.refusals.specs.Refusals.{Told}
 use Rattle.ring_copies.specs.Copies.{mirrored, open_count, opened}
 
 -- 1, 2, then 5 where so many points do not fit a room of so many numbers
-unfoldable pub copy_refusal : List Float → ℕ → ℕ → Refusal
+unfoldable pub copy_refusal : List Float → ℕ → ℕ → Told
 copy_refusal r points size = first_of (of_ring r ∷ wrong_room points size ∷ [])
 
 abbrev pub mirror_call : List Float → ℕ → Outcome ℕ

@@ -8,8 +8,10 @@ ghost use Rattle.std.specs.Prelude.{◌≡◌, ◌%◌, ◌≤◌, length};
 ghost use Rattle.ring.specs.Room.{laid};
 ghost use Rattle.ring_copies.specs.Copies.{mirrored, open_count};
 
+use plane::Point;
 use plane::vector::same;
 use ring::point_at;
+use ring::room::put;
 
 // The vertices in reverse order, each x negated, at the front of the room.
 fn mirror(ring: &[f64], room: &mut [f64])
@@ -17,13 +19,10 @@ fn mirror(ring: &[f64], room: &mut [f64])
     requires ring_in_bounds { length ring.now ≤ length room.old }
     ensures { room.new ≡ laid (mirrored ring.now) room.old }
 {
-    let mut left = ring.len();
-    let mut k = 0;
-    while 0 < left {
-        left -= 2;
-        room[k] = -ring[left];
-        room[k + 1] = ring[left + 1];
-        k += 2;
+    let n = ring.len() / 2;
+    for i in 0..n {
+        let p = point_at(ring, n - 1 - i);
+        put(room, i, Point { x: -p.x, y: p.y });
     }
 }
 

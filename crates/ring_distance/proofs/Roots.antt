@@ -1,14 +1,14 @@
 -- The root of the smaller of two squares is the smaller of their roots. Assumes nothing.
-use mathlib.Core.Path.{◌≡◌, refl, sym, ap, ◌∙◌, subst}
+use mathlib.Core.Path.{◌≡◌, refl, sym, ◌∙◌}
 use mathlib.Core.Logic.{inl, inr}
 use mathlib.Core.Bool.{Bool, true, false, ◌&&◌, ◌||◌, cond, or-true, or-false, true≢false}
-use Prim.Native.Nat.{ℕ, zero, suc, ◌+◌, ◌*◌, ◌≤◌, ◌<◌}
+use Prim.Native.Nat.{ℕ, zero, suc, ◌*◌, ◌≤◌}
 use native.Mathlib.Omega.{arith}
 use native.Mathlib.Nat.{zero-lt-suc, eq-or-lt_of_le}
-use lib.IntN.{ℤ, pos}
+use lib.IntN.{pos}
 use lib.Dec.{T, ltb, eqb, lt→ltb}
 use borrow.Author.Tests.{lt-ltb, le-ltb, eq-eqb, ne_eqb, ltb-false}
-use lib.Ieee.{Float, nan, inf, fin, binary64, up, down, lt, eq, le, neg, fits, is_nan, of_bits}
+use lib.Ieee.{Float, nan, inf, fin, binary64, up, down, lt, eq, le, fits, is_nan}
 use lib.Ieee.Bits.{of_bits-fits}
 use lib.Ieee.Positive.{positive, above}
 use Rattle.scalar.specs.Scalar.{smaller_of, or_number, ahead, minus_zero}

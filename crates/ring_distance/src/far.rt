@@ -29,13 +29,11 @@ fn bounds_of(ring: &[f64], from: usize, to: usize) -> Bounds
     let mut a = point_at(ring, from);
     let mut starts = frame_at(a);
     let mut ways = frame_at(Point { x: 0.0, y: 0.0 });
-    let mut e = from;
-    while e < to {
+    for e in from..to {
         let b = point_at(ring, next(e, n));
         starts = with_point(starts, a);
         ways = with_point(ways, minus(b, a));
         a = b;
-        e += 1;
     }
     Bounds { starts, ways }
 }
@@ -122,11 +120,9 @@ fn fill_chains(ring: &[f64], table: &mut [f64])
     ensures { Tabled table.new ring.now (count ring.now) }
 {
     let n = ring.len() / 2;
-    let mut e = 0;
-    while e < n {
-        let to = chain_end(e, n);
-        put_bounds(table, e / 8, bounds_of(ring, e, to));
-        e = to;
+    for c in 0..n.div_ceil(8) {
+        let from = 8 * c;
+        put_bounds(table, c, bounds_of(ring, from, chain_end(from, n)));
     }
 }
 

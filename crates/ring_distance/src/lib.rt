@@ -68,12 +68,10 @@ fn to_ring(p: Point, ring: &[f64], before: f64) -> f64
     let first = point_at(ring, 0);
     let mut least = before;
     let mut a = first;
-    let mut i = 0;
-    while i + 1 < n {
-        let b = point_at(ring, i + 1);
+    for i in 1..n {
+        let b = point_at(ring, i);
         least = to_edge(p, a, b, least);
         a = b;
-        i += 1;
     }
     to_edge(p, a, first, least)
 }
@@ -86,12 +84,10 @@ fn to_edges(p: Point, ring: &[f64], from: usize, to: usize, before: f64) -> f64
     let n = ring.len() / 2;
     let mut least = before;
     let mut a = point_at(ring, from);
-    let mut e = from;
-    while e < to {
+    for e in from..to {
         let b = point_at(ring, next(e, n));
         least = to_edge(p, a, b, least);
         a = b;
-        e += 1;
     }
     least
 }
@@ -127,11 +123,9 @@ fn to_chains(p: Point, ring: &[f64], table: &[f64], before: f64) -> f64
         return before;
     }
     let mut least = before;
-    let mut e = 0;
-    while e < n {
-        let to = chain_end(e, n);
-        least = to_chain(p, ring, table, e / 8, e, to, least);
-        e = to;
+    for c in 0..n.div_ceil(8) {
+        let from = 8 * c;
+        least = to_chain(p, ring, table, c, from, chain_end(from, n), least);
     }
     least
 }
@@ -142,10 +136,8 @@ fn plain_way(points: &[f64], ring: &[f64], before: f64) -> f64
 {
     let n = points.len() / 2;
     let mut least = before;
-    let mut i = 0;
-    while i < n {
+    for i in 0..n {
         least = to_ring(point_at(points, i), ring, least);
-        i += 1;
     }
     least
 }
@@ -157,10 +149,8 @@ fn way_by(points: &[f64], ring: &[f64], table: &[f64], before: f64) -> f64
 {
     let n = points.len() / 2;
     let mut least = before;
-    let mut i = 0;
-    while i < n {
+    for i in 0..n {
         least = to_chains(point_at(points, i), ring, table, least);
-        i += 1;
     }
     least
 }

@@ -8,9 +8,9 @@ use lib.ListN.{length, get_or, take, drop, replicate, length-append, length-repl
 use lib.Seq.{take_at}
 use lib.Ieee.{Float, binary64, of_bits}
 use Rattle.lines.specs.Lines.{refusal_line}
+use Rattle.std.specs.Prelude.{Result, Ok, Err}
+use Rattle.refusals.specs.Answers.{tells}
 use Rattle.refusals.specs.declared.Refusal.{Refusal}
-use Rattle.refusals.specs.declared.answer.Count.{Count}
-use Rattle.refusals.specs.declared.answer.Count.TheVariants.{Is, Refused}
 use Rattle.refusals.specs.Rings.{rings_most, total, sized_all}
 use Rattle.book_layout.specs.Layout.{numbers_most, counts_of, parts_of}
 use Rattle.book_layout.specs.Writer.{Held}
@@ -34,8 +34,8 @@ parts = replicate rings_most 0
 abbrev Printable : List Float → List ℕ → Type 0
 Printable xs ns = (length ns ≤ rings_most) × (sized_all ns ≡ true) × (2 * total ns ≤ length xs)
 
-module _ (f : List ℕ) (bytes : (i : ℕ) → get_or f i 0 < 256) (x : List Float) (n q : List ℕ) (r : Count) (p : Promised f room counts parts r x n q) where
-  module _ (k : ℕ) (e : r ≡ Is k) where
+module _ (f : List ℕ) (bytes : (i : ℕ) → get_or f i 0 < 256) (x : List Float) (n q : List ℕ) (r : Result ℕ Refusal) (p : Promised f room counts parts r x n q) where
+  module _ (k : ℕ) (e : r ≡ Ok k) where
     abbrev l : List Float
     l = numbers_of f
 
@@ -92,9 +92,9 @@ module _ (f : List ℕ) (bytes : (i : ℕ) → get_or f i 0 < 256) (x : List Flo
         rw (taken, parts_taken, room_holds, a_book f bytes room x counts n parts q r p k e)
         (ap (λ (t : List ℕ). rings_line (length ns) ++ t) (same_texts ns ps l (drop (length l) room) held.whole (length ns) (omega arith)))
 
-  module _ (no_one : Refusal) (e : r ≡ Refused no_one) where
-    pub fault_told : refusal_line no_one ≡ book_text f
+  module _ (why : Refusal) (e : r ≡ Err why) where
+    pub fault_told : refusal_line (tells why) ≡ book_text f
     unfolding book_text
     fault_told =
-        let b = no_book f bytes room x counts n parts q r p (omega (arith, length-replicate numbers_most (of_bits binary64 0))) (omega (arith, length-replicate {A = ℕ} rings_most 0)) (omega (arith, length-replicate {A = ℕ} rings_most 0)) no_one e in
+        let b = no_book f bytes room x counts n parts q r p (omega (arith, length-replicate numbers_most (of_bits binary64 0))) (omega (arith, length-replicate {A = ℕ} rings_most 0)) (omega (arith, length-replicate {A = ℕ} rings_most 0)) why e in
         rw b.0 (ap refusal_line b.1)

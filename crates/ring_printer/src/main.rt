@@ -11,7 +11,6 @@ use book_reader::calls::read_book;
 use lines::{put_points, put_refusal};
 use print::{put_decimal, put_text};
 use refusals::RINGS_MOST;
-use refusals::answer::Count;
 use std::io;
 use std::io::Read;
 
@@ -58,13 +57,11 @@ fn put_rings(xs: &[f64], counts: &[u32], parts: &[u32], out: &mut [u8], from: us
 {
     let mut next = from;
     let mut at = 0;
-    let mut i = 0;
-    while i < counts.len() {
-        let n = counts[i] as usize;
+    for (i, &n) in counts.iter().enumerate() {
+        let n = n as usize;
         let end = at + 2 * n;
         next = put_ring(&xs[at..end], i, n, parts[i], out, next);
         at = end;
-        i += 1;
     }
     next
 }
@@ -88,8 +85,8 @@ fn put_book(book: &[u8], out: &mut [u8]) -> usize
     let mut counts = [0u32; RINGS_MOST];
     let mut parts = [0u32; RINGS_MOST];
     match read_book(book, &mut room, &mut counts, &mut parts) {
-        Count::Is(k) => put_all(&room, &counts[..k], &parts[..k], out),
-        Count::Refused(no) => put_refusal(no, out),
+        Ok(k) => put_all(&room, &counts[..k], &parts[..k], out),
+        Err(no) => put_refusal(no, out),
     }
 }
 

@@ -21,24 +21,14 @@ pub fn abs(x: f64) -> f64
 fn is_minus_zero(x: f64) -> bool
     ensures { result ≡ minus_zero x }
 {
-    if x == 0.0 {
-        f64::to_bits(x) != 0
-    } else {
-        false
-    }
+    x == 0.0 && f64::to_bits(x) != 0
 }
 
 // Whether a comes before b: it is smaller, or it is -0.0 and b is +0.0.
 pub fn is_ahead(a: f64, b: f64) -> bool
     ensures { result ≡ ahead a b }
 {
-    if a < b {
-        true
-    } else if is_minus_zero(a) {
-        is_minus_zero(-b)
-    } else {
-        false
-    }
+    a < b || (is_minus_zero(a) && is_minus_zero(-b))
 }
 
 // The smaller of a and b, -0.0 being below +0.0. Of a NaN and a number it is the number.

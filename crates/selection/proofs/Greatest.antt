@@ -4,6 +4,7 @@ use mathlib.Core.Path.{◌≡◌, refl}
 use mathlib.Core.Bool.{Bool, true, false}
 use mathlib.Core.List.{List}
 use lib.Ieee.{Float, inf, lt, is_nan}
+use Rattle.std.specs.Prelude.{Option}
 use Rattle.plane.specs.declared.Point.{Point}
 use Rattle.laws.specs.FirstBest.{First, none, some}
 use Rattle.laws.proofs.Order.{lt_irrefl, lt_asym}
@@ -11,11 +12,10 @@ use Rattle.laws.proofs.FirstBest.{over_first}
 use Rattle.selection.specs.Select.{vector_count, score_at, scored_at, above, unscored, select_of}
 use Rattle.selection.specs.Chosen.{Chosen, greatest}
 use Rattle.selection.specs.Chosen as chosen_is
-use Rattle.selection.specs.declared.Previous.{Previous}
 use Rattle.selection.specs.declared.Scored.{Scored}
 use Rattle.selection.proofs.Above.{least, below, weave}
 
-module _ (vs : List Float) (previous : Previous) (ccw : Point) where
+module _ (vs : List Float) (previous : Option Point) (ccw : Point) where
   chosen : (n : ℕ) (r : Scored) → First above (scored_at vs previous ccw) unscored n r → Chosen (score_at vs previous ccw) n r.index
   unfolding scored_at unscored
   chosen n r (none z all) = rw z (chosen_is.none all)

@@ -1,12 +1,10 @@
 -- The score of a translation vector, in the order of operations of `nfp_sliding.rs`. Definitions only.
-use Rattle.std.specs.Prelude.{cond, Float}
+use Rattle.std.specs.Prelude.{cond, Float, Option, Some, None}
 use Rattle.std.specs.Float.Ieee.{lt, neg}
 use Rattle.scalar.specs.Float.{◌⊕◌, ◌⊖◌, ◌⊗◌, float, f0·5, f1e_6}
 use Rattle.plane.specs.Vector.{point, minus_of, dot_of, normalize_of}
 use Rattle.plane.specs.declared.Point.{Point}
 use Rattle.vectors.specs.declared.TranslationVector.{TranslationVector}
-use Rattle.selection.specs.declared.Previous.{Previous}
-use Rattle.selection.specs.declared.Previous.TheVariants.{None, Direction}
 
 -- 100.0
 abbrev pub f100 : Float
@@ -19,11 +17,11 @@ preferred_of centroid position =
     point (neg radial.y) radial.x
 
 -- the bonus for going on as before
-unfoldable pub continued_of : Float → Point → Previous → Float
+unfoldable pub continued_of : Float → Point → Option Point → Float
 continued_of s d None = s
-continued_of s d (Direction p) = s ⊕ f0·5 ⊗ dot_of d p
+continued_of s d (Some p) = s ⊕ f0·5 ⊗ dot_of d p
 
-unfoldable pub score_of : TranslationVector → Previous → Point → Float
+unfoldable pub score_of : TranslationVector → Option Point → Point → Float
 score_of v previous ccw =
     let s = continued_of (dot_of v.direction ccw) v.direction previous in
     cond (lt v.distance f1e_6) (s ⊖ f100) s

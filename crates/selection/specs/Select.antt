@@ -1,5 +1,5 @@
 -- The scan for the greatest score. Definitions only.
-use Rattle.std.specs.Prelude.{ℕ, ◌+◌, ◌*◌, ◌/◌, Bool, true, List, length, get_or, Float}
+use Rattle.std.specs.Prelude.{ℕ, ◌+◌, ◌*◌, ◌/◌, Bool, true, List, length, get_or, Float, Option}
 use Rattle.std.specs.Float.{nan, inf}
 use Rattle.std.specs.Float.Ieee.{lt}
 use Rattle.plane.specs.Vector.{point}
@@ -7,7 +7,6 @@ use Rattle.plane.specs.declared.Point.{Point}
 use Rattle.laws.specs.FirstBest.{better, over}
 use Rattle.selection.specs.Score.{score_of}
 use Rattle.vectors.specs.declared.TranslationVector.{TranslationVector}
-use Rattle.selection.specs.declared.Previous.{Previous}
 use Rattle.selection.specs.declared.Scored.{Scored}
 
 -- how many vectors
@@ -19,13 +18,13 @@ unfoldable pub vector_at : List Float → ℕ → TranslationVector
 vector_at vs i = record { direction = point (get_or vs (3 * i) nan) (get_or vs (3 * i + 1) nan); distance = get_or vs (3 * i + 2) nan }
 
 -- the score of vector i
-unfoldable pub score_at : List Float → Previous → Point → ℕ → Float
+unfoldable pub score_at : List Float → Option Point → Point → ℕ → Float
 score_at vs previous ccw i = score_of (vector_at vs i) previous ccw
 
 abbrev pub scored : ℕ → Float → Scored
 scored i s = record { index = i; score = s }
 
-unfoldable pub scored_at : List Float → Previous → Point → ℕ → Scored
+unfoldable pub scored_at : List Float → Option Point → Point → ℕ → Scored
 scored_at vs previous ccw i = scored i (score_at vs previous ccw i)
 
 -- a strictly greater score
@@ -39,5 +38,5 @@ kept_score best new = better above best new
 unfoldable pub unscored : Scored
 unscored = scored 0 (inf true)
 
-unfoldable pub select_of : List Float → Previous → Point → ℕ
+unfoldable pub select_of : List Float → Option Point → Point → ℕ
 select_of vs previous ccw = (over above (scored_at vs previous ccw) unscored (vector_count vs)).index

@@ -1,29 +1,26 @@
 // The public call: select_translation_vector.
+#![tactic(auto, using(refusals::proofs::Tests::refused), unfolding(crate::specs::Calls::chosen_index))]
+
 ghost use Rattle.std.specs.Prelude.{◌≡◌};
-ghost use Rattle.selection.specs.Calls.{selected, select_call};
+ghost use Rattle.refusals.specs.Answers.{answered};
+ghost use Rattle.selection.specs.Calls.{select_call};
 
-use crate::Previous;
-use crate::answer::Selected;
 use plane::Point;
-use refusals::row;
+use refusals::{Refusal, row};
 
-// The index of the vector to slide along. A list has three numbers for each vector: the direction's x and y, and the distance. All bit patterns are taken.
+// The index of the vector to slide along, none where there is no vector. A list has three numbers for each vector: the direction's x and y, and the distance. All bit patterns are taken.
 pub fn select_translation_vector(
     vectors: &[f64],
-    previous: Previous,
+    previous: Option<Point>,
     centroid: Point,
     position: Point,
-) -> Selected
-    ensures { selected result ≡ select_call vectors.now previous centroid position }
+) -> Result<Option<usize>, Refusal>
+    ensures { answered result ≡ select_call vectors.now previous centroid position }
 {
-    let no = row::vectors(vectors);
-    if no.passed() {
-        if vectors.len() == 0 {
-            Selected::Nothing
-        } else {
-            Selected::Index(crate::select(vectors, previous, crate::preferred(centroid, position)))
-        }
-    } else {
-        Selected::Refused(no)
+    row::vectors(vectors)?;
+    if vectors.is_empty() {
+        return Ok(None);
     }
+    let preferred = crate::preferred(centroid, position);
+    Ok(Some(crate::select(vectors, previous, preferred)))
 }

@@ -1,7 +1,6 @@
 // Which way to slide: the score of a translation vector, and the first of the greatest: `select_translation_vector` of `nfp_sliding.rs`.
 #![tactic(auto)]
 
-pub mod answer;
 pub mod calls;
 
 ghost use Rattle.std.specs.Prelude.{◌≡◌, ◌+◌, ◌*◌, ◌<◌, length};
@@ -11,13 +10,6 @@ ghost use Rattle.selection.specs.Select.{vector_at, kept_score, unscored, select
 use plane::Point;
 use plane::vector::{dot, minus, normalize};
 use vectors::TranslationVector;
-
-// The direction of the slide before, where there was one.
-#[derive(Clone, Copy)]
-pub enum Previous {
-    None,
-    Direction(Point),
-}
 
 // A vector by its index, and its score.
 #[derive(Clone, Copy)]
@@ -37,11 +29,12 @@ pub fn preferred(centroid: Point, position: Point) -> Point
     }
 }
 
-// A score with the bonus for going on as before.
-pub fn continued(score: f64, direction: Point, previous: Previous) -> f64
+// A score with the bonus for going on in the direction of the slide before, where there was one.
+#[tactic(auto, unfolding(crate::specs::Score::continued_of))]
+pub fn continued(score: f64, direction: Point, previous: Option<Point>) -> f64
     ensures { result ≡ continued_of score direction previous }
 {
-    if let Previous::Direction(before) = previous {
+    if let Some(before) = previous {
         score + 0.5 * dot(direction, before)
     } else {
         score
@@ -49,7 +42,7 @@ pub fn continued(score: f64, direction: Point, previous: Previous) -> f64
 }
 
 // The score of a vector, by the preferred direction and the one before. A vector shorter than 1e-6 pays 100.
-pub fn score(vector: TranslationVector, previous: Previous, ccw: Point) -> f64
+pub fn score(vector: TranslationVector, previous: Option<Point>, ccw: Point) -> f64
     ensures { result ≡ score_of vector previous ccw }
 {
     let s = continued(dot(vector.direction, ccw), vector.direction, previous);
@@ -89,16 +82,14 @@ pub fn keep(best: Scored, new: Scored) -> Scored
 }
 
 // The index of the first of the greatest scores, 0 where none is above -infinity.
-pub fn select(vectors: &[f64], previous: Previous, ccw: Point) -> usize
+pub fn select(vectors: &[f64], previous: Option<Point>, ccw: Point) -> usize
     ensures { result ≡ select_of vectors.now previous ccw }
 {
     let n = vectors.len() / 3;
     let mut best = start();
-    let mut i = 0;
-    while i < n {
+    for i in 0..n {
         let s = score(vector_at(vectors, i), previous, ccw);
         best = keep(best, Scored { index: i, score: s });
-        i += 1;
     }
     best.index
 }

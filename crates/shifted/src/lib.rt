@@ -6,7 +6,7 @@ ghost use Rattle.ring.specs.Room.{laid};
 ghost use Rattle.shifted.specs.Shifted.{in_bounds, up_of, spot_of, spot_at};
 
 // A point with each coordinate moved up.
-#[derive(Clone, Copy)]
+#[derive(Clone, Copy, Debug, PartialEq, Eq)]
 pub struct Spot {
     pub x: u64,
     pub y: u64,
@@ -44,10 +44,8 @@ pub fn lift(list: &[i32], room: &mut [u64])
     requires { length list.now ≤ length room.old }
     ensures { room.new ≡ laid (map up_of list.now) room.old }
 {
-    let mut i = 0;
-    while i < list.len() {
-        room[i] = up(list[i]);
-        i += 1;
+    for (i, &x) in list.iter().enumerate() {
+        room[i] = up(x);
     }
 }
 

@@ -1,6 +1,6 @@
 -- The signed area of a ring, in the order of operations of `polygon_ops.rs` and `robust.rs`. Definitions only.
 use Rattle.std.specs.Prelude.{ℕ, zero, suc, cond, List, ltb, Float}
-use Rattle.scalar.specs.Float.{◌⊕◌, ◌⊖◌, ◌⊗◌, ◌⊘◌, float, f0, f2}
+use Rattle.scalar.specs.Float.{◌⊕◌, ◌⊖◌, ◌⊗◌, ◌⊘◌, f0, f2}
 use Rattle.ring.specs.Ring.{count, point_at, next_of}
 use Rattle.signed_area.specs.declared.Kahan.{Kahan}
 

@@ -25,10 +25,8 @@ fn signed_area2(ring: &[f64]) -> f64
 {
     let n = ring.len() / 2;
     let mut sum = 0.0;
-    let mut i = 0;
-    while i < n {
+    for i in 0..n {
         sum = sum + term(ring, i);
-        i += 1;
     }
     sum
 }
@@ -61,10 +59,8 @@ fn signed_area_robust(ring: &[f64]) -> f64
         return 0.0;
     }
     let mut k = Kahan { sum: 0.0, c: 0.0 };
-    let mut i = 0;
-    while i < n {
+    for i in 0..n {
         k = added(k, term(ring, i));
-        i += 1;
     }
     k.sum / 2.0
 }

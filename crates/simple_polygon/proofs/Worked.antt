@@ -1,7 +1,7 @@
 -- Worked examples, by computation: a square is simple, a figure eight is not, nor are two vertices.
 use mathlib.Core.Path.{◌≡◌, refl}
 use mathlib.Core.Bool.{true, false}
-use mathlib.Core.List.{List, [], ◌∷◌}
+use mathlib.Core.List.{[], ◌∷◌}
 use lib.Ieee.{Float, add, sub, mul, lt, le, neg, of_bits}
 use Rattle.scalar.specs.Float.{float, f0}
 use Rattle.scalar.specs.Scalar.{smaller_of, larger_of, or_number, ahead, minus_zero}

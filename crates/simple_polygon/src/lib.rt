@@ -85,14 +85,12 @@ fn clear_row(ring: &[f64], i: usize) -> bool
     let a2 = point_at(ring, next(i, n));
     let mut b1 = a2;
     let mut d3 = turn(a1, a2, b1);
-    let mut j = i + 1;
-    while j < n {
+    for j in i + 1..n {
         let b2 = point_at(ring, next(j, n));
         let d4 = turn(a1, a2, b2);
         if clear_pair(adjacent(i, j, n), a1, a2, b1, b2, d3, d4) {
             b1 = b2;
             d3 = d4;
-            j += 1;
         } else {
             return false;
         }
@@ -108,11 +106,8 @@ fn is_simple_polygon(ring: &[f64]) -> bool
     if n < 3 {
         return false;
     }
-    let mut i = 0;
-    while i < n {
-        if clear_row(ring, i) {
-            i += 1;
-        } else {
+    for i in 0..n {
+        if !clear_row(ring, i) {
             return false;
         }
     }

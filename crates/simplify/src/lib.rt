@@ -38,13 +38,9 @@ fn staying(list: &[f64], tolerance: f64) -> usize
 {
     let n = list.len() / 2;
     let mut kept = 0;
-    let mut i = 0;
-    while i < n {
+    for i in 0..n {
         if stays(list, tolerance, i) {
             kept += 1;
-            i += 1;
-        } else {
-            i += 1;
         }
     }
     kept
@@ -69,15 +65,11 @@ fn gather(list: &[f64], tolerance: f64, room: &mut [f64])
 {
     let n = list.len() / 2;
     let mut k = 0;
-    let mut i = 0;
-    while i < n {
+    for i in 0..n {
         if stays(list, tolerance, i) {
             room[k] = list[2 * i];
             room[k + 1] = list[2 * i + 1];
             k += 2;
-            i += 1;
-        } else {
-            i += 1;
         }
     }
 }

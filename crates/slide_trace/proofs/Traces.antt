@@ -11,14 +11,16 @@ use Rattle.ring.specs.Ring.{count, point_at}
 use Rattle.ring.specs.Room.{laid}
 use Rattle.print.specs.Text.{pair_line}
 use Rattle.refusals.specs.Refusals.{passed}
-use Rattle.refusals.specs.declared.Refusal.{Refusal}
+use Rattle.refusals.specs.Refusals.{Told}
 use Rattle.refusals.specs.declared.Settings.{Settings}
 use Rattle.simplify.specs.Simplify.{simplified}
 use Rattle.nfp_sliding.specs.Path.{traced_of}
 use Rattle.refusals.specs.Rows.{of_trace}
-use Rattle.nfp_sliding.specs.Calls.{Answer, traces, denied, overfull, too_short, traced, brief, came_to, result_after, trace_call, trace_result}
-use Rattle.nfp_sliding.specs.declared.answer.Traced.{Traced}
-use Rattle.nfp_sliding.specs.declared.answer.Traced.TheVariants.{Is, Refused, Full, Short}
+use Rattle.nfp_sliding.specs.Calls.{Answer, traces, denied, overfull, too_short, traced, brief, came_to, result_after, refusal_of, trace_call, trace_result}
+use Rattle.std.specs.Prelude.{Result, Ok, Err}
+use Rattle.nfp_sliding.specs.declared.answer.Trace as answer
+use Rattle.nfp_sliding.specs.declared.answer.Untraced.{Untraced}
+use Rattle.nfp_sliding.specs.declared.answer.Untraced.TheVariants.{Refused, Full, Short}
 use Rattle.lines.specs.Lines.{point_lines}
 use Rattle.slide_trace.specs.Lines.{heading_line, answer_text, InList}
 use Rattle.slide_trace.specs.Said.{text_of, trace_text}
@@ -53,7 +55,7 @@ points_of (too_short passes stop) = 0
 
 -- ---- the answer of a call, case by case: passed or not, the room full or not, the path short or not
 
-module _ (r : Refusal) (passes reason stored : ℕ) (result held : List Float) where
+module _ (r : Told) (passes reason stored : ℕ) (result held : List Float) where
   abbrev call : Bool → Bool → Bool → Answer
   call p f h = cond p (cond f (overfull passes) (cond h (too_short passes reason) (traces (count result) stored passes reason))) (denied r)
 
@@ -64,41 +66,42 @@ module _ (r : Refusal) (passes reason stored : ℕ) (result held : List Float) w
   many : (a b : Answer) → a ≡ b → values_of a ≡ values_of b
   many a b e = ap values_of e
 
-  pub said : (p f h : Bool) → passed r ≡ p → (t : Traced) (x : List Float) → traced t ≡ call p f h → x ≡ after p f h → answer_text t x ≡ text_of (call p f h) result
-  said false f h e (Is a b c d) x q w = absurd (let z : ◌≡◌ {A = ℕ} 4 0 = many _ _ q in omega arith)
-  said false f h e (Refused s) x q w =
+  pub said : (p f h : Bool) → passed r ≡ p → (t : Result answer.Trace Untraced) (x : List Float) → traced t ≡ call p f h → x ≡ after p f h → answer_text t x ≡ text_of (call p f h) result
+  unfolding refusal_of
+  said false f h e (Ok v) x q w = absurd (let z : ◌≡◌ {A = ℕ} 4 0 = many _ _ q in omega arith)
+  said false f h e (Err (Refused s)) x q w =
       ap (λ (y : Answer). text_of y result) q
-  said false f h e (Full a) x q w = absurd (let z : ◌≡◌ {A = ℕ} 1 0 = many _ _ q in omega arith)
-  said false f h e (Short a b) x q w = absurd (let z : ◌≡◌ {A = ℕ} 2 0 = many _ _ q in omega arith)
-  said true true h e (Is a b c d) x q w = absurd (let z : ◌≡◌ {A = ℕ} 4 1 = many _ _ q in omega arith)
-  said true true h e (Refused s) x q w = absurd (let z : ◌≡◌ {A = ℕ} 0 1 = many _ _ q in omega arith)
-  said true true h e (Full a) x q w = refl
-  said true true h e (Short a b) x q w = absurd (let z : ◌≡◌ {A = ℕ} 2 1 = many _ _ q in omega arith)
-  said true false true e (Is a b c d) x q w = absurd (let z : ◌≡◌ {A = ℕ} 4 2 = many _ _ q in omega arith)
-  said true false true e (Refused s) x q w = absurd (let z : ◌≡◌ {A = ℕ} 0 2 = many _ _ q in omega arith)
-  said true false true e (Full a) x q w = absurd (let z : ◌≡◌ {A = ℕ} 1 2 = many _ _ q in omega arith)
-  said true false true e (Short a b) x q w = refl
-  said true false false e (Is a b c d) x q w =
+  said false f h e (Err (Full a)) x q w = absurd (let z : ◌≡◌ {A = ℕ} 1 0 = many _ _ q in omega arith)
+  said false f h e (Err (Short a b)) x q w = absurd (let z : ◌≡◌ {A = ℕ} 2 0 = many _ _ q in omega arith)
+  said true true h e (Ok v) x q w = absurd (let z : ◌≡◌ {A = ℕ} 4 1 = many _ _ q in omega arith)
+  said true true h e (Err (Refused s)) x q w = absurd (let z : ◌≡◌ {A = ℕ} 0 1 = many _ _ q in omega arith)
+  said true true h e (Err (Full a)) x q w = refl
+  said true true h e (Err (Short a b)) x q w = absurd (let z : ◌≡◌ {A = ℕ} 2 1 = many _ _ q in omega arith)
+  said true false true e (Ok v) x q w = absurd (let z : ◌≡◌ {A = ℕ} 4 2 = many _ _ q in omega arith)
+  said true false true e (Err (Refused s)) x q w = absurd (let z : ◌≡◌ {A = ℕ} 0 2 = many _ _ q in omega arith)
+  said true false true e (Err (Full a)) x q w = absurd (let z : ◌≡◌ {A = ℕ} 1 2 = many _ _ q in omega arith)
+  said true false true e (Err (Short a b)) x q w = refl
+  said true false false e (Ok v) x q w =
       ap (λ (y : Answer). text_of y x) q
       ∙ (rw w (ap (λ (l : List ℕ). heading_line (count result) passes reason ++ l) (lines_front result (drop (length result) held) (count result) (omega arith))))
-  said true false false e (Refused s) x q w = absurd (let z : ◌≡◌ {A = ℕ} 0 4 = many _ _ q in omega arith)
-  said true false false e (Full a) x q w = absurd (let z : ◌≡◌ {A = ℕ} 1 4 = many _ _ q in omega arith)
-  said true false false e (Short a b) x q w = absurd (let z : ◌≡◌ {A = ℕ} 2 4 = many _ _ q in omega arith)
+  said true false false e (Err (Refused s)) x q w = absurd (let z : ◌≡◌ {A = ℕ} 0 4 = many _ _ q in omega arith)
+  said true false false e (Err (Full a)) x q w = absurd (let z : ◌≡◌ {A = ℕ} 1 4 = many _ _ q in omega arith)
+  said true false false e (Err (Short a b)) x q w = absurd (let z : ◌≡◌ {A = ℕ} 2 4 = many _ _ q in omega arith)
 
-  pub inside : (p f h : Bool) → (t : Traced) (x : List Float) → traced t ≡ call p f h → x ≡ after p f h → InList t (length x)
-  inside false f h (Is a b c d) x q w = absurd (let z : ◌≡◌ {A = ℕ} 4 0 = many _ _ q in omega arith)
-  inside true true h (Is a b c d) x q w = absurd (let z : ◌≡◌ {A = ℕ} 4 1 = many _ _ q in omega arith)
-  inside true false true (Is a b c d) x q w = absurd (let z : ◌≡◌ {A = ℕ} 4 2 = many _ _ q in omega arith)
-  inside true false false (Is a b c d) x q w =
-      let n : a ≡ count result = ap points_of q in
+  pub inside : (p f h : Bool) → (t : Result answer.Trace Untraced) (x : List Float) → traced t ≡ call p f h → x ≡ after p f h → InList t (length x)
+  inside false f h (Ok v) x q w = absurd (let z : ◌≡◌ {A = ℕ} 4 0 = many _ _ q in omega arith)
+  inside true true h (Ok v) x q w = absurd (let z : ◌≡◌ {A = ℕ} 4 1 = many _ _ q in omega arith)
+  inside true false true (Ok v) x q w = absurd (let z : ◌≡◌ {A = ℕ} 4 2 = many _ _ q in omega arith)
+  inside true false false (Ok v) x q w =
+      let n : v.points ≡ count result = ap points_of q in
       omega (arith, ap length w, length-append result (drop (length result) held))
-  inside p f h (Refused s) x q w = tt
-  inside p f h (Full a) x q w = tt
-  inside p f h (Short a b) x q w = tt
+  inside p f h (Err (Refused s)) x q w = tt
+  inside p f h (Err (Full a)) x q w = tt
+  inside p f h (Err (Short a b)) x q w = tt
 
 -- ---- the call
 
-module _ (st orb : List Float) (s : Settings) (work : ℕ) (held : List Float) (t : Traced) (x : List Float)
+module _ (st orb : List Float) (s : Settings) (work : ℕ) (held : List Float) (t : Result answer.Trace Untraced) (x : List Float)
     (p : traced t ≡ trace_call st orb s work (length held)) (q : x ≡ trace_result st orb s work held) where
   pub points_inside : InList t (length x)
   unfolding trace_call trace_result came_to result_after

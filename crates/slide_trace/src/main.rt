@@ -15,7 +15,6 @@ use book_reader::calls::read_book;
 use lines::put_refusal;
 use nfp_sliding::calls::compute_nfp_sliding;
 use number_bytes::{float_of, number8};
-use refusals::answer::Count;
 use refusals::{RINGS_MOST, Refusal, Settings};
 use say::put_answer;
 use std::io;
@@ -68,8 +67,8 @@ fn put_book(book: &[u8], settings: Settings, out: &mut [u8]) -> usize
     let mut counts = [0u32; RINGS_MOST];
     let mut parts = [0u32; RINGS_MOST];
     match read_book(book, &mut room, &mut counts, &mut parts) {
-        Count::Is(_) => put_rings(&room, counts[0] as usize, counts[1] as usize, settings, out),
-        Count::Refused(no) => put_refusal(no, out),
+        Ok(_) => put_rings(&room, counts[0] as usize, counts[1] as usize, settings, out),
+        Err(no) => put_refusal(no, out),
     }
 }
 
@@ -79,11 +78,7 @@ fn put_input(input: &[u8], out: &mut [u8]) -> usize
     ensures { Put out.old 0 (input_text input.now) out.new result }
 {
     if input.len() < SETTINGS_BYTES {
-        let no = Refusal {
-            number: 7,
-            place: 0,
-        };
-        return put_refusal(no, out);
+        return put_refusal(Refusal::Book(0), out);
     }
     put_book(&input[SETTINGS_BYTES..], settings(input), out)
 }

@@ -4,9 +4,8 @@ ghost use Rattle.print.specs.Text.{Put};
 ghost use Rattle.slide_trace.specs.Lines.{heading_line, path_text, answer_text, InList};
 
 use lines::{put_points, put_refusal};
-use nfp_sliding::answer::Traced;
+use nfp_sliding::answer::{Trace, Untraced};
 use print::{put_decimal, put_text};
-use refusals::Refusal;
 
 // The line before the points.
 fn put_heading(points: usize, passes: u64, stop: u32, out: &mut [u8]) -> usize
@@ -32,20 +31,13 @@ fn put_path(points: usize, passes: u64, stop: u32, xs: &[f64], out: &mut [u8]) -
 }
 
 // What a trace answered, with the points of the result at the front of a list.
-pub fn put_answer(traced: Traced, res: &[f64], out: &mut [u8]) -> usize
+pub fn put_answer(traced: Result<Trace, Untraced>, res: &[f64], out: &mut [u8]) -> usize
     requires in_list { InList traced (length res.now) }
     requires res_len_bound { (length res.now ≤ 20002) × (340200 ≤ length out.old) }
     ensures { Put out.old 0 (answer_text traced res.now) out.new result }
 {
     match traced {
-        Traced::Is {
-            points,
-            stored,
-            passes,
-            stop,
-        } => put_path(points, passes, stop, res, out),
-        Traced::Refused(no) => put_refusal(no, out),
-        Traced::Full(passes) => put_refusal(Refusal::new(5, 0), out),
-        Traced::Short { passes, stop } => put_refusal(Refusal::new(6, 0), out),
+        Ok(trace) => put_path(trace.points, trace.passes, trace.stop, res, out),
+        Err(untraced) => put_refusal(untraced.refusal(), out),
     }
 }

@@ -20,10 +20,7 @@ fn further(best: Step, left: u64, root: u64, takes: u64) -> Step
     ensures { Further best.root best.takes left root takes result.root result.takes }
 {
     if takes <= left {
-        Step {
-            root: root,
-            takes: takes,
-        }
+        Step { root, takes }
     } else {
         best
     }
@@ -37,10 +34,7 @@ fn pair(root: u64, left: u64, place: u64) -> Step
 {
     let one = root + place;
     let two = root + (place << 1);
-    let none = Step {
-        root: root,
-        takes: 0,
-    };
+    let none = Step { root, takes: 0 };
     let takes = (root << 1) + place;
     let first = further(none, left, one, takes);
     let second = further(first, left, two, one << 2);
@@ -56,6 +50,7 @@ fn digits(m: u64) -> u64
     let mut root: u64 = 0;
     let mut left = m;
     let mut place: u64 = 0x0040_0000_0000_0000;
+    // A while: the place is quartered each time, so that it is no counter.
     while place > 1 {
         if left == 0 {
             return root;

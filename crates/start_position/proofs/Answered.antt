@@ -11,12 +11,12 @@ use Rattle.plane.specs.declared.Point.{Point}
 use Rattle.ring.specs.Ring.{count}
 use Rattle.refusals.specs.Refusals.{passed}
 use Rattle.refusals.specs.Rows.{of_two_polygons}
-use Rattle.refusals.specs.Answers.{answers, refuses}
+use Rattle.refusals.specs.Answers.{answers, refuses, answered}
 use Rattle.refusals.proofs.Sized.{two_polygons, two_bounded}
 use Rattle.start_position.specs.Start.{extreme_vertex, start_of}
 use Rattle.start_position.specs.Extreme.{Lowest, Highest}
-use Rattle.start_position.specs.Calls.{started, start_call}
-use Rattle.start_position.specs.declared.answer.Start.TheVariants.{Is}
+use Rattle.start_position.specs.Calls.{start_call}
+use Rattle.std.specs.Prelude.{Ok}
 use Rattle.start_position.proofs.Extreme.{vertex_lowest, vertex_highest}
 
 module _ (st orb : List Float) where
@@ -36,7 +36,7 @@ module _ (st orb : List Float) where
         refl,
       )
 
-  pub answer_extreme : (p : Point) → started (Is p) ≡ start_call st orb → Between p
+  pub answer_extreme : (p : Point) → answered (Ok p) ≡ start_call st orb → Between p
   answer_extreme p h = go (passed (of_two_polygons st orb)) refl h
     where
       go : (b : Bool) → passed (of_two_polygons st orb) ≡ b

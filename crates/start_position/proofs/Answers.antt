@@ -1,11 +1,10 @@
 -- No two answers say the same. Assumes nothing.
 use mathlib.Core.Path.{◌≡◌}
-use Rattle.start_position.specs.Calls.{started}
-use Rattle.start_position.specs.declared.answer.Start.{Start}
-use Rattle.start_position.specs.declared.answer.Start.TheVariants.{Is, Refused}
+use Rattle.std.specs.Prelude.{Result}
+use Rattle.plane.specs.declared.Point.{Point}
+use Rattle.refusals.specs.Answers.{answered}
+use Rattle.refusals.specs.declared.Refusal.{Refusal}
+use Rattle.refusals.proofs.Calls.{answered_only}
 
-pub started_only : (a b : Start) → started a ≡ started b → a ≡ b
-started_only (Is p) (Is q) h = cc
-started_only (Is p) (Refused s) h = cc
-started_only (Refused r) (Is q) h = cc
-started_only (Refused r) (Refused s) h = cc
+pub started_only : (a b : Result Point Refusal) → answered a ≡ answered b → a ≡ b
+started_only a b h = answered_only a b h

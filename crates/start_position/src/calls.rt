@@ -1,18 +1,17 @@
 // The public call: find_start_position.
-ghost use Rattle.std.specs.Prelude.{◌≡◌};
-ghost use Rattle.start_position.specs.Calls.{started, start_call};
+#![tactic(auto, using(refusals::proofs::Tests::refused))]
 
-use crate::answer::Start;
-use refusals::row;
+ghost use Rattle.std.specs.Prelude.{◌≡◌};
+ghost use Rattle.refusals.specs.Answers.{answered};
+ghost use Rattle.start_position.specs.Calls.{start_call};
+
+use plane::Point;
+use refusals::{Refusal, row};
 
 // The position of orbiting, as drawn, at which its highest vertex is stationary's lowest.
-pub fn find_start_position(stationary: &[f64], orbiting: &[f64]) -> Start
-    ensures { started result ≡ start_call stationary.now orbiting.now }
+pub fn find_start_position(stationary: &[f64], orbiting: &[f64]) -> Result<Point, Refusal>
+    ensures { answered result ≡ start_call stationary.now orbiting.now }
 {
-    let no = row::two_polygons(stationary, orbiting);
-    if no.passed() {
-        Start::Is(crate::find_start_position(stationary, orbiting))
-    } else {
-        Start::Refused(no)
-    }
+    row::two_polygons(stationary, orbiting)?;
+    Ok(crate::find_start_position(stationary, orbiting))
 }

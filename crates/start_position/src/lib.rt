@@ -1,7 +1,6 @@
 // Where the slide starts: stationary's lowest vertex against orbiting's highest: `find_start_position` of `nfp_sliding.rs`.
 #![tactic(auto)]
 
-pub mod answer;
 pub mod calls;
 
 ghost use Rattle.std.specs.Prelude.{◌≡◌, ◌<◌};
@@ -56,10 +55,8 @@ fn vertex(top: bool, ring: &[f64]) -> Point
 {
     let n = ring.len() / 2;
     let mut best = point_at(ring, 0);
-    let mut i = 0;
-    while i < n {
+    for i in 0..n {
         best = keep(top, best, point_at(ring, i));
-        i += 1;
     }
     best
 }

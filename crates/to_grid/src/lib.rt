@@ -85,15 +85,7 @@ pub fn are_within(list: &[f64], units: u32) -> bool
     ensures { result ≡ every (fits_grid units) list.now }
 {
     let most = most(units);
-    let mut i = 0;
-    while i < list.len() {
-        if is_within(list[i], most) {
-            i += 1;
-        } else {
-            return false;
-        }
-    }
-    true
+    list.iter().all(|&x| is_within(x, most))
 }
 
 // Each number of a list on the grid, at the front of the room.
@@ -102,9 +94,7 @@ pub fn lay(list: &[f64], units: u32, room: &mut [i32])
     requires list_in_bounds { length list.now ≤ length room.old }
     ensures { room.new ≡ laid (map (nearest units) list.now) room.old }
 {
-    let mut i = 0;
-    while i < list.len() {
-        room[i] = on_grid(list[i], units);
-        i += 1;
+    for (i, &x) in list.iter().enumerate() {
+        room[i] = on_grid(x, units);
     }
 }

@@ -1,5 +1,5 @@
 -- What is left of the vectors at a place, and what a step takes of it. Definitions only.
-use Rattle.std.specs.Prelude.{ℕ, ◌+◌, ◌*◌, ◌≤◌, ◌<◌, ◌≡◌, cond, List, [], ◌∷◌, eqb, Float}
+use Rattle.std.specs.Prelude.{ℕ, ◌+◌, ◌*◌, ◌≤◌, ◌<◌, ◌≡◌, cond, List, [], ◌∷◌, eqb, Option, Some, None, Float}
 use Rattle.plane.specs.declared.Point.{Point}
 use Rattle.ring.specs.Ring.{count}
 use Rattle.pairs.specs.Pairs.{pair_count}
@@ -8,7 +8,6 @@ use Rattle.vectors.specs.Vectors.{Sourced, sourced, vector_of, vectors_from}
 use Rattle.vectors.specs.Fit.{kept_vectors, keeps}
 use Rattle.vectors.specs.declared.Place.{Place}
 use Rattle.vectors.specs.declared.Step.{Step}
-use Rattle.vectors.specs.declared.Step.TheVariants.{End, Vector}
 
 -- the place before all vectors
 abbrev pub front : Place
@@ -37,9 +36,9 @@ pub record Behind (st orb : List Float) (tol : Float) (g : List Sourced → List
   pub ready : Ready st orb q
   pub farther : far p < far q
 
-abbrev pub Takes : List Float → List Float → Float → (List Sourced → List Sourced) → Place → Step → Type 0
-Takes st orb tol g p End = g (left_at st orb tol p) ≡ []
-Takes st orb tol g p (Vector v i q) = Behind st orb tol g p (sourced v i) q
+abbrev pub Takes : List Float → List Float → Float → (List Sourced → List Sourced) → Place → Option Step → Type 0
+Takes st orb tol g p None = g (left_at st orb tol p) ≡ []
+Takes st orb tol g p (Some s) = Behind st orb tol g p (sourced s.vector s.source) s.rest
 
 -- all vectors, or those that lead to no visited position
 abbrev pub all_left : List Sourced → List Sourced

@@ -18,12 +18,10 @@ pub fn is_visited(position: Point, visited: &[f64], tol: f64) -> bool
 {
     let n = visited.len() / 2;
     let near = tol * 10.0;
-    let mut i = 0;
-    while i < n {
+    for i in 0..n {
         if is_near(position, point_at(visited, i), near) {
             return true;
         }
-        i += 1;
     }
     false
 }
@@ -50,29 +48,17 @@ pub fn next_kept(
     from: Point,
     visited: &[f64],
     place: Place,
-) -> Step
+) -> Option<Step>
     requires sides { Sides (count stationary.now) (count orbiting.now) }
     requires ready { Ready stationary.now orbiting.now place }
     ensures { Takes stationary.now orbiting.now tol (kept_left from visited.now tol) place result }
 {
     let mut at = place;
-    loop {
-        match next_vector(stationary, orbiting, tol, at) {
-            Step::End => return Step::End,
-            Step::Vector {
-                vector,
-                source,
-                rest,
-            } => {
-                if is_kept(from, visited, tol, vector) {
-                    return Step::Vector {
-                        vector,
-                        source,
-                        rest,
-                    };
-                }
-                at = rest;
-            }
+    while let Some(step) = next_vector(stationary, orbiting, tol, at) {
+        if is_kept(from, visited, tol, step.vector) {
+            return Some(step);
         }
+        at = step.rest;
     }
+    None
 }

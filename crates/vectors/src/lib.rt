@@ -11,7 +11,7 @@ ghost use Rattle.pairs.specs.Pairs.{Sides, pair_count};
 ghost use Rattle.vectors.specs.Vectors.{opposite_of, direction_of, vector_of};
 ghost use Rattle.vectors.specs.Places.{Ready, Takes, all_left};
 
-use contacts::{Next, edges_of, next_contact};
+use contacts::{edges_of, next_contact};
 use course::{along_by, course_by, to_vector};
 use pairs::pair_at;
 use plane::Point;
@@ -35,13 +35,10 @@ pub struct Place {
 
 // A vector, the index of its contact and the place behind it.
 #[derive(Clone, Copy)]
-pub enum Step {
-    End,
-    Vector {
-        vector: TranslationVector,
-        source: usize,
-        rest: Place,
-    },
+pub struct Step {
+    pub vector: TranslationVector,
+    pub source: usize,
+    pub rest: Place,
 }
 
 // The vector turned round.
@@ -70,8 +67,8 @@ pub fn vector_of(stationary: &[f64], orbiting: &[f64], k: usize, side: usize) ->
     to_vector(course_by(kind, e, along_by(kind, e), side))
 }
 
-// The next vector from a place on.
-pub fn next_vector(stationary: &[f64], orbiting: &[f64], tol: f64, place: Place) -> Step
+// The next vector from a place on, where one is left.
+pub fn next_vector(stationary: &[f64], orbiting: &[f64], tol: f64, place: Place) -> Option<Step>
     requires sides { Sides (count stationary.now) (count orbiting.now) }
     requires ready { Ready stationary.now orbiting.now place }
     ensures { Takes stationary.now orbiting.now tol all_left place result }
@@ -79,20 +76,18 @@ pub fn next_vector(stationary: &[f64], orbiting: &[f64], tol: f64, place: Place)
     let contact = place.contact;
     let source = place.source;
     if place.side == 0 {
-        match next_contact(stationary, orbiting, tol, contact) {
-            Next::Nothing => Step::End,
-            Next::At(k) => Step::Vector {
-                vector: vector_of(stationary, orbiting, k, 0),
+        let k = next_contact(stationary, orbiting, tol, contact)?;
+        Some(Step {
+            vector: vector_of(stationary, orbiting, k, 0),
+            source,
+            rest: Place {
+                contact: k,
+                side: 1,
                 source,
-                rest: Place {
-                    contact: k,
-                    side: 1,
-                    source,
-                },
             },
-        }
+        })
     } else {
-        Step::Vector {
+        Some(Step {
             vector: vector_of(stationary, orbiting, contact, 1),
             source,
             rest: Place {
@@ -100,6 +95,6 @@ pub fn next_vector(stationary: &[f64], orbiting: &[f64], tol: f64, place: Place)
                 side: 0,
                 source: source + 1,
             },
-        }
+        })
     }
 }

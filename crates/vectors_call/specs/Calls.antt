@@ -5,16 +5,16 @@ use Rattle.ring.specs.Room.{laid}
 use Rattle.refusals.specs.Refusals.{first_of}
 use Rattle.refusals.specs.Rows.{of_touching, of_fit, of_rooms}
 use Rattle.refusals.specs.Answers.{Outcome, outcome, left}
-use Rattle.refusals.specs.declared.Refusal.{Refusal}
+use Rattle.refusals.specs.Refusals.{Told}
 use Rattle.vectors.specs.Vectors.{vectors_of, vector_numbers, sources_of}
 use Rattle.vectors.specs.Fit.{fit_of}
 
 -- so many vectors do not fit one of the two rooms
-abbrev pub of_vector_rooms : ℕ → ℕ → ℕ → Refusal
+abbrev pub of_vector_rooms : ℕ → ℕ → ℕ → Told
 of_vector_rooms n vectors sources = of_rooms (3 * n) vectors n sources
 
 -- 1, 2, 3, then 5
-unfoldable pub vectors_refusal : List Float → List Float → Float → ℕ → ℕ → Refusal
+unfoldable pub vectors_refusal : List Float → List Float → Float → ℕ → ℕ → Told
 vectors_refusal st orb tol vectors sources =
     first_of (of_touching st orb tol ∷ of_vector_rooms (length (vectors_of st orb tol)) vectors sources ∷ [])
 
@@ -33,11 +33,11 @@ sources_room st orb tol vectors sources =
 abbrev pub fit_count : List Float → List Float → Point → List Float → Float → ℕ
 fit_count st orb from visited tol = length (fit_of st orb from visited tol)
 
-abbrev pub fit_rooms : List Float → List Float → Point → List Float → Float → ℕ → ℕ → Refusal
+abbrev pub fit_rooms : List Float → List Float → Point → List Float → Float → ℕ → ℕ → Told
 fit_rooms st orb from visited tol vectors sources = of_vector_rooms (fit_count st orb from visited tol) vectors sources
 
 -- 1, 2, 3, then 5
-unfoldable pub fit_refusal : List Float → List Float → Point → List Float → Float → ℕ → ℕ → Refusal
+unfoldable pub fit_refusal : List Float → List Float → Point → List Float → Float → ℕ → ℕ → Told
 fit_refusal st orb from visited tol vectors sources =
     first_of (of_fit st orb from visited tol ∷ fit_rooms st orb from visited tol vectors sources ∷ [])
 

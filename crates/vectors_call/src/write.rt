@@ -4,15 +4,15 @@ ghost use Rattle.ring.specs.Ring.{count};
 ghost use Rattle.ring.specs.Room.{laid};
 ghost use Rattle.pairs.specs.Pairs.{Sides};
 ghost use Rattle.vectors.specs.Vectors.{vector_numbers, sources_of};
-ghost use Rattle.refusals.specs.Answers.{counted, outcome, left};
+ghost use Rattle.refusals.specs.Answers.{answered, outcome, left};
 ghost use Rattle.vectors.specs.Fit.{fit_of};
 ghost use Rattle.vectors_call.specs.Calls.{fit_count, fit_rooms};
 
 use plane::Point;
-use refusals::answer::Count;
+use refusals::Refusal;
 use refusals::row::rooms;
 use vectors::fit::next_kept;
-use vectors::{Place, Step, TranslationVector};
+use vectors::{Place, TranslationVector};
 
 // How many there are.
 pub fn count_vectors(
@@ -32,19 +32,11 @@ pub fn count_vectors(
         side: 0,
         source: 0,
     };
-    loop {
-        match next_kept(stationary, orbiting, tol, from, visited, at) {
-            Step::End => return n,
-            Step::Vector {
-                vector: _,
-                source: _,
-                rest,
-            } => {
-                n += 1;
-                at = rest;
-            }
-        }
+    while let Some(step) = next_kept(stationary, orbiting, tol, from, visited, at) {
+        n += 1;
+        at = step.rest;
     }
+    n
 }
 
 // A vector's direction and distance, from at on.
@@ -82,24 +74,16 @@ pub fn write_vectors(
         side: 0,
         source: 0,
     };
-    loop {
-        match next_kept(stationary, orbiting, tol, from, visited, at) {
-            Step::End => return,
-            Step::Vector {
-                vector,
-                source,
-                rest,
-            } => {
-                put_vector(vectors, 3 * n, vector);
-                sources[n] = source as u64;
-                n += 1;
-                at = rest;
-            }
-        }
+    while let Some(step) = next_kept(stationary, orbiting, tol, from, visited, at) {
+        put_vector(vectors, 3 * n, step.vector);
+        sources[n] = step.source as u64;
+        n += 1;
+        at = step.rest;
     }
 }
 
 // The vectors in the rooms, and how many there are, or the refusal of a room that is too short.
+#[tactic(auto, using(refusals::proofs::Tests::refused, contacts_call::proofs::Screened::both_fit))]
 pub fn answer(
     stationary: &[f64],
     orbiting: &[f64],
@@ -108,9 +92,9 @@ pub fn answer(
     tol: f64,
     vectors: &mut [f64],
     sources: &mut [u64],
-) -> Count
+) -> Result<usize, Refusal>
     requires { Sides (count stationary.now) (count orbiting.now) }
-    ensures { (counted result ≡ outcome
+    ensures { (answered result ≡ outcome
         (fit_rooms stationary.now orbiting.now from visited.now tol
         (length vectors.old) (length sources.old))
         (fit_count stationary.now orbiting.now from visited.now tol))
@@ -127,10 +111,7 @@ pub fn answer(
         sources.old) }
 {
     let n = count_vectors(stationary, orbiting, from, visited, tol);
-    let no = rooms(3 * n, vectors.len(), n, sources.len());
-    if no.passed() {
-        write_vectors(stationary, orbiting, from, visited, tol, vectors, sources);
-        return Count::Is(n);
-    }
-    Count::Refused(no)
+    rooms(3 * n, vectors.len(), n, sources.len())?;
+    write_vectors(stationary, orbiting, from, visited, tol, vectors, sources);
+    Ok(n)
 }

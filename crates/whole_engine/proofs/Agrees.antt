@@ -15,7 +15,7 @@ use Rattle.scalar.specs.Float.{f0}
 use Rattle.refusals.specs.Answers.{outcome}
 use Rattle.refusals.specs.Refusals.{refused_number, passed, unless, first}
 use Rattle.refusals.specs.Rows.{of_points3, of_points4, of_ring}
-use Rattle.refusals.specs.declared.Refusal.{Refusal}
+use Rattle.refusals.specs.Refusals.{Told}
 use Rattle.segments.specs.Calls.{orientation_call, on_segment_call, intersect_call}
 use Rattle.simple_polygon.specs.Calls.{is_simple_call}
 use Rattle.signed_area.specs.Area.{area2_of}
@@ -36,8 +36,8 @@ use Rattle.whole_engine.proofs.Standing.{same_bounds, stands, same_length, same_
 use Rattle.whole_engine.proofs.Within.{within_at}
 
 -- the same refusal, and the same answer where there is none
-alike : {A : Type 0} (r s : Refusal) (a b : A) → r ≡ s → (passed s ≡ true → a ≡ b) → outcome r a ≡ outcome s b
-alike {A} r s a b e h = ap (λ (t : Refusal). outcome t a) e ∙ go (passed s) refl
+alike : {A : Type 0} (r s : Told) (a b : A) → r ≡ s → (passed s ≡ true → a ≡ b) → outcome r a ≡ outcome s b
+alike {A} r s a b e h = ap (λ (t : Told). outcome t a) e ∙ go (passed s) refl
   where
     go : (p : Bool) → passed s ≡ p → outcome s a ≡ outcome s b
     go true q = rw (h q)
@@ -89,7 +89,7 @@ module _ (a b c : Point) (ax ay bx by cx cy : ℤ) (A : DrawnPoint a ax ay) (B :
       → Placed a (spot_of ax ay) × Placed b (spot_of bx by) × Placed c (spot_of cx cy)
   placed p =
       let l = ax ∷ ay ∷ bx ∷ by ∷ cx ∷ cy ∷ [] in
-      let w = all_within l {n = wrong_whole l} refl refl p in (
+      let w = all_within l p in (
         stands a ax ay A (within_at l 0 w (lit< tt)) (within_at l 1 w (lit< tt)),
         stands b bx by B (within_at l 2 w (lit< tt)) (within_at l 3 w (lit< tt)),
         stands c cx cy C (within_at l 4 w (lit< tt)) (within_at l 5 w (lit< tt)),
@@ -132,7 +132,7 @@ module _ (a b c d : Point) (x1 y1 x2 y2 x3 y3 x4 y4 : ℤ)
       alike _ _ _ _ same_refusal4
       (λ p.
       let l = x1 ∷ y1 ∷ x2 ∷ y2 ∷ x3 ∷ y3 ∷ x4 ∷ y4 ∷ [] in
-      let w = all_within l {n = wrong_whole l} refl refl p in
+      let w = all_within l p in
       intersect a b c d _ _ _ _
       (stands a x1 y1 A (within_at l 0 w (lit< tt)) (within_at l 1 w (lit< tt)))
       (stands b x2 y2 B (within_at l 2 w (lit< tt)) (within_at l 3 w (lit< tt)))
@@ -153,17 +153,17 @@ module _ (r : List Float) (zs : List ℤ) (D : Drawn r zs) where
   simple_agrees =
       alike _ _ _ _ same_row
       (λ p.
-      let w = ring_within zs {n = of_whole_ring zs} refl refl p in
+      let w = ring_within zs p in
       simple r (spot_in zs) (ring_stands r zs D w.1) ∙ ap (whole_simple (spot_in zs)) same_count)
 
   pub area_agrees : SameNumber (area2_call r) (whole_area2_call zs)
   area_agrees =
-      subst (λ (s : Refusal). SameNumber (outcome s (area2_of r)) (whole_area2_call zs)) (sym same_row)
+      subst (λ (s : Told). SameNumber (outcome s (area2_of r)) (whole_area2_call zs)) (sym same_row)
       (go (passed (of_whole_ring zs)) refl)
     where
       go : (p : Bool) → passed (of_whole_ring zs) ≡ p → SameNumber (outcome (of_whole_ring zs) (area2_of r)) (whole_area2_call zs)
       go true q =
-          let w = ring_within zs {n = of_whole_ring zs} refl refl q in
+          let w = ring_within zs q in
           let at = spot_in zs in
           let P = ring_stands r zs D w.1 in
           let few : count r ≤ 256 = omega (arith, same_length r zs D, w.0) in

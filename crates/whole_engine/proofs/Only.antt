@@ -1,11 +1,10 @@
--- The map of the answer that is an integer tells every two apart. Assumes nothing.
+-- Two answers that are an integer, or a refusal, and say the same are equal. Assumes nothing.
 use mathlib.Core.Path.{◌≡◌}
-use Rattle.whole_engine.specs.Calls.{integer}
-use Rattle.whole_engine.specs.declared.answer.Whole.{Whole}
-use Rattle.whole_engine.specs.declared.answer.Whole.TheVariants.{Is, Refused}
+use lib.IntN.{ℤ}
+use Rattle.std.specs.Prelude.{Result}
+use Rattle.refusals.specs.Answers.{answered}
+use Rattle.refusals.specs.declared.Refusal.{Refusal}
+use Rattle.refusals.proofs.Calls.{answered_only}
 
-pub integer_only : (a b : Whole) → integer a ≡ integer b → a ≡ b
-integer_only (Is x) (Is y) h = cc
-integer_only (Is x) (Refused r) h = cc
-integer_only (Refused r) (Is y) h = cc
-integer_only (Refused r) (Refused s) h = cc
+pub integer_only : (a b : Result ℤ Refusal) → answered a ≡ answered b → a ≡ b
+integer_only a b h = answered_only a b h

@@ -4,14 +4,9 @@ use lib.IntN.{ℤ}
 use mir.Syntax.{w32}
 use mir.Val.{to_z, of_z, SFits}
 use mir.ValLaws.{to_z-of_z}
-use Rattle.shifted.specs.Shifted.{spot_of}
-use Rattle.shifted.specs.declared.Spot.{Spot}
 
 abbrev pub read : ℤ → ℤ
 read x = to_z w32 (of_z w32 x)
-
-pub spot_read : (x y : ℤ) {s : Spot} → SFits w32 x → SFits w32 y → s ≡ spot_of (read x) (read y) → s ≡ spot_of x y
-spot_read x y h k e = rw (to_z-of_z w32 x h, to_z-of_z w32 y k) at e
 
 module _ {A : Type 0} where
   pub six_read : (f : ℤ → ℤ → ℤ → ℤ → ℤ → ℤ → A) (a b c d e g : ℤ)

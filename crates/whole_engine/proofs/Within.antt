@@ -1,13 +1,12 @@
 -- Coordinates within a million: a loop that tests them, where what is left of the list decides, and the points they make.
 -- Assumes nothing.
-use Prim.Native.Nat.{ℕ, zero, suc, ◌+◌, ◌*◌, ◌/◌, ◌≤◌, ◌<◌}
-use mathlib.Core.Path.{◌≡◌, sym, subst}
-use mathlib.Core.Bool.{true, false}
+use Prim.Native.Nat.{ℕ, zero, suc, ◌+◌, ◌*◌, ◌/◌, ◌<◌}
+use mathlib.Core.Path.{◌≡◌, refl, sym, ap, subst}
+use mathlib.Core.Bool.{true, ◌&&◌}
+use Rattle.std.specs.List.{list_all}
 use mathlib.Core.List.{List, [], ◌∷◌, map}
-use native.Mathlib.Numerals.{add-one}
 use native.Mathlib.Omega.{arith}
-use lib.ListN.{length, get_or, drop, drop_of_length-le, length-map}
-use lib.Seq.{drop-cons}
+use lib.ListN.{length, get_or, length-map}
 use lib.IntN.{ℤ, pos}
 use Rattle.laws.proofs.Both.{both}
 use Rattle.shifted.specs.Shifted.{in_bounds, up_of, spot_of, spot_in, spot_at, Small, SmallRing}
@@ -16,18 +15,11 @@ use Rattle.shifted.proofs.Laws.{within}
 use Rattle.shifted.proofs.Lifted.{at_lifted}
 use Rattle.whole_engine.specs.Rows.{all_in_bounds}
 
-module _ (zs : List ℤ) (i : ℕ) where
-  pub within_on : i < length zs → in_bounds (get_or zs i (pos 0)) ≡ true → all_in_bounds (drop i zs) ≡ all_in_bounds (drop (i + 1) zs)
-  unfolding all_in_bounds
-  within_on h t = rw (drop-cons zs i (pos 0), t, add-one)
-
-  pub within_off : i < length zs → in_bounds (get_or zs i (pos 0)) ≡ false → all_in_bounds (drop i zs) ≡ false
-  unfolding all_in_bounds
-  within_off h t = rw (drop-cons zs i (pos 0), t)
-
-  pub within_end : length zs ≤ i → all_in_bounds (drop i zs) ≡ true
-  unfolding all_in_bounds
-  within_end h = rw (drop_of_length-le zs h)
+-- the test of each number, as a walk of the list makes it
+pub within_all : (zs : List ℤ) → list_all in_bounds zs ≡ all_in_bounds zs
+unfolding all_in_bounds
+within_all [] = refl
+within_all (z ∷ zs) = ap (λ b. in_bounds z && b) (within_all zs)
 
 pub within_at : (zs : List ℤ) (i : ℕ) → all_in_bounds zs ≡ true → i < length zs → in_bounds (get_or zs i (pos 0)) ≡ true
 unfolding all_in_bounds

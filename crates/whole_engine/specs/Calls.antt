@@ -1,13 +1,11 @@
 -- What the calls answer: the refusal of what is lent, or the rule in whole numbers. Definitions only.
 use Rattle.std.specs.Prelude.{ℕ, ◌/◌, Bool, List, [], ◌∷◌, length, ℤ}
-use Rattle.refusals.specs.Answers.{Outcome, answers, refuses, outcome}
+use Rattle.refusals.specs.Answers.{Outcome, outcome}
 use Rattle.shifted.specs.Shifted.{spot_of, spot_in}
 use Rattle.whole_rules.specs.Segments.{whole_turn, whole_orientation, whole_on_segment, whole_intersect}
 use Rattle.whole_rules.specs.Simple.{whole_simple}
 use Rattle.whole_rules.specs.Area.{whole_area2}
 use Rattle.whole_engine.specs.Rows.{wrong_whole, of_whole_ring}
-use Rattle.whole_engine.specs.declared.answer.Whole.{Whole}
-use Rattle.whole_engine.specs.declared.answer.Whole.TheVariants.{Is, Refused}
 
 abbrev pub whole_turn_call : ℤ → ℤ → ℤ → ℤ → ℤ → ℤ → Outcome ℤ
 whole_turn_call ax ay bx by cx cy =
@@ -34,8 +32,3 @@ whole_simple_call zs = outcome (of_whole_ring zs) (whole_simple (spot_in zs) (ve
 
 abbrev pub whole_area2_call : List ℤ → Outcome ℤ
 whole_area2_call zs = outcome (of_whole_ring zs) (whole_area2 (spot_in zs) (vertices_in zs))
-
--- the answer that is an integer
-abbrev pub integer : Whole → Outcome ℤ
-integer (Is z) = answers z
-integer (Refused r) = refuses r

@@ -5,7 +5,7 @@ use Rattle.std.specs.Float.{binary64}
 use Rattle.std.specs.Float.Ieee.{of_int, eq}
 use Rattle.plane.specs.declared.Point.{Point}
 use Rattle.refusals.specs.Answers.{Outcome, answers, refuses}
-use Rattle.refusals.specs.declared.Refusal.{Refusal}
+use Rattle.refusals.specs.Refusals.{Told}
 use Rattle.whole_floats.specs.Whole.{Whole}
 
 -- the float is that integer
@@ -24,4 +24,4 @@ pub data Drawn : List Float → List ℤ → Type 0 where
 pub data SameNumber : Outcome Float → Outcome ℤ → Type 0 where
   answered : {x : Float} {z : ℤ} → eq (of_int binary64 z) x ≡ true → ((z ≡ pos 0 → ⊥) → of_int binary64 z ≡ x)
       → SameNumber (answers x) (answers z)
-  refused : {r : Refusal} → SameNumber (refuses r) (refuses r)
+  refused : {r : Told} → SameNumber (refuses r) (refuses r)

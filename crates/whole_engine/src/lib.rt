@@ -1,7 +1,6 @@
 // The segment predicates, the test of a ring and twice its area in whole numbers: coordinates are moved up, so that none is below zero.
 #![tactic(auto)]
 
-pub mod answer;
 pub mod calls;
 pub mod row;
 
@@ -20,6 +19,7 @@ use ring::next;
 use segments::crosses;
 use shifted::{Spot, lift, spot_at};
 use simple_polygon::adjacent;
+use std::cmp::Ordering;
 
 // How far x is from a coordinate, and 4,194,304.
 fn away(x: u64, from: u64) -> u64
@@ -36,12 +36,10 @@ fn side(p: u64, q: u64, r: u64, s: u64) -> Orientation
 {
     let left = p * s + 4194304 * (q + r);
     let right = q * r + 4194304 * (p + s);
-    if right < left {
-        Orientation::CounterClockwise
-    } else if left < right {
-        Orientation::Clockwise
-    } else {
-        Orientation::Collinear
+    match left.cmp(&right) {
+        Ordering::Greater => Orientation::CounterClockwise,
+        Ordering::Less => Orientation::Clockwise,
+        Ordering::Equal => Orientation::Collinear,
     }
 }
 
@@ -129,19 +127,11 @@ pub fn segments_intersect(p1: Spot, p2: Spot, p3: Spot, p4: Spot) -> bool
 fn same_side(d: Orientation, e: Orientation) -> bool
     ensures { result ≡ same_side (turn_number d) (turn_number e) }
 {
-    match d {
-        Orientation::CounterClockwise => match e {
-            Orientation::CounterClockwise => true,
-            Orientation::Clockwise => false,
-            Orientation::Collinear => false,
-        },
-        Orientation::Clockwise => match e {
-            Orientation::CounterClockwise => false,
-            Orientation::Clockwise => true,
-            Orientation::Collinear => false,
-        },
-        Orientation::Collinear => false,
-    }
+    matches!(
+        (d, e),
+        (Orientation::CounterClockwise, Orientation::CounterClockwise)
+            | (Orientation::Clockwise, Orientation::Clockwise)
+    )
 }
 
 // Whether two edges share a vertex, as is told, or do not meet: an edge that lies on one side of the other does not.
@@ -177,17 +167,14 @@ fn clear_row(list: &[u64], i: usize) -> bool
     let a2 = spot_at(list, next(i, n));
     let mut b1 = a2;
     let mut d3 = turn(a1, a2, b1);
-    let mut j = i + 1;
-    while j < n {
+    for j in i + 1..n {
         let b2 = spot_at(list, next(j, n));
         let d4 = turn(a1, a2, b2);
-        if clear_pair(adjacent(i, j, n), a1, a2, b1, b2, d3, d4) {
-            b1 = b2;
-            d3 = d4;
-            j += 1;
-        } else {
+        if !clear_pair(adjacent(i, j, n), a1, a2, b1, b2, d3, d4) {
             return false;
         }
+        b1 = b2;
+        d3 = d4;
     }
     true
 }
@@ -201,11 +188,8 @@ fn is_simple(list: &[u64]) -> bool
     if n < 3 {
         return false;
     }
-    let mut i = 0;
-    while i < n {
-        if clear_row(list, i) {
-            i += 1;
-        } else {
+    for i in 0..n {
+        if !clear_row(list, i) {
             return false;
         }
     }
@@ -238,13 +222,11 @@ fn area2(list: &[u64]) -> i64
     let n = list.len() / 2;
     let mut left = 0;
     let mut right = 0;
-    let mut i = 0;
-    while i < n {
+    for i in 0..n {
         let p = spot_at(list, i);
         let q = spot_at(list, next(i, n));
         left += p.x * q.y;
         right += q.x * p.y;
-        i += 1;
     }
     difference(left, right)
 }

@@ -48,11 +48,8 @@ pub fn are_whole(list: &[f64]) -> bool
     requires { coordinates list.now ≡ true }
     ensures { result ≡ all_whole list.now }
 {
-    let mut i = 0;
-    while i < list.len() {
-        if is_whole(list[i]) {
-            i += 1;
-        } else {
+    for &x in list {
+        if !is_whole(x) {
             return false;
         }
     }
@@ -64,9 +61,7 @@ pub fn whole_list(list: &[f64], room: &mut [i32])
     requires { (coordinates list.now ≡ true) × (length list.now ≤ length room.old) }
     ensures { room.new ≡ laid (wholes list.now) room.old }
 {
-    let mut i = 0;
-    while i < list.len() {
-        room[i] = whole_part(list[i]);
-        i += 1;
+    for (i, &x) in list.iter().enumerate() {
+        room[i] = whole_part(x);
     }
 }

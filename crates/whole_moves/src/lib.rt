@@ -11,7 +11,7 @@ ghost use Rattle.whole_moves.specs.Moved.{moved_by, moved_up, down_of};
 pub fn moved(z: i32, d: i32) -> i64
     ensures { result ≡ z +ℤ d }
 {
-    z as i64 + d as i64
+    i64::from(z) + i64::from(d)
 }
 
 // Whether a coordinate that is moved is within a million.
@@ -43,13 +43,9 @@ pub fn lift_moved(list: &[i32], dx: i32, dy: i32, room: &mut [u64])
 {
     let mut d = dx;
     let mut e = dy;
-    let mut i = 0;
-    while i < list.len() {
-        room[i] = up_moved(list[i], d);
-        let f = d;
-        d = e;
-        e = f;
-        i += 1;
+    for (i, &z) in list.iter().enumerate() {
+        room[i] = up_moved(z, d);
+        (d, e) = (e, d);
     }
 }
 
@@ -59,15 +55,11 @@ pub fn are_moved_within(list: &[i32], dx: i32, dy: i32) -> bool
 {
     let mut d = dx;
     let mut e = dy;
-    let mut i = 0;
-    while i < list.len() {
-        if !is_moved_within(list[i], d) {
+    for &z in list {
+        if !is_moved_within(z, d) {
             return false;
         }
-        let f = d;
-        d = e;
-        e = f;
-        i += 1;
+        (d, e) = (e, d);
     }
     true
 }
@@ -86,9 +78,7 @@ pub fn lower(list: &[u64], n: usize, room: &mut [i32])
     requires by_index { (i : ℕ) → i < n → get_or list.now i 0 ≤ 2000000 }
     ensures { room.new ≡ laid (map down_of (take n list.now)) room.old }
 {
-    let mut i = 0;
-    while i < n {
-        room[i] = down(list[i]);
-        i += 1;
+    for (i, &u) in list[..n].iter().enumerate() {
+        room[i] = down(u);
     }
 }

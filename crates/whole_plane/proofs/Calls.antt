@@ -14,7 +14,7 @@ use lib.Ieee.{Float}
 use Rattle.plane.specs.declared.Point.{Point}
 use Rattle.refusals.specs.Answers.{Outcome, answers, refuses, outcome}
 use Rattle.refusals.specs.Refusals.{passed}
-use Rattle.refusals.specs.declared.Refusal.{Refusal}
+use Rattle.refusals.specs.Refusals.{Told}
 use Rattle.ring.specs.Ring.{next_of}
 use Rattle.segments.specs.Calls.{intersect_call}
 use Rattle.simple_polygon.specs.Calls.{is_simple_call}
@@ -34,7 +34,7 @@ use Rattle.whole_plane.proofs.Meeting.{intersect_exactly}
 use Rattle.whole_plane.proofs.Simple.{simple_exactly}
 
 -- where a call answers w, its tests pass and w is its value
-answered : {A : Type 0} (r : Refusal) (v w : A) → outcome r v ≡ answers w → (passed r ≡ true) × (v ≡ w)
+answered : {A : Type 0} (r : Told) (v w : A) → outcome r v ≡ answers w → (passed r ≡ true) × (v ≡ w)
 answered {A} r v w = go (passed r)
   where
     go : (p : Bool) → cond p (answers v) (refuses r) ≡ answers w → (p ≡ true) × (v ≡ w)
@@ -68,7 +68,7 @@ module _ (x1 y1 x2 y2 x3 y3 x4 y4 : ℤ) where
       to : whole_intersect_call x1 y1 x2 y2 x3 y3 x4 y4 ≡ answers true → Met
       to h =
           let a = answered (wrong_whole lent) _ true h in
-          let w = all_within lent {n = wrong_whole lent} refl refl a.0 in
+          let w = all_within lent a.0 in
           (w, (rule w).0 a.1)
 
       from : Met → whole_intersect_call x1 y1 x2 y2 x3 y3 x4 y4 ≡ answers true
@@ -114,10 +114,10 @@ module _ (zs : List ℤ) where
       to : whole_simple_call zs ≡ answers true → (passed (of_whole_ring zs) ≡ true) × SimpleRing (point_in zs) (vertices_in zs)
       to h =
           let a = answered (of_whole_ring zs) _ true h in
-          (a.0, (ring_rule (ring_within zs {n = of_whole_ring zs} refl refl a.0).1).0 a.1)
+          (a.0, (ring_rule (ring_within zs a.0).1).0 a.1)
 
       from : (passed (of_whole_ring zs) ≡ true) × SimpleRing (point_in zs) (vertices_in zs) → whole_simple_call zs ≡ answers true
-      from (p, s) = rw (p, (ring_rule (ring_within zs {n = of_whole_ring zs} refl refl p).1).1 s)
+      from (p, s) = rw (p, (ring_rule (ring_within zs p).1).1 s)
 
   -- and so does the call in floats, of floats that are these integers
   pub float_simple_exactly : (r : List Float) → Drawn r zs

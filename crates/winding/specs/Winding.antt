@@ -1,7 +1,7 @@
 -- A polygon made counter-clockwise, in the order of operations of `nfp_sliding.rs`. Definitions only.
 use Rattle.std.specs.Prelude.{ℕ, zero, suc, ◌-◌, Bool, cond, List, Float}
 use Rattle.std.specs.Float.Ieee.{lt}
-use Rattle.scalar.specs.Float.{◌⊕◌, ◌⊖◌, ◌⊗◌, ◌⊘◌, float, f0, f2}
+use Rattle.scalar.specs.Float.{◌⊕◌, ◌⊖◌, ◌⊗◌, ◌⊘◌, f0, f2}
 use Rattle.plane.specs.declared.Point.{Point}
 use Rattle.ring.specs.Ring.{count, point_at, next_of}
 use Rattle.ring.specs.Points.{points}

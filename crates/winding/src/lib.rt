@@ -24,10 +24,8 @@ fn signed_area(polygon: &[f64]) -> f64
 {
     let n = polygon.len() / 2;
     let mut area = 0.0;
-    let mut i = 0;
-    while i < n {
+    for i in 0..n {
         area = added(area, point_at(polygon, i), point_at(polygon, next(i, n)));
-        i += 1;
     }
     area / 2.0
 }
@@ -51,10 +49,8 @@ fn ordered(polygon: &[f64], reverse: bool, room: &mut [f64])
         room.old }
 {
     let n = polygon.len() / 2;
-    let mut i = 0;
-    while i < n {
+    for i in 0..n {
         put(room, i, vertex(polygon, reverse, i));
-        i += 1;
     }
 }
 

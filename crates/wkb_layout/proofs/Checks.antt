@@ -12,7 +12,7 @@ use Rattle.laws.proofs.Both.{both}
 use Rattle.refusals.specs.Refusals.{refused_wkb, none, passed, first, first_of}
 use Rattle.refusals.specs.Bounds.{coordinate, every, coordinates}
 use Rattle.refusals.specs.Rings.{within}
-use Rattle.refusals.specs.declared.Refusal.{Refusal}
+use Rattle.refusals.specs.Refusals.{Told}
 use Rattle.refusals.proofs.Counts.{within_true, is_within}
 use Rattle.refusals.proofs.Sized.{row_parts, holds}
 use Rattle.wkb_layout.specs.Layout.{number_bytes, point_bytes, type_at, rings_at, points_at, head_bytes, polygon_type, points_least, points_most, read_as, order_in, code_in, numbers_in}
@@ -25,7 +25,7 @@ held ok at h = holds ok refused_wkb at refl h
 -- ---- the coordinates
 
 -- the check of coordinates by their bit patterns, the first of them at the byte `at`
-unfoldable patterns_check : ℕ → List ℕ → Refusal
+unfoldable patterns_check : ℕ → List ℕ → Told
 patterns_check at [] = none
 patterns_check at (c ∷ cs) = first_of (wkb_fault (coordinate (of_bits binary64 c)) at ∷ patterns_check (at + number_bytes) cs ∷ [])
 
@@ -71,7 +71,7 @@ module _ (f : List ℕ) where
   abbrev points : ℕ
   points = code_in f points_at
 
-  abbrev numbers : Refusal
+  abbrev numbers : Told
   numbers = numbers_check (order_in f) (2 * points) head_bytes (drop head_bytes f)
 
   numbers_are : numbers ≡ patterns_check head_bytes (all_numbers f)

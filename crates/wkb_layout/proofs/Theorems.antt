@@ -16,7 +16,7 @@ use Rattle.refusals.specs.Answers.{outcome, left}
 use Rattle.refusals.specs.Bounds.{coordinate, every, coordinates}
 use Rattle.refusals.specs.Screens.{short_room}
 use Rattle.refusals.specs.Rows.{of_polygon}
-use Rattle.refusals.specs.declared.Refusal.{Refusal}
+use Rattle.refusals.specs.Refusals.{Told}
 use Rattle.wkb_layout.specs.Layout.{wkb_of, open_vertices}
 use Rattle.wkb_layout.specs.Faults.{wkb_check}
 use Rattle.wkb_layout.specs.Reader.{open_ring, read_wkb_refusal, read_wkb_call, read_wkb_room}
@@ -70,13 +70,13 @@ module _ (cs : List ℕ) (fit : Each Pattern cs) (few : length cs / 2 < 2 ^ 32) 
   refusal_alike : (size : ℕ) → read_wkb_refusal (wkb_of Big cs) size ≡ read_wkb_refusal (wkb_of Little cs) size
   unfolding read_wkb_refusal
   refusal_alike size =
-      ap₂ (λ (r : Refusal) (n : ℕ). first r (short_room (2 * n) size))
+      ap₂ (λ (r : Told) (n : ℕ). first r (short_room (2 * n) size))
       (check_alike cs fit few Big Little)
       (vertices_alike cs fit few Big Little)
 
   pub read_alike : (size : ℕ) → read_wkb_call (wkb_of Big cs) size ≡ read_wkb_call (wkb_of Little cs) size
-  read_alike size = ap₂ (λ (r : Refusal) (n : ℕ). outcome r n) (refusal_alike size) (vertices_alike cs fit few Big Little)
+  read_alike size = ap₂ (λ (r : Told) (n : ℕ). outcome r n) (refusal_alike size) (vertices_alike cs fit few Big Little)
 
   pub left_alike : (room : List Float) → read_wkb_room (wkb_of Big cs) room ≡ read_wkb_room (wkb_of Little cs) room
   left_alike room =
-      ap₂ (λ (r : Refusal) (xs : List Float). left r (laid xs room) room) (refusal_alike (length room)) (ring_alike cs fit few Big Little)
+      ap₂ (λ (r : Told) (xs : List Float). left r (laid xs room) room) (refusal_alike (length room)) (ring_alike cs fit few Big Little)

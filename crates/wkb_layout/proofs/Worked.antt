@@ -12,7 +12,7 @@ use Rattle.refusals.specs.Refusals.{refused_room, refused_wkb, none, refuse}
 use Rattle.refusals.specs.Answers.{answers, refuses}
 use Rattle.refusals.specs.Bounds.{coordinate, every}
 use Rattle.refusals.specs.Rows.{of_polygon}
-use Rattle.refusals.specs.declared.Refusal.{Refusal}
+use Rattle.refusals.specs.Refusals.{Told}
 use Rattle.wkb_layout.specs.Layout.{written_as, read_as, numbers_as, wkb_of, code_in, bits_in, numbers_in, open_numbers}
 use Rattle.wkb_layout.specs.Faults.{numbers_check, closes, wkb_check}
 use Rattle.wkb_layout.specs.Reader.{open_ring, read_wkb_refusal, read_wkb_call, read_wkb_room}
@@ -79,7 +79,7 @@ big_ring = refl
 
 -- ---- one fault each, at its place
 
-abbrev fault : ℕ → Refusal
+abbrev fault : ℕ → Told
 fault at = refuse refused_wkb at
 
 pub short : wkb_check (take 12 little) ≡ fault 0

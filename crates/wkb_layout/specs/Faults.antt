@@ -5,16 +5,16 @@ use Rattle.std.specs.Float.Ieee.{of_bits, eq}
 use Rattle.refusals.specs.Refusals.{refused_wkb, none, unless, first_of}
 use Rattle.refusals.specs.Bounds.{coordinate}
 use Rattle.refusals.specs.Rings.{within}
-use Rattle.refusals.specs.declared.Refusal.{Refusal}
+use Rattle.refusals.specs.Refusals.{Told}
 use Rattle.wkb_layout.specs.Layout.{number_bytes, point_bytes, type_at, rings_at, points_at, head_bytes, polygon_type, points_least, points_most, read_as, order_in, code_in, bits_in, open_vertices}
 use Rattle.wkb_layout.specs.declared.Order.{Order}
 
 -- what must hold, or else the fault at a byte
-abbrev pub wkb_fault : Bool → ℕ → Refusal
+abbrev pub wkb_fault : Bool → ℕ → Told
 wkb_fault ok at = unless ok refused_wkb at
 
 -- k coordinates in file order, the first of them at the byte `at`
-unfoldable pub numbers_check : Order → ℕ → ℕ → List ℕ → Refusal
+unfoldable pub numbers_check : Order → ℕ → ℕ → List ℕ → Told
 numbers_check o zero at f = none
 numbers_check o (suc k) at f =
     first_of
@@ -35,7 +35,7 @@ closes f =
     eq (number_in f head_bytes) (number_in f (closing_at f)) && eq (number_in f (head_bytes + number_bytes)) (number_in f (closing_at f + number_bytes))
 
 -- "length under 13, byte order, type, rings, points, length, coordinates, closing point"
-unfoldable pub wkb_check : List ℕ → Refusal
+unfoldable pub wkb_check : List ℕ → Told
 wkb_check f =
     first_of
     (wkb_fault (leb head_bytes (length f)) 0

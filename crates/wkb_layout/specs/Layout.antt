@@ -1,5 +1,5 @@
 -- A polygon of one ring in well-known binary: its bytes in either byte order, and what a file holds if it is one. Definitions only.
-use Rattle.std.specs.Prelude.{ℕ, zero, suc, ◌+◌, ◌-◌, ◌*◌, ◌/◌, cond, List, [], ◌∷◌, ◌++◌, reverse, length, get_or, take, drop, eqb}
+use Rattle.std.specs.Prelude.{ℕ, zero, suc, ◌-◌, ◌*◌, ◌/◌, cond, List, [], ◌∷◌, ◌++◌, reverse, length, get_or, take, drop, eqb}
 use Rattle.number_bytes.specs.Bytes.{bytes_of, number_of}
 use Rattle.wkb_layout.specs.declared.Order.{Order}
 use Rattle.wkb_layout.specs.declared.Order.TheVariants.{Big, Little}

@@ -6,7 +6,7 @@ use Rattle.ring.specs.Room.{laid}
 use Rattle.refusals.specs.Answers.{Outcome, outcome, left}
 use Rattle.refusals.specs.Refusals.{first_of}
 use Rattle.refusals.specs.Screens.{short_room}
-use Rattle.refusals.specs.declared.Refusal.{Refusal}
+use Rattle.refusals.specs.Refusals.{Told}
 use Rattle.wkb_layout.specs.Layout.{open_vertices, open_numbers}
 use Rattle.wkb_layout.specs.Faults.{wkb_check}
 
@@ -15,7 +15,7 @@ abbrev pub open_ring : List ℕ → List Float
 open_ring f = map (of_bits binary64) (open_numbers f)
 
 -- the first of the tests that fails, for a room of so many numbers: 10 before 4
-unfoldable pub read_wkb_refusal : List ℕ → ℕ → Refusal
+unfoldable pub read_wkb_refusal : List ℕ → ℕ → Told
 read_wkb_refusal f room = first_of (wkb_check f ∷ short_room (2 * open_vertices f) room ∷ [])
 
 -- what the call answers, and the room as it leaves it

@@ -7,7 +7,7 @@ use Rattle.refusals.specs.Answers.{Outcome, outcome, left}
 use Rattle.refusals.specs.Refusals.{first_of}
 use Rattle.refusals.specs.Screens.{short_room}
 use Rattle.refusals.specs.Rows.{of_polygon}
-use Rattle.refusals.specs.declared.Refusal.{Refusal}
+use Rattle.refusals.specs.Refusals.{Told}
 use Rattle.wkb_layout.specs.Layout.{point_bytes, head_bytes, wkb_of}
 use Rattle.wkb_layout.specs.declared.Order.TheVariants.{Little}
 
@@ -24,7 +24,7 @@ abbrev pub drawing_size : List Float → ℕ
 drawing_size xs = head_bytes + point_bytes * suc (length xs / 2)
 
 -- the first of the tests that fails, for a room of so many bytes
-unfoldable pub write_wkb_refusal : List Float → ℕ → Refusal
+unfoldable pub write_wkb_refusal : List Float → ℕ → Told
 write_wkb_refusal xs size = first_of (of_polygon xs ∷ short_room (drawing_size xs) size ∷ [])
 
 -- what the call answers, and the room as it leaves it

@@ -1,24 +1,22 @@
 -- What a drawing that passes a check is known to be, and the checks one after the other. Assumes nothing.
-use Prim.Native.Nat.{ℕ, ◌+◌, ◌-◌, ◌*◌, ◌≤◌}
-use native.Mathlib.Omega.{arith}
+use Prim.Native.Nat.{ℕ, ◌+◌, ◌*◌, ◌≤◌}
 use mathlib.Core.Path.{◌≡◌, refl, sym, ap, ◌∙◌}
-use mathlib.Core.Bool.{Bool, true, false, ◌&&◌}
+use mathlib.Core.Bool.{true}
 use mathlib.Core.List.{List}
 use lib.ListN.{length, get_or, drop}
 use lib.Dec.{leb, eqb}
-use lib.Ieee.{Float, eq}
-use borrow.Author.Tests.{le-leb, leb-true, eqb-true}
+use borrow.Author.Tests.{leb-true, eqb-true}
 use Rattle.refusals.specs.Refusals.{refused_room, refused_wkb, passed, first}
 use Rattle.refusals.specs.Rings.{within}
 use Rattle.refusals.specs.Screens.{short_room}
-use Rattle.refusals.specs.declared.Refusal.{Refusal}
+use Rattle.refusals.specs.Refusals.{Told}
 use Rattle.refusals.proofs.First.{first_assoc}
 use Rattle.refusals.proofs.Sized.{row_parts, holds}
 use Rattle.refusals.proofs.Counts.{is_within}
-use Rattle.wkb_layout.specs.Layout.{head_bytes, number_bytes, point_bytes, type_at, rings_at, points_at, polygon_type, points_least, points_most, order_in, code_in, open_vertices}
-use Rattle.wkb_layout.specs.Faults.{wkb_fault, number_in, numbers_check, closing_at, closes, wkb_check}
+use Rattle.wkb_layout.specs.Layout.{head_bytes, point_bytes, type_at, rings_at, points_at, polygon_type, points_least, points_most, order_in, code_in, open_vertices}
+use Rattle.wkb_layout.specs.Faults.{wkb_fault, numbers_check, closing_at, closes, wkb_check}
 use Rattle.wkb_layout.specs.Reader.{read_wkb_refusal}
-use Rattle.wkb_reader.specs.Parts.{value_ok, head_check}
+use Rattle.wkb_reader.specs.Parts.{head_check}
 
 -- a file whose length and fields pass
 pub record Headed (f : List ℕ) : Type 0 where
@@ -27,10 +25,10 @@ pub record Headed (f : List ℕ) : Type 0 where
   pub whole : length f ≡ head_bytes + point_bytes * code_in f points_at
 
 module _ (f : List ℕ) where
-  abbrev points : Refusal
+  abbrev points : Told
   points = wkb_fault (within points_least points_most (code_in f points_at)) points_at
 
-  abbrev size : Refusal
+  abbrev size : Told
   size = wkb_fault (eqb (length f) (head_bytes + point_bytes * code_in f points_at)) 0
 
   pub headed : passed (head_check f) ≡ true → Headed f
@@ -49,33 +47,12 @@ module _ (f : List ℕ) where
       record { least = w.0; most = w.1; whole = eqb-true (length f) (head_bytes + point_bytes * code_in f points_at) (holds (eqb (length f) (head_bytes + point_bytes * code_in f points_at)) refused_wkb 0 refl e.1) }
 
   -- the coordinates, and the closing point
-  abbrev pub rest : Refusal
+  abbrev pub rest : Told
   rest = first (numbers_check (order_in f) (2 * code_in f points_at) head_bytes (drop head_bytes f)) (wkb_fault (closes f) (closing_at f))
 
   pub check_is : wkb_check f ≡ first (head_check f) rest
   unfolding wkb_check head_check
   check_is = sym (rw (first_assoc, first_assoc, first_assoc, first_assoc, first_assoc))
-
--- two tests told at one byte
-two_tests : (a b : Bool) (at : ℕ) → first (wkb_fault a at) (wkb_fault b at) ≡ wkb_fault (a && b) at
-two_tests true b at = refl
-two_tests false b at = refl
-
--- the tests of the fields, put together
-pub head_is : (f : List ℕ) {order kind rings number whole : Refusal} → head_bytes ≤ length f
-    → order ≡ wkb_fault (value_ok 0 (get_or f 0 0)) 0 → kind ≡ wkb_fault (value_ok 1 (code_in f type_at)) type_at
-    → rings ≡ wkb_fault (value_ok 2 (code_in f rings_at)) rings_at → number ≡ wkb_fault (value_ok 3 (code_in f points_at)) points_at
-    → whole ≡ wkb_fault (eqb (length f) (head_bytes + point_bytes * code_in f points_at)) 0
-    → first order (first kind (first rings (first number whole))) ≡ head_check f
-unfolding head_check
-head_is f l a b c d e = rw (a, b, c, d, e, le-leb head_bytes (length f) l)
-
--- the two tests of the closing point
-pub closing_is : (f : List ℕ) (n : ℕ) {a b c d : Float} → n ≡ open_vertices f → a ≡ number_in f head_bytes → b ≡ number_in f (head_bytes + point_bytes * n)
-    → c ≡ number_in f (head_bytes + number_bytes) → d ≡ number_in f (head_bytes + point_bytes * n + number_bytes)
-    → first (wkb_fault (eq a b) (head_bytes + point_bytes * n)) (wkb_fault (eq c d) (head_bytes + point_bytes * n)) ≡ wkb_fault (closes f) (closing_at f)
-unfolding closes
-closing_is f n {a} {b} {c} {d} e p q r s = rw (p, q, r, s, e) (two_tests (eq (number_in f head_bytes) (number_in f (closing_at f))) (eq (number_in f (head_bytes + number_bytes)) (number_in f (closing_at f + number_bytes))) (closing_at f))
 
 -- a file that passes all checks, and one that a room holds
 pub passing : (f : List ℕ) → passed (wkb_check f) ≡ true → Headed f

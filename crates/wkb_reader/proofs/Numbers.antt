@@ -9,7 +9,7 @@ use lib.Seq.{sets, drop-drop}
 use lib.Ieee.{Float, binary64, of_bits}
 use Rattle.refusals.specs.Refusals.{refused_wkb, none, refuse, first}
 use Rattle.refusals.specs.Bounds.{coordinate}
-use Rattle.refusals.specs.declared.Refusal.{Refusal}
+use Rattle.refusals.specs.Refusals.{Told}
 use Rattle.wkb_layout.specs.Layout.{head_bytes, number_bytes, order_in, bits_in, numbers_in}
 use Rattle.wkb_layout.specs.Faults.{wkb_fault, number_in, numbers_check}
 
@@ -18,7 +18,7 @@ abbrev pub number_at : ℕ → ℕ
 number_at j = head_bytes + number_bytes * j
 
 -- the check of k coordinates, and what k of them are, from coordinate j on
-abbrev pub check_from : List ℕ → ℕ → ℕ → Refusal
+abbrev pub check_from : List ℕ → ℕ → ℕ → Told
 check_from f k j = numbers_check (order_in f) k (number_at j) (drop (number_at j) f)
 
 abbrev pub numbers_from : List ℕ → ℕ → ℕ → List Float

@@ -1,25 +1,13 @@
 -- Parts of the checks of a file, as the reader makes them. Definitions only.
-use Rattle.std.specs.Prelude.{ℕ, zero, suc, ◌+◌, ◌*◌, Bool, false, List, [], ◌∷◌, length, get_or, leb, eqb}
+use Rattle.std.specs.Prelude.{ℕ, ◌+◌, ◌*◌, List, [], ◌∷◌, length, get_or, leb, eqb}
 use Rattle.refusals.specs.Refusals.{first_of}
 use Rattle.refusals.specs.Rings.{within}
-use Rattle.refusals.specs.declared.Refusal.{Refusal}
+use Rattle.refusals.specs.Refusals.{Told}
 use Rattle.wkb_layout.specs.Layout.{point_bytes, type_at, rings_at, points_at, head_bytes, polygon_type, points_least, points_most, code_in}
 use Rattle.wkb_layout.specs.Faults.{wkb_fault}
 
--- whether the value of the field with a number is right
-abbrev pub value_ok : ℕ → ℕ → Bool
--- 0: the byte order
-value_ok zero value = leb value 1
--- 1: the type
-value_ok (suc zero) value = eqb value polygon_type
--- 2: the rings
-value_ok (suc (suc zero)) value = eqb value 1
--- 3: the points
-value_ok (suc (suc (suc zero))) value = within points_least points_most value
-value_ok (suc (suc (suc (suc field)))) value = false
-
 -- the length and the fields, up to the coordinates
-unfoldable pub head_check : List ℕ → Refusal
+unfoldable pub head_check : List ℕ → Told
 head_check f =
     first_of
     (wkb_fault (leb head_bytes (length f)) 0

@@ -17,10 +17,8 @@ pub fn load(f: &[u8], room: &mut [f64]) -> usize
     ensures room_after { room.new ≡ laid (open_ring f.now) room.old }
 {
     let n = points(f) as usize - 1;
-    let mut j = 0;
-    while j < 2 * n {
+    for j in 0..2 * n {
         room[j] = number(f, HEAD_BYTES + NUMBER_BYTES * j);
-        j += 1;
     }
     n
 }

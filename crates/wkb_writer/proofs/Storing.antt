@@ -3,8 +3,8 @@
 use Prim.Native.Nat.{ℕ, suc, ◌+◌, ◌*◌, ◌≤◌, ◌<◌}
 use native.Mathlib.Omega.{arith}
 use mathlib.Core.Path.{◌≡◌, refl, ap, ap₂, ◌∙◌}
-use mathlib.Core.List.{List, [], ◌∷◌, ◌++◌, map}
-use lib.ListN.{length, get_or, drop, set, drop_of_length-le}
+use mathlib.Core.List.{List, map}
+use lib.ListN.{length, get_or, drop, drop_of_length-le}
 use lib.Seq.{sets, drop-cons}
 use lib.Ieee.{Float, nan, binary64, to_bits}
 use Rattle.number_bytes.specs.Bytes.{bytes_of}

@@ -29,10 +29,8 @@ fn put_numbers(xs: &[f64], room: &mut [u8], at: usize)
     requires { (at + number_bytes * length xs.now ≤ length room.old) × (length xs.now ≤ 512) }
     ensures { room.new ≡ sets room.old at (numbers_as Little (map (to_bits binary64) xs.now)) }
 {
-    let mut j = 0;
-    while j < xs.len() {
-        put(room, at + NUMBER_BYTES * j, NUMBER_BYTES, bits_of(xs[j]));
-        j += 1;
+    for (j, &x) in xs.iter().enumerate() {
+        put(room, at + NUMBER_BYTES * j, NUMBER_BYTES, bits_of(x));
     }
 }
 

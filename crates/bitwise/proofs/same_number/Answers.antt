@@ -1,6 +1,5 @@
 -- `bitwise::same_number` meets its contract: what has the same bits is the same. Assumes nothing.
-use mathlib.Core.Path.{sym}
-use mathlib.Core.Path.{subst}
+use mathlib.Core.Path.{sym, subst}
 use lib.Dec.{T}
 use Rattle.bitwise.proofs.Bits.{same_bits, no_nan}
 use Rattle.bitwise.proofs.same_number.Goals as goal
@@ -15,8 +14,5 @@ pub returns-then-b : goal.returns-then-b
 returns-then-b c =
     same_bits _ _ (subst T (sym c.well_formed.0.1) tt) (subst T (sym c.well_formed.1.0.1) tt)
 
-pub returns-else-b : goal.returns-else-b
-returns-else-b c = λ h. cc
-
-pub returns-else-a : goal.returns-else-a
-returns-else-a c = λ h. cc
+pub returns : goal.returns
+returns c = λ h. cc

@@ -14,11 +14,11 @@ step r i h a b d e = rw (add-one i, e, h, a, d, b)
 
 pub loop-i-init : goal.loop-i-init
 unfolding moments_to
-loop-i-init c = (omega arith, refl)
+loop-i-init c = refl
 
 pub loop-i-preserved : goal.loop-i-preserved
 loop-i-preserved c =
-    (omega arith, step _ _ c.loop-i.invariant.1 c.point_at.ensures c.next.ensures.0 c.point_at-in-loop-i.ensures c.grown-m.ensures)
+    step _ _ c.loop-i.invariant c.point_at.ensures c.next.ensures.0 c.point_at-in-loop-i.ensures c.grown-m.ensures
 
 pub returns : goal.returns
-returns c = c.loop-i.invariant.1 ∙ ap (moments_to _) (omega arith)
+returns c = c.loop-i.invariant ∙ ap (moments_to _) (omega arith)

@@ -14,11 +14,11 @@ step r i h a e = rw (e, h, a, add-one i)
 
 pub loop-i-init : goal.loop-i-init
 unfolding total_to
-loop-i-init c = (omega arith, refl)
+loop-i-init c = refl
 
 pub loop-i-preserved : goal.loop-i-preserved
 loop-i-preserved c =
-    (omega arith, step _ _ c.loop-i.invariant.1 c.point_at.ensures c.plus-sum.ensures)
+    step _ _ c.loop-i.invariant c.point_at.ensures c.plus-sum.ensures
 
 pub returns : goal.returns
-returns c = c.loop-i.invariant.1 ∙ ap (total_to _) (omega arith)
+returns c = c.loop-i.invariant ∙ ap (total_to _) (omega arith)

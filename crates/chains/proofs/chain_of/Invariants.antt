@@ -1,11 +1,8 @@
-use Prim.Native.Nat.{◌-◌, ◌≤◌, ◌<◌}
+use Prim.Native.Nat.{◌<◌}
 use mathlib.Core.Path.{◌≡◌}
 use Rattle.ring.specs.Ring.{point_at}
 use Rattle.chains.proofs.Edges.{Taken}
 use Rattle.chains.proofs.chain_of.Given as goal
 
 abbrev pub invariant-loop-e : goal.invariant-loop-e
-invariant-loop-e l = (l.from ≤ l.e) × Taken l.edges l.dir l.from l.frame l.far l.e × (l.e < l.to → l.p ≡ point_at l.edges l.e)
-
-abbrev pub decreases-loop-e : goal.decreases-loop-e
-decreases-loop-e l = l.to - l.e
+invariant-loop-e l = Taken l.edges l.dir l.from l.frame l.far l.e × (l.e < l.to → l.p ≡ point_at l.edges l.e)

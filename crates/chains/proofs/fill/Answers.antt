@@ -1,24 +1,20 @@
--- `chains::fill` meets its contract: `proofs/Table.antt` has the laws. The invariant: the chains of the edges below e are in the table, and e begins a chain unless no edge is left. Assumes nothing.
-use mathlib.Core.Path.{refl}
+-- `chains::fill` meets its contract: `proofs/Table.antt` has the laws. The invariant: the chains before c are in the table. Assumes nothing.
+use Prim.Native.Nat.{◌*◌, ◌/◌, ◌<◌, min}
+use mathlib.Core.Path.{◌≡◌}
 use native.Mathlib.Omega.{arith}
-use Rattle.chains.proofs.Table.{none_tabled, one_tabled}
+use Rattle.ring.specs.Ring.{count}
+use Rattle.chains.proofs.Table.{one_tabled, chain_to}
 use Rattle.chains.proofs.fill.Goals as goal
 
-pub loop-e-init : goal.loop-e-init
-loop-e-init c = (omega arith, refl, λ h. refl, none_tabled _ _ _)
-
-pub loop-e-preserved : goal.loop-e-preserved
-loop-e-preserved c =
-    let l = c.loop-e.invariant in
-    let whole = l.2 c.loop-e-test.true in
-    let end = c.chain_end-to.ensures in (
-      end.1,
-      omega (arith, c.put_chain.auto.table),
-      λ h. omega (arith, end.3 h, whole),
-      one_tabled _ _ _ _ _ _ l.3 whole (omega arith) (omega (arith, end.2, whole)) c.chain_of.ensures c.put_chain.ensures,
-    )
-
-pub returns : goal.returns
-returns c =
-    let l = c.loop-e.invariant in
-    λ k x i h. l.3 k x i (omega (arith, c.loop-e-test.false, h))
+pub loop-c-preserved : goal.loop-c-preserved
+loop-c-preserved c =
+    let k = c.loop-c.c in
+    let n = count c.args.edges.now in
+    let i = c.loop-c.invariant in
+    let end = c.chain_end.ensures in
+    let b : 8 * k < n = omega (arith, c.div_ceil-c-end.ensures, c.loop-c-test.true) in
+    let d : 8 * k / 8 ≡ k = omega arith in
+    let e : min (8 * k) n ≡ 8 * k = omega (arith, b) in
+    let f = chain_to k n _ end.1 end.2 end.3 in
+    let t = one_tabled _ _ _ (8 * k) c.chain_end.result c.chain_of.result {u = c.put_chain.new.table} (rw e at i.1) (omega arith) (omega (arith, i.0, b, c.requires)) (omega (arith, end.2)) c.chain_of.ensures (rw d c.put_chain.ensures) in
+    (omega (arith, c.put_chain.auto.table, i.0), rw f at t)

@@ -3,10 +3,10 @@ use mathlib.Core.Path.{refl}
 use Rattle.choose.specs.Choose.{taken_by}
 use Rattle.choose.proofs.taken.Goals as goal
 
-pub returns-in-Passed : goal.returns-in-Passed
+pub returns-in-None : goal.returns-in-None
 unfolding taken_by
-returns-in-Passed c = rw c.in-Passed.is refl
+returns-in-None c = rw c.in-None.is refl
 
-pub returns-in-Raised : goal.returns-in-Raised
+pub returns-in-Some : goal.returns-in-Some
 unfolding taken_by
-returns-in-Raised c = rw c.in-Raised.is refl
+returns-in-Some c = rw c.in-Some.is refl

@@ -1,4 +1,4 @@
-use Prim.Native.Nat.{◌-◌, ◌≤◌}
+use Prim.Native.Nat.{◌-◌}
 use mathlib.Core.Path.{◌≡◌}
 use lib.ListN.{length}
 use Rattle.drawn_aside.specs.Found.{found_by, edge_first, least_from}
@@ -6,9 +6,5 @@ use Rattle.clear_aside.proofs.search_on.Given as goal
 
 abbrev pub invariant-loop-how : goal.invariant-loop-how
 invariant-loop-how l =
-    (l.how ≤ 21)
-    × (least_from (found_by l.st l.a l.b l.from l.to) 1 20 (edge_first l.j) ≡ least_from (found_by l.st l.a l.b l.from l.to) l.how (21 - l.how) (edge_first l.j))
+    (least_from (found_by l.st l.a l.b l.from l.to) 1 20 (edge_first l.j) ≡ least_from (found_by l.st l.a l.b l.from l.to) l.how (21 - l.how) (edge_first l.j))
     × (length l.lines ≡ length l.initial.lines)
-
-abbrev pub decreases-loop-how : goal.decreases-loop-how
-decreases-loop-how l = 21 - l.how

@@ -1,4 +1,4 @@
-use Prim.Native.Nat.{◌-◌, ◌≤◌}
+use Prim.Native.Nat.{◌-◌}
 use mathlib.Core.Path.{◌≡◌}
 use Rattle.clear_drawn_path.specs.Path.{deepened, legs_from}
 use Rattle.clear_drawn_path.specs.Lent.{leg_at}
@@ -6,7 +6,4 @@ use Rattle.clear_drawn_path.proofs.first_leg.Given as goal
 
 abbrev pub invariant-loop-i : goal.invariant-loop-i
 invariant-loop-i l =
-    (l.i ≤ l.legs) × (legs_from (leg_at l.st l.disc l.path) 0 l.legs ≡ deepened l.depth (legs_from (leg_at l.st l.disc l.path) l.i (l.legs - l.i)))
-
-abbrev pub decreases-loop-i : goal.decreases-loop-i
-decreases-loop-i l = l.legs - l.i
+    legs_from (leg_at l.st l.disc l.path) 0 l.legs ≡ deepened l.depth (legs_from (leg_at l.st l.disc l.path) l.i (l.legs - l.i))

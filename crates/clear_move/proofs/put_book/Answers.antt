@@ -14,31 +14,31 @@ use Rattle.clear_move.proofs.put_book.Goals as goal
 pub put_rings-requires-clause-n_le_vertices_most : goal.put_rings-requires-clause-n_le_vertices_most
 put_rings-requires-clause-n_le_vertices_most c =
     let f = c.args.book.now in
-    let p = pair_read f (λ i. omega (arith, c.type_inv.book i)) _ _ _ c.read_book.result c.read_book.ensures c.in-Is.rings c.in-Is.is in
+    let p = pair_read f (λ i. omega (arith, c.type_inv.book i)) _ _ _ c.read_book.result c.read_book.ensures c.in-Ok.rings c.in-Ok.is in
     (p.first_most, p.second_most, p.both_inside)
 
 pub put_rings-requires-clause-xs_value : goal.put_rings-requires-clause-xs_value
 put_rings-requires-clause-xs_value c =
     let f = c.args.book.now in
-    let q = read f (λ i. omega (arith, c.type_inv.book i)) _ _ _ c.read_book.result c.read_book.ensures c.in-Is.rings c.in-Is.is in
+    let q = read f (λ i. omega (arith, c.type_inv.book i)) _ _ _ c.read_book.result c.read_book.ensures c.in-Ok.rings c.in-Ok.is in
     (q.bounded, omega arith)
 
-pub returns-in-Is : goal.returns-in-Is
+pub returns-in-Ok : goal.returns-in-Ok
 unfolding book_text
-returns-in-Is c =
+returns-in-Ok c =
     let a = c.args in
     let f = a.book.now in
-    let p = pair_read f (λ i. omega (arith, c.type_inv.book i)) _ _ _ c.read_book.result c.read_book.ensures c.in-Is.rings c.in-Is.is in
-    let q = read f (λ i. omega (arith, c.type_inv.book i)) _ _ _ c.read_book.result c.read_book.ensures c.in-Is.rings c.in-Is.is in
+    let p = pair_read f (λ i. omega (arith, c.type_inv.book i)) _ _ _ c.read_book.result c.read_book.ensures c.in-Ok.rings c.in-Ok.is in
+    let q = read f (λ i. omega (arith, c.type_inv.book i)) _ _ _ c.read_book.result c.read_book.ensures c.in-Ok.rings c.in-Ok.is in
     reads
     (same_rings _ _ _ _ q.told q.whole (to_z-of_z w32 _ c.ranges.dx) (to_z-of_z w32 _ c.ranges.dy)
     ∙ pair_said (λ (st orb : List Float). rings_text (length (counts_of f)) (numbers_of f) st orb a.dx a.dy) refusal_line f p)
     c.put_rings.ensures
 
-pub returns-in-Refused : goal.returns-in-Refused
+pub returns-in-Err : goal.returns-in-Err
 unfolding book_text
-returns-in-Refused c =
+returns-in-Err c =
     let a = c.args in
     let f = a.book.now in
-    let q = fault_read f (λ i. omega (arith, c.type_inv.book i)) _ _ _ _ c.read_book.ensures c.in-Refused.no c.in-Refused.is in
+    let q = fault_read f (λ i. omega (arith, c.type_inv.book i)) _ _ _ _ c.read_book.ensures c.in-Err.no c.in-Err.is in
     reads (fault_said (λ (st orb : List Float). rings_text (length (counts_of f)) (numbers_of f) st orb a.dx a.dy) refusal_line f q) c.put_refusal.ensures

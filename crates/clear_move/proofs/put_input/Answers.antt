@@ -8,7 +8,7 @@ use Rattle.clear_move.proofs.put_input.Goals as goal
 
 pub returns-then-input-lt-MOVE_BYTES : goal.returns-then-input-lt-MOVE_BYTES
 returns-then-input-lt-MOVE_BYTES c =
-    reads (ap refusal_line c.new.ensures ∙ too_short c.args.input.now c.if-input-lt-MOVE_BYTES.true) c.put_refusal.ensures
+    reads (too_short c.args.input.now c.if-input-lt-MOVE_BYTES.true) c.put_refusal.ensures
 
 pub returns : goal.returns
 returns c =

@@ -9,7 +9,7 @@ use Rattle.clear_move.proofs.put_rings.Goals as goal
 pub returns-then-rings-eq1 : goal.returns-then-rings-eq1
 returns-then-rings-eq1 c =
     let a = c.args in
-    reads (ap refusal_line c.new.ensures ∙ one_ring a.rings a.xs.now _ _ a.dx a.dy c.if-rings-eq1.true) c.put_refusal.ensures
+    reads (one_ring a.rings a.xs.now _ _ a.dx a.dy c.if-rings-eq1.true) c.put_refusal.ensures
 
 pub returns-then-are_whole : goal.returns-then-are_whole
 returns-then-are_whole c =
@@ -23,6 +23,5 @@ pub returns-else-are_whole : goal.returns-else-are_whole
 returns-else-are_whole c =
     let a = c.args in
     reads
-    (ap refusal_line c.new-else-are_whole.ensures
-    ∙ not_whole a.rings a.xs.now _ _ a.dx a.dy c.if-rings-eq1.false (sym c.are_whole.ensures ∙ c.if-are_whole.false))
+    (not_whole a.rings a.xs.now _ _ a.dx a.dy c.if-rings-eq1.false (sym c.are_whole.ensures ∙ c.if-are_whole.false))
     c.put_refusal-else-are_whole.ensures

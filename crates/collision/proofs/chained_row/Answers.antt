@@ -1,39 +1,43 @@
--- `collision::chained_row` meets its contract: `proofs/Passed.antt` has the laws. The invariant: the edges below e are taken. Assumes nothing.
+-- `collision::chained_row` meets its contract: `proofs/Passed.antt` has the laws. The invariant: the chains before c are taken. Assumes nothing.
+use Prim.Native.Nat.{◌+◌, ◌*◌, ◌/◌, ◌<◌, ◌≤◌, min}
+use mathlib.Core.Path.{◌≡◌}
 use native.Mathlib.Omega.{arith}
+use Rattle.ring.specs.Ring.{count}
+use Rattle.chains.proofs.Table.{chain_to}
 use Rattle.collision.proofs.Rows.{at_first, and_then, all_of}
 use Rattle.collision.proofs.Passed.{chain_passed, onward_missed}
 use Rattle.collision.proofs.chained_row.Goals as goal
+use Rattle.collision.proofs.chained_row.Goals.{then-not-is_passed, else-not-is_passed}
 
-pub loop-e-init : goal.loop-e-init
-loop-e-init c = (omega arith, at_first _ _ _)
+pub loop-c-init : goal.loop-c-init
+loop-c-init c = let z : min 0 (count c.args.edges.now) ≡ 0 = omega arith in rw z (at_first _ _ _)
 
 pub is_passed-requires : goal.is_passed-requires
 is_passed-requires c =
     let r = c.requires in
-    omega (arith, r.room, r.few.edges)
-
-pub loop-e-smaller-then-is_passed : goal.loop-e-smaller-then-is_passed
-loop-e-smaller-then-is_passed c = omega (arith, c.chain_end-to.ensures.0)
-
-pub loop-e-preserved-then-is_passed : goal.loop-e-preserved-then-is_passed
-loop-e-preserved-then-is_passed c =
-    let end = c.chain_end-to.ensures in (
-      end.1,
-      and_then c.loop-e.invariant.1
-          (onward_missed _ _ _ _ _ _ _ _ (omega (arith, end.0)) (chain_passed _ _ _ _ _ _ c.requires c.is_passed.ensures c.if-is_passed.true end.2 end.1)),
-    )
+    omega (arith, r.room, r.few.edges, c.div_ceil-c-end.ensures, c.loop-c-test.true)
 
 pub row-best-requires : goal.row-best-requires
 row-best-requires c = let end = c.chain_end-to.ensures in (omega (arith, end.0), end.1)
 
-pub loop-e-smaller : goal.loop-e-smaller
-loop-e-smaller c = omega (arith, c.chain_end-to.ensures.0)
-
-pub loop-e-preserved : goal.loop-e-preserved
-loop-e-preserved c =
-    (c.chain_end-to.ensures.1, and_then c.loop-e.invariant.1 c.row-best.ensures)
+pub loop-c-preserved : goal.loop-c-preserved
+loop-c-preserved c =
+    let k = c.loop-c.c in
+    let n = count c.args.edges.now in
+    let b : 8 * k < n = omega (arith, c.div_ceil-c-end.ensures, c.loop-c-test.true) in
+    let d : 8 * k / 8 ≡ k = omega arith in
+    let e : min (8 * k) n ≡ 8 * k = omega (arith, b) in
+    let i = rw e at c.loop-c.invariant in
+    elim c.if-not-is_passed.branch [
+      | then-not-is_passed w ↦
+          let end = w.chain_end-to.ensures in
+          let f = chain_to k n _ end.1 end.2 end.3 in
+          rw (w.best-is, ← f) (and_then i w.row-best.ensures)
+      | else-not-is_passed w ↦
+          let l : 8 * k ≤ min (8 * (k + 1)) n = omega (arith, b) in
+          let m = chain_passed _ _ _ _ (8 * k) (min (8 * (k + 1)) n) c.requires (rw d c.is_passed.ensures) w.if-not-is_passed.false (omega arith) (omega arith) in
+          rw w.best-is (and_then i (onward_missed _ _ _ _ _ _ _ _ l m))
+    ]
 
 pub returns : goal.returns
-returns c =
-    let i = c.loop-e.invariant in
-    all_of (omega (arith, i.0, c.loop-e-test.false)) i.1
+returns c = all_of (omega (arith, c.div_ceil-c-end.ensures, c.loop-c-test.false)) c.loop-c.invariant

@@ -8,12 +8,12 @@ returns-in_default c = rw c.in_default.is
 
 pub returns-then-distance-sweep-2 : goal.returns-then-distance-sweep-2
 unfolding counted_of
-returns-then-distance-sweep-2 c = rw (c.in-At.is, c.if-distance-sweep.true, c.if-distance-sweep-2.true)
+returns-then-distance-sweep-2 c = rw (c.in-Some.is, c.if-distance-sweep.true, c.if-distance-sweep-2.true)
 
 pub returns-else-distance-sweep-2 : goal.returns-else-distance-sweep-2
 unfolding counted_of
-returns-else-distance-sweep-2 c = rw (c.in-At.is, c.if-distance-sweep.true, c.if-distance-sweep-2.false)
+returns-else-distance-sweep-2 c = rw (c.in-Some.is, c.if-distance-sweep.true, c.if-distance-sweep-2.false)
 
 pub returns-else-distance-sweep : goal.returns-else-distance-sweep
 unfolding counted_of
-returns-else-distance-sweep c = rw (c.in-At.is, c.if-distance-sweep.false)
+returns-else-distance-sweep c = rw (c.in-Some.is, c.if-distance-sweep.false)

@@ -3,10 +3,6 @@ use lib.Ieee.{div, of_bits}
 use Rattle.collision.specs.Row.{least_of}
 use Rattle.collision.proofs.least.Goals as goal
 
-pub returns-in_default : goal.returns-in_default
+pub returns-in-None : goal.returns-in-None
 unfolding least_of div of_bits
-returns-in_default c = rw c.in_default.is
-
-pub returns : goal.returns
-unfolding least_of
-returns c = rw c.in-Hit.is
+returns-in-None c = rw c.in-None.is

@@ -8,26 +8,25 @@ use Rattle.plane.specs.Vector.{minus_of, cross_of}
 use Rattle.plane.specs.declared.Point.{Point}
 use Rattle.collision.specs.Ray.{ray_within, ray_of}
 use Rattle.collision.specs.Parts.{within_segment, in_front}
-use Rattle.collision.specs.declared.Ray.{Ray}
-use Rattle.collision.specs.declared.Ray.TheVariants.{Miss}
+use Rattle.std.specs.Prelude.{Option, None}
 use Rattle.collision.proofs.ray_segment_intersection.Goals as goal
 
 module _ (o d p q : Point) (tol : Float) {seg diff : Point} {den y : Float} {on : Bool} (es : seg ≡ minus_of q p) (ed : den ≡ cross_of d seg) (f : diff ≡ minus_of p o) (ey : y ≡ cross_of diff d)
     (eo : on ≡ within_segment (y ⊘ den) tol) where
-  beside : on ≡ false → Miss ≡ ray_of o d p q tol
+  beside : on ≡ false → None ≡ ray_of o d p q tol
   unfolding ray_of ray_within
   beside h = rw (← es, ← ed, ← f, ← ey, ← eo, h, and-false _) (sym (either (lt (abs_of den) tol)))
     where
-      either : (b : Bool) → cond b Miss Miss ≡ Miss
+      either : (b : Bool) → ◌≡◌ {A = Option Float} (cond b None None) None
       either true = refl
       either false = refl
 
   module _ {small : Bool} (h : on ≡ true) (ea : small ≡ lt (abs_of den) tol) where
-    parallel : small ≡ true → Miss ≡ ray_of o d p q tol
+    parallel : small ≡ true → None ≡ ray_of o d p q tol
     unfolding ray_of
     parallel t = rw (← es, ← ed, ← ea, t)
 
-    within : {x : Float} → small ≡ false → x ≡ cross_of diff seg → {r : Ray} → r ≡ in_front (x ⊘ den) tol → r ≡ ray_of o d p q tol
+    within : {x : Float} → small ≡ false → x ≡ cross_of diff seg → {r : Option Float} → r ≡ in_front (x ⊘ den) tol → r ≡ ray_of o d p q tol
     unfolding ray_of ray_within
     within t ex e = rw (e, ex, ← es, ← ed, ← ea, t, ← f, ← ey, ← eo, h, and-true _)
 

@@ -2,26 +2,24 @@
 use native.Mathlib.Omega.{arith}
 use Rattle.collision.proofs.Rows.{none_yet, replaced, stayed, passed, all_of}
 use Rattle.collision.proofs.row.Goals as goal
+use Rattle.collision.proofs.row.Goals.{in-Some+then-counts_below, in-Some+else-counts_below, in_default}
 
 pub loop-e-init : goal.loop-e-init
-loop-e-init c = (omega arith, omega arith, none_yet _ _ _ _ _ _ _ c.least-near.ensures)
-
-pub loop-e-preserved-then-counts_below : goal.loop-e-preserved-then-counts_below
-loop-e-preserved-then-counts_below c =
-    let i = c.loop-e.invariant in
-    (omega (arith, i.0), omega arith, replaced _ _ _ _ _ _ _ i.2 c.edge_ray-ray.ensures c.in-At.is c.counts_below.ensures c.if-counts_below.true c.pair-best.ensures)
-
-pub loop-e-preserved-else-counts_below : goal.loop-e-preserved-else-counts_below
-loop-e-preserved-else-counts_below c =
-    let i = c.loop-e.invariant in
-    (omega (arith, i.0), omega arith, stayed _ _ _ _ _ _ _ i.2 c.edge_ray-ray.ensures c.in-At.is c.counts_below.ensures c.if-counts_below.false)
+loop-e-init c = none_yet _ _ _ _ _ _ _ c.least-near.ensures
 
 pub loop-e-preserved : goal.loop-e-preserved
 loop-e-preserved c =
     let i = c.loop-e.invariant in
-    (omega (arith, i.0), omega arith, passed _ _ _ _ _ _ _ i.2 c.edge_ray-ray.ensures c.in_default.is)
+    elim c.match-ray.branch [
+      | in-Some+then-counts_below w ↦
+          rw (w.best-is, w.near-is)
+          (replaced _ _ _ _ _ _ _ i c.edge_ray-ray.ensures w.in-Some.is w.counts_below.ensures w.if-counts_below.true w.pair-best.ensures)
+      | in-Some+else-counts_below w ↦
+          rw (w.best-is, w.near-is) (stayed _ _ _ _ _ _ _ i c.edge_ray-ray.ensures w.in-Some.is w.counts_below.ensures w.if-counts_below.false)
+      | in_default w ↦ rw (w.best-is, w.near-is) (passed _ _ _ _ _ _ _ i c.edge_ray-ray.ensures w.in_default.is)
+    ]
 
 pub returns : goal.returns
 returns c =
     let i = c.loop-e.invariant in
-    all_of (omega (arith, i.1, c.loop-e-test.false)) i.2.taken
+    all_of (omega (arith, c.loop-e.auto.e-end (omega arith), c.loop-e-test.false)) i.taken

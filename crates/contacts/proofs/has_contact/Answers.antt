@@ -1,10 +1,15 @@
 -- `contacts::has_contact` meets its contract: the first contact from pair 0 on is there or not. Assumes nothing.
-use mathlib.Core.Path.{refl}
-use Rattle.contacts.proofs.Following.{next_at, next_none}
+use mathlib.Core.Path.{◌≡◌, refl, ap, ◌∙◌}
+use mathlib.Core.List.{List, [], ◌∷◌}
+use Prim.Native.Nat.{ℕ}
+use Rattle.std.specs.Option.{is_some}
+use Rattle.contacts.specs.Contacts.{first_contact, some_of}
 use Rattle.contacts.proofs.has_contact.Goals as goal
 
-pub returns-in-Nothing : goal.returns-in-Nothing
-returns-in-Nothing c = rw (next_none _ _ _ 0 c.next_contact.ensures c.in-Nothing.is) refl
+-- a list has a first number where it has any
+some_first : (l : List ℕ) → is_some (first_contact l) ≡ some_of l
+some_first [] = refl
+some_first (k ∷ l) = refl
 
-pub returns-in-At : goal.returns-in-At
-returns-in-At c = rw (next_at _ _ _ c.next_contact.ensures c.in-At.is).then refl
+pub returns : goal.returns
+returns c = c.is_some.ensures ∙ ap is_some c.next_contact.ensures ∙ some_first _

@@ -9,14 +9,14 @@ use Rattle.directions.proofs.fill.Goals as goal
 
 pub loop-i-init : goal.loop-i-init
 unfolding points
-loop-i-init c = (omega arith, refl, refl)
+loop-i-init c = (refl, refl)
 
 pub loop-i-preserved : goal.loop-i-preserved
 loop-i-preserved c =
     let v = c.loop-i.invariant in
-    (omega arith, omega (arith, c.put.auto.room), put_next _ _ _ (omega arith) v.2 (c.normalize.ensures ∙ ap normalize_of c.edge.ensures) c.put.ensures)
+    (omega (arith, c.put.auto.room), put_next _ _ _ (omega arith) v.1 (c.normalize.ensures ∙ ap normalize_of c.edge.ensures) c.put.ensures)
 
 pub returns : goal.returns
 returns c =
     let v = c.loop-i.invariant in
-    filled _ _ (omega arith) (put_all _ _ _ _ v.0 c.loop-i-test.false v.2)
+    filled _ _ (omega arith) (put_all _ _ _ _ c.loop-i.auto.i-end c.loop-i-test.false v.1)

@@ -8,12 +8,12 @@ use Rattle.discs.proofs.draw.Goals as goal
 
 pub loop-i-init : goal.loop-i-init
 unfolding points
-loop-i-init c = (omega arith, refl, refl)
+loop-i-init c = (refl, refl)
 
 pub loop-i-preserved : goal.loop-i-preserved
 loop-i-preserved c =
-    (omega arith, omega (arith, c.put.auto.room), put_next _ _ _ (omega arith) c.loop-i.invariant.2 c.vertex.ensures c.put.ensures)
+    (omega (arith, c.put.auto.room), put_next _ _ _ (omega arith) c.loop-i.invariant.1 c.vertex.ensures c.put.ensures)
 
 pub returns : goal.returns
 unfolding disc_of
-returns c = put_all _ _ _ _ c.loop-i.invariant.0 c.loop-i-test.false c.loop-i.invariant.2
+returns c = put_all _ _ _ _ c.loop-i.auto.i-end c.loop-i-test.false c.loop-i.invariant.1

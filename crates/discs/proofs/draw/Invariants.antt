@@ -1,4 +1,4 @@
-use Prim.Native.Nat.{◌*◌, ◌-◌, ◌≤◌}
+use Prim.Native.Nat.{◌*◌}
 use mathlib.Core.Path.{◌≡◌}
 use mathlib.Core.List.{◌++◌}
 use lib.ListN.{length, drop}
@@ -8,7 +8,4 @@ use Rattle.discs.proofs.draw.Given as goal
 
 abbrev pub invariant-loop-i : goal.invariant-loop-i
 invariant-loop-i l =
-    (l.i ≤ l.n) × (length l.room ≡ length l.initial.room) × (l.room ≡ points (vertex_of l.centre l.radius l.m) l.i ++ drop (2 * l.i) l.initial.room)
-
-abbrev pub decreases-loop-i : goal.decreases-loop-i
-decreases-loop-i l = l.n - l.i
+    (length l.room ≡ length l.initial.room) × (l.room ≡ points (vertex_of l.centre l.radius l.m) l.i ++ drop (2 * l.i) l.initial.room)

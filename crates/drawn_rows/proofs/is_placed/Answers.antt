@@ -30,7 +30,7 @@ pub lay-requires : goal.lay-requires
 lay-requires c = record { list_value = (c.requires.orbiting_value.0, c.requires.le_units.0, c.requires.le_units.1); list_in_bounds = c.requires.le_units.2 }
 
 pub loop-i-init : goal.loop-i-init
-loop-i-init c = (omega arith, all_left _ _)
+loop-i-init c = all_left _ _
 
 pub on_grid-x-requires : goal.on_grid-x-requires
 on_grid-x-requires c =
@@ -46,11 +46,12 @@ slice_bounds-are_moved_within-end c =
 
 pub loop-i-preserved : goal.loop-i-preserved
 loop-i-preserved c =
-    (omega arith, c.loop-i.invariant.1 ∙ each_on _ _ _ c.loop-i-test.true (sym (is (up-After-are_moved_within _ _ _ _ _ _ c.before.before)) ∙ c.if-are_moved_within.true))
+    let t = c.if-not-are_moved_within.false in
+    c.loop-i.invariant ∙ each_on _ _ _ c.loop-i-test.true (sym (is (up-After-are_moved_within _ _ _ _ _ _ c.before.before)) ∙ t)
 
-pub returns-else-are_moved_within : goal.returns-else-are_moved_within
-returns-else-are_moved_within c =
-    sym (c.loop-i.invariant.1 ∙ each_off _ _ _ c.loop-i-test.true (sym (is (up-After-are_moved_within _ _ _ _ _ _ c.before.before)) ∙ c.if-are_moved_within.false))
+pub returns-then-not-are_moved_within : goal.returns-then-not-are_moved_within
+returns-then-not-are_moved_within c =
+    sym (c.loop-i.invariant ∙ each_off _ _ _ c.loop-i-test.true (sym (is (up-After-are_moved_within _ _ _ _ _ _ c.before.before)) ∙ c.if-not-are_moved_within.true))
 
 pub returns : goal.returns
-returns c = sym (c.loop-i.invariant.1 ∙ each_end _ _ _ c.loop-i-test.false)
+returns c = sym (c.loop-i.invariant ∙ each_end _ _ _ c.loop-i-test.false)

@@ -1,4 +1,4 @@
-use Prim.Native.Nat.{◌-◌, ◌≤◌}
+use Prim.Native.Nat.{◌-◌}
 use mathlib.Core.Path.{◌≡◌}
 use Rattle.ring.specs.Each.{each}
 use Rattle.clear_path.specs.Rows.{is_placed}
@@ -7,9 +7,5 @@ use Rattle.drawn_rows.proofs.is_placed.Given as goal
 
 abbrev pub invariant-loop-i : goal.invariant-loop-i
 invariant-loop-i l =
-    (l.i ≤ l.n)
-    × (each (is_placed (grid_of l.units l.orbiting) (grid_of l.units l.path)) 0 l.n
-    ≡ each (is_placed (grid_of l.units l.orbiting) (grid_of l.units l.path)) l.i (l.n - l.i))
-
-abbrev pub decreases-loop-i : goal.decreases-loop-i
-decreases-loop-i l = l.n - l.i
+    each (is_placed (grid_of l.units l.orbiting) (grid_of l.units l.path)) 0 l.n
+    ≡ each (is_placed (grid_of l.units l.orbiting) (grid_of l.units l.path)) l.i (l.n - l.i)

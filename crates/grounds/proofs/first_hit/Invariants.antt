@@ -1,9 +1,5 @@
-use Prim.Native.Nat.{◌-◌, ◌≤◌}
 use Rattle.collision.specs.Chained.{MissesTo}
 use Rattle.grounds.proofs.first_hit.Given as goal
 
 abbrev pub invariant-loop-e : goal.invariant-loop-e
-invariant-loop-e l = (l.from ≤ l.e) × (l.e ≤ l.to) × MissesTo l.edges l.sweep.dir l.sweep.tolerance l.origin l.from l.e
-
-abbrev pub decreases-loop-e : goal.decreases-loop-e
-decreases-loop-e l = l.to - l.e
+invariant-loop-e l = MissesTo l.edges l.sweep.dir l.sweep.tolerance l.origin l.from l.e

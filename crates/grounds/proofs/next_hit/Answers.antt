@@ -20,35 +20,31 @@ loop-e-init c = (omega arith, omega arith, none_missed _ _ _ _ _)
 pub is_passed-requires : goal.is_passed-requires
 is_passed-requires c = let r = ready (up-At-loop-e _ _ _ _ _ _ c.before.before.before.before) in omega (arith, r.room, r.few.edges)
 
-pub loop-e-smaller-then-is_passed : goal.loop-e-smaller-then-is_passed
-loop-e-smaller-then-is_passed c = omega (arith, c.chain_end-to.ensures.0)
+pub first_hit-requires-then-not-is_passed : goal.first_hit-requires-then-not-is_passed
+first_hit-requires-then-not-is_passed c = let end = c.chain_end-to.ensures in (omega (arith, end.0), end.1)
 
-pub loop-e-preserved-then-is_passed : goal.loop-e-preserved-then-is_passed
-loop-e-preserved-then-is_passed c =
-    let end = c.chain_end-to.ensures in
-    (omega (arith, c.loop-e.invariant.0, end.0), end.1, more_missed _ _ _ _ _ _ _ c.loop-e.invariant.2 (chain_passed _ _ _ _ _ _ (ready (up-At-loop-e _ _ _ _ _ _ c.before.before.before.before.before.before)) c.is_passed.ensures c.if-is_passed.true end.2 end.1))
+pub returns-in-Some : goal.returns-in-Some
+returns-in-Some c =
+    let i = c.loop-e.invariant in
+    let h = rw c.in-Some.is at c.first_hit-then-not-is_passed.ensures in
+    record { not_before = omega (arith, i.0, h.not_before); below = omega (arith, h.below, c.chain_end-to.ensures.1); misses = more_missed _ _ _ _ _ _ _ i.2 h.misses; hits = h.hits }
 
-pub first_hit-met-requires : goal.first_hit-met-requires
-first_hit-met-requires c = let end = c.chain_end-to.ensures in (omega (arith, end.0), end.1)
+pub loop-e-smaller-in_default : goal.loop-e-smaller-in_default
+loop-e-smaller-in_default c = omega (arith, c.chain_end-to.ensures.0)
 
-pub returns-then-met-to : goal.returns-then-met-to
-returns-then-met-to c =
+pub loop-e-preserved-in_default : goal.loop-e-preserved-in_default
+loop-e-preserved-in_default c =
     let i = c.loop-e.invariant in
     let end = c.chain_end-to.ensures in
-    let h = c.first_hit-met.ensures in
-    record { not_before = omega (arith, i.0, h.not_before); not_after = omega (arith, h.not_after, end.1); misses = more_missed _ _ _ _ _ _ _ i.2 h.misses; hits = λ z. h.hits c.if-met-to.true }
+    (omega (arith, i.0, end.0), end.1, more_missed _ _ _ _ _ _ _ i.2 (rw c.in_default.is at c.first_hit-then-not-is_passed.ensures))
 
 pub loop-e-smaller : goal.loop-e-smaller
 loop-e-smaller c = omega (arith, c.chain_end-to.ensures.0)
 
 pub loop-e-preserved : goal.loop-e-preserved
 loop-e-preserved c =
-    let i = c.loop-e.invariant in
     let end = c.chain_end-to.ensures in
-    let h = c.first_hit-met.ensures in
-    (omega (arith, i.0, end.0), end.1, more_missed _ _ _ _ _ _ _ i.2 (λ k l z. h.misses k l (omega (arith, z, c.if-met-to.false))))
+    (omega (arith, c.loop-e.invariant.0, end.0), end.1, more_missed _ _ _ _ _ _ _ c.loop-e.invariant.2 (chain_passed _ _ _ _ _ _ (ready (up-At-loop-e _ _ _ _ _ _ c.before.before.before.before.before.before)) c.is_passed.ensures c.if-not-is_passed.false end.2 end.1))
 
 pub returns : goal.returns
-returns c =
-    let i = c.loop-e.invariant in
-    record { not_before = omega (arith, i.0, i.1); not_after = omega arith; misses = λ k l h. i.2 k l (omega (arith, h, c.loop-e-test.false)); hits = λ h. absurd (omega (arith, h)) }
+returns c = λ k l h. c.loop-e.invariant.2 k l (omega (arith, h, c.loop-e-test.false))

@@ -1,9 +1,6 @@
-use Prim.Native.Nat.{◌-◌}
+use lib.ListN.{take}
 use Rattle.inspection.proofs.Laying.{Laying}
 use Rattle.inspection.proofs.lay.Given as goal
 
-abbrev pub invariant-loop-i : goal.invariant-loop-i
-invariant-loop-i l = Laying l.n l.start l.m l.initial.room l.room l.place l.i
-
-abbrev pub decreases-loop-i : goal.decreases-loop-i
-decreases-loop-i l = l.m - l.i
+abbrev pub invariant-loop-slot : goal.invariant-loop-slot
+invariant-loop-slot l = Laying l.n l.start l.m (take l.m l.fn.room) l.slot-items l.place l.slot-index

@@ -16,15 +16,15 @@ unfolding interlock_of
 start s o current tol h = let e : count s - 0 ≡ count s = omega arith in rw (e, h)
 
 pub loop-i-init : goal.loop-i-init
-loop-i-init c = (omega arith, start _ _ _ _ c.least_opening-least.ensures)
+loop-i-init c = start _ _ _ _ c.least_opening-least.ensures
 
 pub loop-i-preserved : goal.loop-i-preserved
 loop-i-preserved c =
-    (omega arith, c.loop-i.invariant.1 ∙ found_on _ _ _ c.loop-i-test.true c.candidate.ensures c.in-Nothing.is)
+    c.loop-i.invariant ∙ found_on _ _ _ c.loop-i-test.true c.candidate.ensures c.in_default.is
 
-pub returns-in-At : goal.returns-in-At
-returns-in-At c =
-    sym (c.loop-i.invariant.1 ∙ found_here _ _ _ c.loop-i-test.true c.candidate.ensures c.in-At.is)
+pub returns-in-Some : goal.returns-in-Some
+returns-in-Some c =
+    sym (c.loop-i.invariant ∙ found_here _ _ _ c.loop-i-test.true c.candidate.ensures c.in-Some.is)
 
 pub returns : goal.returns
-returns c = sym (c.loop-i.invariant.1 ∙ found_none _ _ _ c.loop-i-test.false)
+returns c = sym (c.loop-i.invariant ∙ found_none _ _ _ c.loop-i-test.false)

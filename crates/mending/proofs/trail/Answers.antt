@@ -13,5 +13,5 @@ pub returns-else-same : goal.returns-else-same
 returns-else-same c =
     stopped _ c.loop-end-test.true c.loop-end.invariant (rw (← c.point_at-first.ensures, ← c.point_at.ensures, ← c.same.ensures) c.if-same.false)
 
-pub returns : goal.returns
-returns c = done _ c.loop-end-test.false c.loop-end.invariant
+pub returns-after-loop-end : goal.returns-after-loop-end
+returns-after-loop-end c = done _ c.loop-end-test.false c.loop-end.invariant

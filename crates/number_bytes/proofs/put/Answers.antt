@@ -2,13 +2,12 @@
 -- was asked for. Assumes nothing.
 use Prim.Native.Nat.{◌+◌, ◌%◌}
 use mathlib.Core.Path.{refl, sym, ◌∙◌}
-use native.Mathlib.Omega.{arith}
 use lib.ListN.{length-set}
 use Rattle.number_bytes.proofs.Puts.{put_start, put_on, put_end}
 use Rattle.number_bytes.proofs.put.Goals as goal
 
 pub loop-i-init : goal.loop-i-init
-loop-i-init c = ((omega arith), refl, put_start c.args.room.now c.args.at c.args.k c.args.n)
+loop-i-init c = (refl, put_start c.args.room.now c.args.at c.args.k c.args.n)
 
 pub loop-i-preserved : goal.loop-i-preserved
 loop-i-preserved c =
@@ -16,9 +15,9 @@ loop-i-preserved c =
     let room = c.loop-i.room in
     let i = c.loop-i.i in
     let rest = c.loop-i.rest in
-    ((omega arith), length-set room (a.at + i) (rest % 256) ∙ c.loop-i.invariant.1, c.loop-i.invariant.2 ∙ put_on room a.at a.k i rest c.loop-i-test.true)
+    (length-set room (a.at + i) (rest % 256) ∙ c.loop-i.invariant.0, c.loop-i.invariant.1 ∙ put_on room a.at a.k i rest c.loop-i-test.true)
 
 pub returns : goal.returns
 returns c =
     let a = c.args in
-    sym (c.loop-i.invariant.2 ∙ put_end c.loop-i.room a.at a.k c.loop-i.i c.loop-i.rest c.loop-i-test.false)
+    sym (c.loop-i.invariant.1 ∙ put_end c.loop-i.room a.at a.k c.loop-i.i c.loop-i.rest c.loop-i-test.false)

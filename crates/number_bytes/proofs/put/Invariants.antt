@@ -1,4 +1,4 @@
-use Prim.Native.Nat.{◌+◌, ◌-◌, ◌≤◌}
+use Prim.Native.Nat.{◌+◌, ◌-◌}
 use mathlib.Core.Path.{◌≡◌}
 use lib.ListN.{length}
 use lib.Seq.{sets}
@@ -7,7 +7,4 @@ use Rattle.number_bytes.proofs.put.Given as goal
 
 abbrev pub invariant-loop-i : goal.invariant-loop-i
 invariant-loop-i l =
-    (l.i ≤ l.k) × (length l.room ≡ length l.initial.room) × (sets l.initial.room l.at (bytes_of l.k l.n) ≡ sets l.room (l.at + l.i) (bytes_of (l.k - l.i) l.rest))
-
-abbrev pub decreases-loop-i : goal.decreases-loop-i
-decreases-loop-i l = l.k - l.i
+    (length l.room ≡ length l.initial.room) × (sets l.initial.room l.at (bytes_of l.k l.n) ≡ sets l.room (l.at + l.i) (bytes_of (l.k - l.i) l.rest))

@@ -1,10 +1,6 @@
-use Prim.Native.Nat.{◌-◌, ◌≤◌}
 use mathlib.Core.Path.{◌≡◌}
 use Rattle.overlap.specs.Extent.{extent_to, x_at, y_at}
 use Rattle.overlap.proofs.compute_bbox.Given as goal
 
 abbrev pub invariant-loop-i : goal.invariant-loop-i
-invariant-loop-i l = (l.i ≤ l.n) × (l.x ≡ extent_to (x_at l.polygon) l.i) × (l.y ≡ extent_to (y_at l.polygon) l.i)
-
-abbrev pub decreases-loop-i : goal.decreases-loop-i
-decreases-loop-i l = l.n - l.i
+invariant-loop-i l = (l.x ≡ extent_to (x_at l.polygon) l.i) × (l.y ≡ extent_to (y_at l.polygon) l.i)

@@ -22,17 +22,17 @@ tested : (a b r : List Float) (tol : Float) (i : ℕ) {axis : Point} {v w : Bool
 tested a b r tol i e h t = rw (← e, ← h) t
 
 pub loop-i-init : goal.loop-i-init
-loop-i-init c = (omega arith, start _ _ _ _)
+loop-i-init c = start _ _ _ _
 
 pub loop-i-preserved : goal.loop-i-preserved
 loop-i-preserved c =
-    let t = tested _ _ _ _ _ c.axis_of.ensures c.meets_on.ensures c.if-meets_on.true in
-    (omega arith, c.loop-i.invariant.1 ∙ each_on _ _ _ c.loop-i-test.true t)
+    let t = tested _ _ _ _ _ c.axis_of.ensures c.meets_on.ensures c.if-not-meets_on.false in
+    c.loop-i.invariant ∙ each_on _ _ _ c.loop-i-test.true t
 
-pub returns-else-meets_on : goal.returns-else-meets_on
-returns-else-meets_on c =
-    let t = tested _ _ _ _ _ c.axis_of.ensures c.meets_on.ensures c.if-meets_on.false in
-    sym (c.loop-i.invariant.1 ∙ each_off _ _ _ c.loop-i-test.true t)
+pub returns-then-not-meets_on : goal.returns-then-not-meets_on
+returns-then-not-meets_on c =
+    let t = tested _ _ _ _ _ c.axis_of.ensures c.meets_on.ensures c.if-not-meets_on.true in
+    sym (c.loop-i.invariant ∙ each_off _ _ _ c.loop-i-test.true t)
 
 pub returns : goal.returns
-returns c = sym (c.loop-i.invariant.1 ∙ each_end _ _ _ c.loop-i-test.false)
+returns c = sym (c.loop-i.invariant ∙ each_end _ _ _ c.loop-i-test.false)

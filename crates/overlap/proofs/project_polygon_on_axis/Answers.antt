@@ -6,12 +6,12 @@ use Rattle.overlap.proofs.Fold.{none_yet, dot_more}
 use Rattle.overlap.proofs.project_polygon_on_axis.Goals as goal
 
 pub loop-i-init : goal.loop-i-init
-loop-i-init c = (omega arith, none_yet _)
+loop-i-init c = none_yet _
 
 pub loop-i-preserved : goal.loop-i-preserved
 loop-i-preserved c =
-    (omega arith, dot_more _ _ c.point_at.ensures _ c.loop-i.invariant.1 c.dot.ensures c.wider-e.ensures)
+    dot_more _ _ c.point_at.ensures _ c.loop-i.invariant c.dot.ensures c.wider-e.ensures
 
 pub returns : goal.returns
 unfolding shadow_of
-returns c = c.loop-i.invariant.1 ∙ ap (extent_to _) (omega arith)
+returns c = c.loop-i.invariant ∙ ap (extent_to _) (omega arith)

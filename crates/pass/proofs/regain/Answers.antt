@@ -3,10 +3,10 @@ use mathlib.Core.Path.{refl}
 use Rattle.pass.specs.Pass.{regain_of, regained}
 use Rattle.pass.proofs.regain.Goals as goal
 
-pub returns-in-Nothing : goal.returns-in-Nothing
+pub returns-in-None : goal.returns-in-None
 unfolding regain_of regained
-returns-in-Nothing c = rw (← c.recover_contact.ensures, c.in-Nothing.is) refl
+returns-in-None c = rw (← c.recover_contact.ensures, c.in-None.is) refl
 
-pub returns-in-At : goal.returns-in-At
+pub returns-in-Some : goal.returns-in-Some
 unfolding regain_of regained
-returns-in-At c = rw (← c.recover_contact.ensures, c.in-At.is) refl
+returns-in-Some c = rw (← c.recover_contact.ensures, c.in-Some.is) refl

@@ -1,10 +1,7 @@
-use Prim.Native.Nat.{◌+◌, ◌-◌, ◌≤◌}
+use Prim.Native.Nat.{◌+◌, ◌-◌}
 use mathlib.Core.Path.{◌≡◌}
 use Rattle.print.specs.Digits.{up_to, width}
 use Rattle.print.proofs.width_of.Given as goal
 
 abbrev pub invariant-loop-w : goal.invariant-loop-w
-invariant-loop-w l = (l.w ≤ 20) × (width l.n ≡ l.w + up_to (20 - l.w) l.rest)
-
-abbrev pub decreases-loop-w : goal.decreases-loop-w
-decreases-loop-w l = 20 - l.w
+invariant-loop-w l = width l.n ≡ l.w + up_to (20 - l.w) l.rest

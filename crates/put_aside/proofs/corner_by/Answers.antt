@@ -4,12 +4,6 @@ use Rattle.put_aside.specs.Aside.{corner_by}
 use Rattle.put_aside.proofs.Steps.{step_fits, stepped}
 use Rattle.put_aside.proofs.corner_by.Goals as goal
 
-pub inward-requires : goal.inward-requires
-inward-requires c = (c.requires.0.narrow, c.requires.0.x_fits, c.requires.1.width)
-
-pub inward-requires-then-r-eq1 : goal.inward-requires-then-r-eq1
-inward-requires-then-r-eq1 c = (c.requires.0.narrow, c.requires.0.y_fits, c.requires.1.height)
-
 pub returns-then-r-eq1 : goal.returns-then-r-eq1
 unfolding corner_by
 returns-then-r-eq1 c = rw (eq-eqb _ _ c.if-r-eq1.true, c.inward.ensures, c.inward-then-r-eq1.ensures)

@@ -1,4 +1,3 @@
-use Prim.Native.Nat.{◌-◌, ◌≤◌}
 use Rattle.shifted.specs.Shifted.{spot_at}
 use Rattle.put_aside.specs.Middle.{level}
 use Rattle.put_aside.proofs.Leasts.{Between}
@@ -6,7 +5,4 @@ use Rattle.put_aside.proofs.middle_of.Given as goal
 
 abbrev pub invariant-loop-i : goal.invariant-loop-i
 invariant-loop-i l =
-    (l.i ≤ l.n) × Between (λ j. level l.axis l.from l.to (spot_at l.list j)) 16000000000000 l.low l.high l.i
-
-abbrev pub decreases-loop-i : goal.decreases-loop-i
-decreases-loop-i l = l.n - l.i
+    Between (λ j. level l.axis l.from l.to (spot_at l.list j)) 16000000000000 l.low l.high l.i

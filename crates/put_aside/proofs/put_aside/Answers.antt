@@ -1,7 +1,4 @@
 -- `put_aside::put_aside` meets its contract: the rule, the test, and the corners. Assumes nothing.
-use mathlib.Core.Path.{ap}
-use mathlib.Core.Bool.{not}
-use borrow.Author.Tests.{not-true, not-false}
 use Rattle.put_aside.proofs.Laying.{leaves, stays}
 use Rattle.put_aside.proofs.put_aside.Goals as goal
 
@@ -13,9 +10,9 @@ returns-then-not-stay_by c =
     let g = c.args in
     record {
       value = (leaves g.list.now g.from g.to g.how c.rule_of-r.ensures.0 c.stay_by.ensures
-          g.room.now (not-true _ (ap not c.if-not-stay_by.true))).0;
+          g.room.now c.if-not-stay_by.true).0;
       room_after = (leaves g.list.now g.from g.to g.how c.rule_of-r.ensures.0 c.stay_by.ensures
-          g.room.now (not-true _ (ap not c.if-not-stay_by.true))).1;
+          g.room.now c.if-not-stay_by.true).1;
     }
 
 pub lay-requires : goal.lay-requires
@@ -27,7 +24,7 @@ returns c =
     let g = c.args in
     record {
       value = (stays g.list.now g.from g.to g.how c.rule_of-r.ensures.0 c.stay_by.ensures
-          g.room.now (not-false _ (ap not c.if-not-stay_by.false)) c.lay.ensures).0;
+          g.room.now c.if-not-stay_by.false c.lay.ensures).0;
       room_after = (stays g.list.now g.from g.to g.how c.rule_of-r.ensures.0 c.stay_by.ensures
-          g.room.now (not-false _ (ap not c.if-not-stay_by.false)) c.lay.ensures).1;
+          g.room.now c.if-not-stay_by.false c.lay.ensures).1;
     }

@@ -37,21 +37,21 @@ module _ (c : After-key_at-v) where
   in_second = omega (arith, length_choice xs s.requires.lent.0.even s.args.b, c.loop-j-test.true)
 
 pub loop-j-init : goal.loop-j-init
-loop-j-init c = ((omega arith), refl)
+loop-j-init c = refl
 
 pub returns-then-u-v : goal.returns-then-u-v
 returns-then-u-v c =
     let here = up-After-key_at-v _ _ _ _ _ _ c.before.before in
     let u = c.key_at-u.ensures in
     let v = c.key_at-v.ensures in
-    sym ((l here).loop-j.invariant.1 ∙ left_lower (p here) (q here) (l here).loop-j.j (in_first here) (in_second here) (omega (arith, c.if-u-v.true)))
+    sym ((l here).loop-j.invariant ∙ left_lower (p here) (q here) (l here).loop-j.j (in_first here) (in_second here) (omega (arith, c.if-u-v.true)))
 
 pub returns-then-v-u : goal.returns-then-v-u
 returns-then-v-u c =
     let here = up-After-key_at-v _ _ _ _ _ _ c.before.before.before in
     let u = c.key_at-u.ensures in
     let v = c.key_at-v.ensures in
-    sym ((l here).loop-j.invariant.1 ∙ left_higher (p here) (q here) (l here).loop-j.j (in_first here) (in_second here) (omega (arith, c.if-v-u.true)))
+    sym ((l here).loop-j.invariant ∙ left_higher (p here) (q here) (l here).loop-j.j (in_first here) (in_second here) (omega (arith, c.if-v-u.true)))
 
 pub loop-j-preserved : goal.loop-j-preserved
 loop-j-preserved c =
@@ -60,7 +60,7 @@ loop-j-preserved c =
     let v = c.key_at-v.ensures in
     let j = (l here).loop-j.j in
     let e : ord (get_or (p here) j 0) ≡ ord (get_or (q here) j 0) = omega (arith, c.if-v-u.false, c.if-u-v.false) in
-    ((omega arith), (l here).loop-j.invariant.1 ∙ left_equal (p here) (q here) j (in_first here) (in_second here) e)
+    (l here).loop-j.invariant ∙ left_equal (p here) (q here) j (in_first here) (in_second here) e
 
 pub returns : goal.returns
 returns c =
@@ -69,4 +69,4 @@ returns c =
     let q = flat (choice (ring_of xs) c.args.b) in
     let np : length p ≡ length xs = length_choice xs c.requires.lent.0.even c.args.a in
     let nq : length q ≡ length xs = length_choice xs c.requires.lent.0.even c.args.b in
-    sym (c.loop-j.invariant.1 ∙ left_none p q c.loop-j.j (omega arith) (omega arith))
+    sym (c.loop-j.invariant ∙ left_none p q c.loop-j.j (omega arith) (omega arith))

@@ -1,6 +1,5 @@
-use Prim.Native.Nat.{◌-◌, ◌≤◌}
 use mathlib.Core.Path.{◌≡◌}
-use lib.ListN.{length, drop}
+use lib.ListN.{drop}
 use Rattle.reading.specs.Reading.{flat, less, earlier, choice}
 use Rattle.reading.specs.Lent.{ring_of}
 use Rattle.reading.proofs.before.Given as goal
@@ -9,7 +8,4 @@ abbrev pub invariant-loop-j : goal.invariant-loop-j
 invariant-loop-j l =
     let p = choice (ring_of l.ring) l.a in
     let q = choice (ring_of l.ring) l.b in
-    (l.j ≤ length l.ring) × (earlier p q ≡ less (drop l.j (flat p)) (drop l.j (flat q)))
-
-abbrev pub decreases-loop-j : goal.decreases-loop-j
-decreases-loop-j l = length l.ring - l.j
+    earlier p q ≡ less (drop l.j (flat p)) (drop l.j (flat q))

@@ -26,7 +26,7 @@ stored keys xs i v h before e m l = go (dec_lt m i)
         rw z (get_or-set_same keys i v 0 h ∙ e)
 
 pub loop-i-init : goal.loop-i-init
-loop-i-init c = ((omega arith), refl, λ m l. absurd (omega arith))
+loop-i-init c = (refl, λ m l. absurd (omega arith))
 
 pub kept_bits-requires : goal.kept_bits-requires
 kept_bits-requires c =
@@ -36,11 +36,10 @@ pub loop-i-preserved : goal.loop-i-preserved
 loop-i-preserved c =
     let xs = c.args.ring.now in
     let e = c.key.ensures ∙ ap ord c.kept_bits.ensures in (
-      (omega arith),
       (simp length-set (omega arith)),
-      stored c.loop-i.room xs c.loop-i.i c.key.result (omega arith) c.loop-i.invariant.2 e,
+      stored c.loop-i.room xs c.loop-i.i c.key.result (omega arith) c.loop-i.invariant.1 e,
     )
 
 pub returns : goal.returns
 returns c =
-    record { most = omega arith; each = λ m h. c.loop-i.invariant.2 m (omega arith) }
+    record { most = omega arith; each = λ m h. c.loop-i.invariant.1 m (omega arith) }

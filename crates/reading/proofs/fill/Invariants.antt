@@ -1,4 +1,4 @@
-use Prim.Native.Nat.{ℕ, ◌-◌, ◌≤◌, ◌<◌}
+use Prim.Native.Nat.{ℕ, ◌<◌}
 use mathlib.Core.Path.{◌≡◌}
 use lib.Ieee.{nan}
 use lib.ListN.{length, get_or}
@@ -8,7 +8,4 @@ use Rattle.reading.proofs.fill.Given as goal
 
 abbrev pub invariant-loop-i : goal.invariant-loop-i
 invariant-loop-i l =
-    (l.i ≤ length l.ring) × (length l.room ≡ length l.initial.room) × ((m : ℕ) → m < l.i → get_or l.room m 0 ≡ ord (kept (get_or l.ring m nan)))
-
-abbrev pub decreases-loop-i : goal.decreases-loop-i
-decreases-loop-i l = length l.ring - l.i
+    (length l.room ≡ length l.initial.room) × ((m : ℕ) → m < l.i → get_or l.room m 0 ≡ ord (kept (get_or l.ring m nan)))

@@ -7,11 +7,11 @@ loop-j-init c = start _ _ _ _
 
 pub loop-j-preserved : goal.loop-j-preserved
 loop-j-preserved c =
-    turn _ _ _ _ c.loop-j.invariant c.loop-j-test.true c.parts_edge.ensures c.if-parts_edge.true
+    turn _ _ _ _ c.loop-j.invariant c.loop-j-test.true c.parts_edge.ensures c.if-not-parts_edge.false
 
-pub returns-else-parts_edge : goal.returns-else-parts_edge
-returns-else-parts_edge c =
-    stop _ _ _ _ c.loop-j.invariant c.loop-j-test.true c.parts_edge.ensures c.if-parts_edge.false
+pub returns-then-not-parts_edge : goal.returns-then-not-parts_edge
+returns-then-not-parts_edge c =
+    stop _ _ _ _ c.loop-j.invariant c.loop-j-test.true c.parts_edge.ensures c.if-not-parts_edge.true
 
 pub returns-then-balanced : goal.returns-then-balanced
 returns-then-balanced c =

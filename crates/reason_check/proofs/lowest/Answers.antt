@@ -10,13 +10,13 @@ use Rattle.reason_check.proofs.lowest.Goals as goal
 
 pub loop-i-init : goal.loop-i-init
 unfolding low_spot
-loop-i-init c = (omega arith, refl)
+loop-i-init c = refl
 
 pub loop-i-preserved : goal.loop-i-preserved
 loop-i-preserved c =
-    (omega arith, turn _ _ _ c.loop-i.invariant.1 c.smaller.ensures c.smaller-low.ensures)
+    turn _ _ _ c.loop-i.invariant c.smaller.ensures c.smaller-low.ensures
 
 pub returns : goal.returns
 returns c =
     let e : c.loop-i.i ≡ length c.args.a.now / 2 = omega arith in
-    c.loop-i.invariant.1 ∙ ap (lowest (spot_at c.args.a.now) (spot_at c.args.b.now)) e
+    c.loop-i.invariant ∙ ap (lowest (spot_at c.args.a.now) (spot_at c.args.b.now)) e

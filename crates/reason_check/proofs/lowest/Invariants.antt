@@ -1,11 +1,7 @@
-use Prim.Native.Nat.{◌-◌, ◌≤◌}
 use mathlib.Core.Path.{◌≡◌}
 use Rattle.shifted.specs.Shifted.{spot_at}
 use Rattle.reasons.specs.Lowest.{lowest}
 use Rattle.reason_check.proofs.lowest.Given as goal
 
 abbrev pub invariant-loop-i : goal.invariant-loop-i
-invariant-loop-i l = (l.i ≤ l.n) × (l.low ≡ lowest (spot_at l.a) (spot_at l.b) l.i)
-
-abbrev pub decreases-loop-i : goal.decreases-loop-i
-decreases-loop-i l = l.n - l.i
+invariant-loop-i l = l.low ≡ lowest (spot_at l.a) (spot_at l.b) l.i

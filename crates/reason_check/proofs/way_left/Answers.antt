@@ -1,9 +1,6 @@
 -- `reason_check::way_left` meets its contract. The invariant: the corners from i on decide. Assumes nothing.
-use mathlib.Core.Bool.{not}
 use native.Mathlib.Omega.{arith}
-use mathlib.Core.Path.{ap, sym}
-use borrow.Author.Tests.{not-true, not-false}
-use Rattle.shifted.specs.Shifted.{spot_at}
+use mathlib.Core.Path.{sym}
 use Rattle.reason_check.proofs.Small.{small_at}
 use Rattle.reason_check.proofs.Way.{start, start_off, end_off, turn, done}
 use Rattle.reason_check.proofs.way_left.Goals as goal
@@ -22,7 +19,7 @@ pub returns-then-not-left_on : goal.returns-then-not-left_on
 returns-then-not-left_on c =
     sym
     (start_off _ _ _ _ _ c.loop-i.invariant c.loop-i-test.true c.spot_at.ensures c.left_on.ensures
-    (not-true _ (ap not c.if-not-left_on.true)))
+    c.if-not-left_on.true)
 
 pub spot_at-requires-in-loop-i : goal.spot_at-requires-in-loop-i
 spot_at-requires-in-loop-i c =
@@ -41,12 +38,12 @@ pub returns-then-not-left_on-2 : goal.returns-then-not-left_on-2
 returns-then-not-left_on-2 c =
     sym
     (end_off _ _ _ _ _ c.loop-i.invariant c.loop-i-test.true c.spot_at.ensures c.left_on.ensures
-    c.spot_at-in-loop-i.ensures c.left_on-in-loop-i.ensures (not-false _ (ap not c.if-not-left_on.false)) (not-true _ (ap not c.if-not-left_on-2.true)))
+    c.spot_at-in-loop-i.ensures c.left_on-in-loop-i.ensures c.if-not-left_on.false c.if-not-left_on-2.true)
 
 pub loop-i-preserved : goal.loop-i-preserved
 loop-i-preserved c =
     turn _ _ _ _ _ c.loop-i.invariant c.loop-i-test.true c.spot_at.ensures c.left_on.ensures
-    c.spot_at-in-loop-i.ensures c.left_on-in-loop-i.ensures (not-false _ (ap not c.if-not-left_on.false)) (not-false _ (ap not c.if-not-left_on-2.false))
+    c.spot_at-in-loop-i.ensures c.left_on-in-loop-i.ensures c.if-not-left_on.false c.if-not-left_on-2.false
 
 pub returns : goal.returns
 returns c = sym (done _ _ _ _ _ c.loop-i.invariant c.loop-i-test.false)

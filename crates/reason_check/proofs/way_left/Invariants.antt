@@ -1,4 +1,4 @@
-use Prim.Native.Nat.{◌-◌, ◌/◌}
+use Prim.Native.Nat.{◌/◌}
 use lib.ListN.{length}
 use Rattle.shifted.specs.Shifted.{spot_at}
 use Rattle.reason_check.proofs.Way.{Rest}
@@ -6,6 +6,3 @@ use Rattle.reason_check.proofs.way_left.Given as goal
 
 abbrev pub invariant-loop-i : goal.invariant-loop-i
 invariant-loop-i l = Rest (spot_at l.a) (spot_at l.b) (length l.a / 2) l.p l.q l.i
-
-abbrev pub decreases-loop-i : goal.decreases-loop-i
-decreases-loop-i l = l.n - l.i

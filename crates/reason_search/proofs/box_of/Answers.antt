@@ -10,7 +10,7 @@ use Rattle.reason_search.proofs.box_of.Goals as goal
 
 pub loop-i-init : goal.loop-i-init
 unfolding box_low box_high
-loop-i-init c = (omega arith, c.spot_at-low.ensures, c.spot_at-high.ensures)
+loop-i-init c = (c.spot_at-low.ensures, c.spot_at-high.ensures)
 
 pub spot_at-requires-in-loop-i : goal.spot_at-requires-in-loop-i
 spot_at-requires-in-loop-i c =
@@ -20,17 +20,12 @@ pub spot_at-requires-in-loop-i-3 : goal.spot_at-requires-in-loop-i-3
 spot_at-requires-in-loop-i-3 c =
     omega (arith, c.loop-i-test.true, c.requires.0.same)
 
-pub overflow_add-i : goal.overflow_add-i
-overflow_add-i c =
-    omega (arith, c.loop-i-test.true, c.well_formed.0)
-
 pub loop-i-preserved : goal.loop-i-preserved
 loop-i-preserved c =
     let v = c.loop-i.invariant in (
-      omega arith,
-      low_turn _ _ _ v.1 c.spot_at.ensures c.spot_at-in-loop-i.ensures c.low_of.ensures
+      low_turn _ _ _ v.0 c.spot_at.ensures c.spot_at-in-loop-i.ensures c.low_of.ensures
           c.low_of-low.ensures,
-      high_turn _ _ _ v.2 c.spot_at-in-loop-i-2.ensures c.spot_at-in-loop-i-3.ensures c.high_of.ensures
+      high_turn _ _ _ v.1 c.spot_at-in-loop-i-2.ensures c.spot_at-in-loop-i-3.ensures c.high_of.ensures
           c.high_of-high.ensures,
     )
 
@@ -38,6 +33,6 @@ pub returns : goal.returns
 returns c =
     let g = c.args in
     let e : c.loop-i.i ≡ length g.a.now / 2 = omega arith in (
-      c.loop-i.invariant.1 ∙ ap (box_low (spot_at g.a.now) (spot_at g.b.now)) e,
-      c.loop-i.invariant.2 ∙ ap (box_high (spot_at g.a.now) (spot_at g.b.now)) e,
+      c.loop-i.invariant.0 ∙ ap (box_low (spot_at g.a.now) (spot_at g.b.now)) e,
+      c.loop-i.invariant.1 ∙ ap (box_high (spot_at g.a.now) (spot_at g.b.now)) e,
     )

@@ -1,4 +1,3 @@
-use Prim.Native.Nat.{◌-◌, ◌≤◌}
 use mathlib.Core.Path.{◌≡◌}
 use Rattle.shifted.specs.Shifted.{spot_at}
 use Rattle.reason_search.specs.Lines.{box_low, box_high}
@@ -6,7 +5,4 @@ use Rattle.reason_search.proofs.box_of.Given as goal
 
 abbrev pub invariant-loop-i : goal.invariant-loop-i
 invariant-loop-i l =
-    (l.i ≤ l.n) × (l.low ≡ box_low (spot_at l.a) (spot_at l.b) l.i) × (l.high ≡ box_high (spot_at l.a) (spot_at l.b) l.i)
-
-abbrev pub decreases-loop-i : goal.decreases-loop-i
-decreases-loop-i l = l.n - l.i
+    (l.low ≡ box_low (spot_at l.a) (spot_at l.b) l.i) × (l.high ≡ box_high (spot_at l.a) (spot_at l.b) l.i)

@@ -2,6 +2,7 @@
 use native.Mathlib.Omega.{arith}
 use Rattle.reasons.proofs.First.{start, turn, here, end}
 use Rattle.reason_search.proofs.Boxes.{made_small, beside_is}
+use Rattle.reason_search.proofs.Below.{some_is, none_is}
 use Rattle.reason_search.proofs.first_side.Goals as goal
 
 pub loop-c-init : goal.loop-c-init
@@ -16,7 +17,7 @@ edge_right-requires c =
 pub returns-then-edge_right : goal.returns-then-edge_right
 returns-then-edge_right c =
     let e = beside_is _ _ _ _ _ c.side-k.ensures c.edge_right.ensures in
-    (here _ _ c.loop-c.invariant c.loop-c-test.true e c.if-edge_right.true, omega arith)
+    some_is _ _ c.loop-c-test.true (here _ _ c.loop-c.invariant c.loop-c-test.true e c.if-edge_right.true)
 
 pub loop-c-preserved : goal.loop-c-preserved
 loop-c-preserved c =
@@ -24,4 +25,4 @@ loop-c-preserved c =
     turn _ _ c.loop-c.invariant c.loop-c-test.true e c.if-edge_right.false
 
 pub returns : goal.returns
-returns c = (end _ _ c.loop-c.invariant c.loop-c-test.false, omega (arith, c.loop-c.invariant.most))
+returns c = none_is _ _ (omega (arith, end _ _ c.loop-c.invariant c.loop-c-test.false))

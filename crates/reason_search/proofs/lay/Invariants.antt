@@ -1,4 +1,3 @@
-use Prim.Native.Nat.{◌-◌}
 use mathlib.Core.Path.{◌≡◌}
 use lib.ListN.{length}
 use Rattle.reason_search.specs.Noted.{Ready}
@@ -8,6 +7,3 @@ use Rattle.reason_search.proofs.lay.Given as goal
 abbrev pub invariant-loop-j : goal.invariant-loop-j
 invariant-loop-j l =
     Laid l.st l.a l.b l.initial.lines l.lines l.l l.j × Ready l.a l.b l.flags × (length l.flags ≡ length l.initial.flags)
-
-abbrev pub decreases-loop-j : goal.decreases-loop-j
-decreases-loop-j l = l.m - l.j

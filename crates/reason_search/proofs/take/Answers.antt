@@ -1,14 +1,16 @@
 -- `reason_search::take` meets its contract: the line before again, or one anew. Assumes nothing.
-use Rattle.reason_search.proofs.Firsts.{again, instead}
+use mathlib.Core.Path.{refl, ap, ◌∙◌}
+use Rattle.reason_search.specs.Search.{parting}
+use Rattle.reason_search.proofs.Firsts.{again, instead, some_is}
 use Rattle.reason_search.proofs.take.Goals as goal
 
-pub returns-then-edge_right : goal.returns-then-edge_right
-returns-then-edge_right c =
-    let p = c.requires in
-    let r = again p.4 _ _ c.edge_right.ensures c.if-edge_right.true in
-    record { line_value = r.0; parted_value = r.1; ready = p.0 }
+pub returns-then-edge_right-clause-value : goal.returns-then-edge_right-clause-value
+returns-then-edge_right-clause-value c =
+    let r = again c.requires.4 _ _ c.edge_right.ensures c.if-edge_right.true in
+    some_is _ _ _ _ r.0 r.1 refl
 
-pub returns : goal.returns
-returns c =
-    let p = c.requires in
-    record { line_value = instead p.4 _ _ c.edge_right.ensures c.if-edge_right.false c.take_anew.ensures.line_value; parted_value = c.take_anew.ensures.parted_value; ready = c.take_anew.ensures.ready }
+pub returns-clause-value : goal.returns-clause-value
+returns-clause-value c =
+    let s = c.args in
+    c.take_anew.ensures.value
+    ∙ ap (parting s.a.now s.b.now s.s s.t) (instead c.requires.4 _ _ c.edge_right.ensures c.if-edge_right.false refl)

@@ -8,10 +8,10 @@ use Rattle.recovery.proofs.row.Goals as goal
 
 pub loop-i-init : goal.loop-i-init
 unfolding over
-loop-i-init c = (omega arith, refl)
+loop-i-init c = refl
 
 pub loop-i-preserved : goal.loop-i-preserved
-loop-i-preserved c = (omega arith, over_turn nearer_point _ _ _ c.loop-i.invariant.1 c.foot.ensures c.keep-near.ensures)
+loop-i-preserved c = over_turn nearer_point _ _ _ c.loop-i.invariant c.foot.ensures c.keep-near.ensures
 
 pub returns : goal.returns
-returns c = c.loop-i.invariant.1 ∙ ap (over nearer_point _ _) (omega arith)
+returns c = c.loop-i.invariant ∙ ap (over nearer_point _ _) (omega arith)

@@ -1,11 +1,7 @@
-use Prim.Native.Nat.{◌-◌, ◌≤◌}
 use mathlib.Core.Path.{◌≡◌}
 use Rattle.laws.specs.FirstBest.{over}
 use Rattle.recovery.specs.Recovery.{closest_on, nearer_point}
 use Rattle.recovery.proofs.row.Given as goal
 
 abbrev pub invariant-loop-i : goal.invariant-loop-i
-invariant-loop-i l = (l.i ≤ l.n) × (l.near ≡ over nearer_point (closest_on l.v l.ring) l.initial.near l.i)
-
-abbrev pub decreases-loop-i : goal.decreases-loop-i
-decreases-loop-i l = l.n - l.i
+invariant-loop-i l = l.near ≡ over nearer_point (closest_on l.v l.ring) l.initial.near l.i

@@ -19,11 +19,11 @@ step s o i {a} h k e = nest_turn nearer_point (closest_at s o) (count s) afar i 
 
 pub loop-i-init : goal.loop-i-init
 unfolding nest div of_bits
-loop-i-init c = (omega arith, refl)
+loop-i-init c = refl
 
 pub loop-i-preserved : goal.loop-i-preserved
-loop-i-preserved c = (omega arith, step _ _ _ c.loop-i.invariant.1 c.point_at.ensures c.row-near.ensures)
+loop-i-preserved c = step _ _ _ c.loop-i.invariant c.point_at.ensures c.row-near.ensures
 
 pub returns : goal.returns
 unfolding closest_of
-returns c = c.loop-i.invariant.1 ∙ ap (nest nearer_point _ _ _) (omega arith)
+returns c = c.loop-i.invariant ∙ ap (nest nearer_point _ _ _) (omega arith)

@@ -1,6 +1,9 @@
--- `ring_distance::to_chains` meets its contract. The invariant: the edges below e are taken, and e begins a chain unless no edge is left. Assumes nothing.
+-- `ring_distance::to_chains` meets its contract. The invariant: the chains before c are taken. Assumes nothing.
+use Prim.Native.Nat.{◌*◌, min}
 use native.Mathlib.Omega.{arith}
-use mathlib.Core.Path.{refl}
+use mathlib.Core.Path.{◌≡◌, refl}
+use Rattle.ring.specs.Ring.{count}
+use Rattle.chains.proofs.Table.{chain_to}
 use Rattle.ring_distance.specs.Squared.{squared_to}
 use Rattle.ring_distance.proofs.Turns.{passed, at_end}
 use Rattle.ring_distance.proofs.to_chains.Goals as goal
@@ -11,25 +14,23 @@ returns-then-is_far c =
     let bounds = c.requires.whole in
     passed _ _ _ _ _ (omega arith) (λ e l h. c.is_far.ensures c.if-is_far.true _ _ (bounds e l h)) _ refl
 
-pub loop-e-init : goal.loop-e-init
+pub loop-c-init : goal.loop-c-init
 unfolding squared_to
-loop-e-init c = (omega arith, λ h. refl, refl)
+loop-c-init c = let z : min 0 (count c.args.ring.now) ≡ 0 = omega arith in rw z refl
 
 pub to_chain-least-requires : goal.to_chain-least-requires
 to_chain-least-requires c =
-    let whole = c.loop-e.invariant.1 c.loop-e-test.true in
-    let end = c.chain_end-to.ensures in
-    let r = c.requires in record { from_lt_to = (end.0, end.1); c_in_bounds = omega (arith, end.1, r.few, r.room); bounds_edges = λ e a b. r.chains _ e (record { not_before = omega (arith, a); not_after = omega (arith, b, end.2) }) (omega (arith, b, end.1)) }
+    let end = c.chain_end.ensures in
+    let r = c.requires in record { from_lt_to = (end.0, end.1); c_in_bounds = omega (arith, end.0, end.1, r.few, r.room); bounds_edges = λ e a b. r.chains _ e (record { not_before = a; not_after = omega (arith, b, end.2) }) (omega (arith, b, end.1)) }
 
-pub loop-e-preserved : goal.loop-e-preserved
-loop-e-preserved c =
-    let l = c.loop-e.invariant in
-    let whole = l.1 c.loop-e-test.true in
-    let end = c.chain_end-to.ensures in (
-      end.1,
-      λ h. omega (arith, end.3 h, whole),
-      c.to_chain-least.ensures _ l.2,
-    )
+pub loop-c-preserved : goal.loop-c-preserved
+loop-c-preserved c =
+    let k = c.loop-c.c in
+    let n = count c.args.ring.now in
+    let end = c.chain_end.ensures in
+    let e : min (8 * k) n ≡ 8 * k = omega (arith, end.0, end.1) in
+    let f = chain_to k n _ end.1 end.2 end.3 in
+    rw f at (c.to_chain-least.ensures _ (rw e at c.loop-c.invariant))
 
 pub returns : goal.returns
-returns c = at_end (squared_to _ _ _) c.loop-e.invariant.2 c.loop-e.invariant.0 c.loop-e-test.false
+returns c = at_end (squared_to _ _ _) c.loop-c.invariant (omega arith) (omega (arith, c.div_ceil-c-end.ensures, c.loop-c-test.false))

@@ -8,20 +8,15 @@ use Rattle.ring_distance.proofs.Turns.{none_taken, one_taken, at_end}
 use Rattle.ring_distance.proofs.to_edges.Goals as goal
 
 pub loop-e-init : goal.loop-e-init
-loop-e-init c = (omega arith, omega arith, none_taken _ _ _ _, λ h. c.point_at-a.ensures)
+loop-e-init c = (none_taken _ _ _ _, λ h. c.point_at-a.ensures)
 
 pub loop-e-preserved : goal.loop-e-preserved
 loop-e-preserved c =
     let t = c.loop-e-test.true in
     let l = c.loop-e.invariant in
-    let q = c.point_at-b.ensures ∙ ap (point_at _) c.next.ensures.0 in (
-      omega (arith, l.0),
-      omega (arith, t),
-      one_taken _ _ _ _ _ l.2 (l.3 t) q c.to_edge-least.ensures,
-      λ h. next_start _ _ _ q (omega (arith, h)),
-    )
+    let q = c.point_at-b.ensures ∙ ap (point_at _) c.next.ensures.0 in (one_taken _ _ _ _ _ l.0 (l.1 t) q c.to_edge-least.ensures, λ h. next_start _ _ _ q (omega (arith, h)))
 
 pub returns : goal.returns
 returns c =
     let l = c.loop-e.invariant in
-    λ b h. at_end (squared_to _ _ b) (l.2 b h) l.1 c.loop-e-test.false
+    λ b h. at_end (squared_to _ _ b) (l.0 b h) (c.loop-e.auto.e-end (omega arith)) c.loop-e-test.false

@@ -7,16 +7,16 @@ use Rattle.ring_printer.proofs.put_book.Goals as goal
 pub put_all-requires-clause-counts_len_bound : goal.put_all-requires-clause-counts_len_bound
 put_all-requires-clause-counts_len_bound c =
     let r = c.read_book in
-    printable c.args.book.now (λ i. omega (arith, c.type_inv.book i)) r.new.coordinates r.new.counts r.new.parts r.result r.ensures c.in-Is.k c.in-Is.is
+    printable c.args.book.now (λ i. omega (arith, c.type_inv.book i)) r.new.coordinates r.new.counts r.new.parts r.result r.ensures c.in-Ok.k c.in-Ok.is
 
-pub returns-in-Is : goal.returns-in-Is
-returns-in-Is c =
+pub returns-in-Ok : goal.returns-in-Ok
+returns-in-Ok c =
     let r = c.read_book in
-    reads (rings_said c.args.book.now (λ i. omega (arith, c.type_inv.book i)) r.new.coordinates r.new.counts r.new.parts r.result r.ensures c.in-Is.k c.in-Is.is)
+    reads (rings_said c.args.book.now (λ i. omega (arith, c.type_inv.book i)) r.new.coordinates r.new.counts r.new.parts r.result r.ensures c.in-Ok.k c.in-Ok.is)
     c.put_all.ensures
 
-pub returns-in-Refused : goal.returns-in-Refused
-returns-in-Refused c =
+pub returns-in-Err : goal.returns-in-Err
+returns-in-Err c =
     let r = c.read_book in
-    reads (fault_told c.args.book.now (λ i. omega (arith, c.type_inv.book i)) r.new.coordinates r.new.counts r.new.parts r.result r.ensures c.in-Refused.no c.in-Refused.is)
+    reads (fault_told c.args.book.now (λ i. omega (arith, c.type_inv.book i)) r.new.coordinates r.new.counts r.new.parts r.result r.ensures c.in-Err.no c.in-Err.is)
     c.put_refusal.ensures

@@ -1,11 +1,7 @@
-use Prim.Native.Nat.{◌-◌, ◌≤◌}
 use mathlib.Core.Path.{◌≡◌}
 use Rattle.laws.specs.FirstBest.{over}
 use Rattle.selection.specs.Select.{scored_at, above, unscored}
 use Rattle.selection.proofs.select.Given as goal
 
 abbrev pub invariant-loop-i : goal.invariant-loop-i
-invariant-loop-i l = (l.i ≤ l.n) × (l.best ≡ over above (scored_at l.vectors l.previous l.ccw) unscored l.i)
-
-abbrev pub decreases-loop-i : goal.decreases-loop-i
-decreases-loop-i l = l.n - l.i
+invariant-loop-i l = l.best ≡ over above (scored_at l.vectors l.previous l.ccw) unscored l.i

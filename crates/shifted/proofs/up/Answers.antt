@@ -2,10 +2,8 @@
 use mathlib.Core.Path.{◌≡◌, sym, ap, subst, ◌∙◌}
 use native.Mathlib.Omega.{arith}
 use lib.IntN.{pos, ◌+ℤ◌, nat_abs}
-use lib.Signed.{non_neg}
-use lib.Dec.{T}
-use mir.Syntax.{w32, w64}
-use mir.Val.{to_z, of_z, SFits, Fits}
+use mir.Syntax.{w32}
+use mir.Val.{to_z, of_z, SFits}
 use mir.ValLaws.{to_z-of_z}
 use Rattle.shifted.specs.Shifted.{up_of}
 use Rattle.shifted.proofs.Laws.{low, high, sum, bound}
@@ -28,15 +26,6 @@ returns-then-x-ltminus1000000 c = low _ (rw (plain c.before) at c.if-x-ltminus10
 
 pub returns-then-x-gt1000000 : goal.returns-then-x-gt1000000
 returns-then-x-gt1000000 c = high _ (rw (plain c.before.before) at c.if-x-gt1000000.true)
-
-pub overflow_add-result : goal.overflow_add-result
-overflow_add-result c = subst (SFits w32) (sym (summed c)) (record { sfits = omega (arith, bound c.args.x) })
-
-pub overflow_cast-result : goal.overflow_cast-result
-overflow_cast-result c = (
-  subst (λ z. T (non_neg z)) (sym (back c)) tt,
-  subst (λ z. Fits w64 (nat_abs z)) (sym (back c)) (record { fits = omega (arith, bound c.args.x) }),
-)
 
 pub returns : goal.returns
 returns c = ap nat_abs (back c)

@@ -16,12 +16,12 @@ step r i h k = rw (h, k, add-one i)
 
 pub loop-i-init : goal.loop-i-init
 unfolding sum_to
-loop-i-init c = (omega arith, refl)
+loop-i-init c = refl
 
 pub loop-i-preserved : goal.loop-i-preserved
 loop-i-preserved c =
-    (omega arith, step _ _ c.loop-i.invariant.1 c.term-sum.ensures)
+    step _ _ c.loop-i.invariant c.term-sum.ensures
 
 pub returns : goal.returns
 unfolding area2_of
-returns c = c.loop-i.invariant.1 ∙ ap (sum_to _) (omega arith)
+returns c = c.loop-i.invariant ∙ ap (sum_to _) (omega arith)

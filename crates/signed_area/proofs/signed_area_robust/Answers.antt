@@ -27,12 +27,12 @@ returns-then-n-lt3 c = rw (lt-ltb _ _ c.if-n-lt3.true)
 
 pub loop-i-init : goal.loop-i-init
 unfolding kahan_to
-loop-i-init c = (omega arith, refl)
+loop-i-init c = refl
 
 pub loop-i-preserved : goal.loop-i-preserved
 loop-i-preserved c =
-    (omega arith, step _ _ c.loop-i.invariant.1 c.term.ensures c.added-k.ensures)
+    step _ _ c.loop-i.invariant c.term.ensures c.added-k.ensures
 
 pub returns : goal.returns
 returns c =
-    end _ _ c.loop-i.invariant.0 c.loop-i-test.false c.if-n-lt3.false c.loop-i.invariant.1
+    end _ _ c.loop-i.auto.i-end c.loop-i-test.false c.if-n-lt3.false c.loop-i.invariant

@@ -21,15 +21,15 @@ unfolding is_simple
 returns-then-n-lt3 c = rw (lt-leb _ _ c.if-n-lt3.true)
 
 pub loop-i-init : goal.loop-i-init
-loop-i-init c = (omega arith, start _ c.if-n-lt3.false)
+loop-i-init c = start _ c.if-n-lt3.false
 
 pub loop-i-preserved : goal.loop-i-preserved
 loop-i-preserved c =
-    (omega arith, c.loop-i.invariant.1 ∙ each_on _ _ _ c.loop-i-test.true (sym c.clear_row.ensures ∙ c.if-clear_row.true))
+    c.loop-i.invariant ∙ each_on _ _ _ c.loop-i-test.true (sym c.clear_row.ensures ∙ c.if-not-clear_row.false)
 
-pub returns-else-clear_row : goal.returns-else-clear_row
-returns-else-clear_row c =
-    sym (c.loop-i.invariant.1 ∙ each_off _ _ _ c.loop-i-test.true (sym c.clear_row.ensures ∙ c.if-clear_row.false))
+pub returns-then-not-clear_row : goal.returns-then-not-clear_row
+returns-then-not-clear_row c =
+    sym (c.loop-i.invariant ∙ each_off _ _ _ c.loop-i-test.true (sym c.clear_row.ensures ∙ c.if-not-clear_row.true))
 
 pub returns : goal.returns
-returns c = sym (c.loop-i.invariant.1 ∙ each_end _ _ _ c.loop-i-test.false)
+returns c = sym (c.loop-i.invariant ∙ each_end _ _ _ c.loop-i-test.false)

@@ -4,7 +4,7 @@ use Prim.Native.Nat.{◌+◌, ◌≤◌}
 use lib.ListN.{length, length-set}
 use Rattle.simplify.proofs.Survive.{start, room_left, put, skip, done}
 use Rattle.simplify.proofs.gather.Goals as goal
-use Rattle.simplify.proofs.gather.Goals.{Then-stays}
+use Rattle.simplify.proofs.gather.Goals.{Then-stays, then-stays, else-stays}
 use Rattle.simplify.proofs.gather.Lts.View.{up-Then-stays}
 
 -- there is room for a point that stays
@@ -33,13 +33,12 @@ bounds-room-k-then-stays c = simp length-set (omega (arith, free (up-Then-stays 
 pub overflow_add-k : goal.overflow_add-k
 overflow_add-k c = omega (arith, free (up-Then-stays _ _ _ _ _ c.before.before.before))
 
-pub loop-i-preserved-then-stays : goal.loop-i-preserved-then-stays
-loop-i-preserved-then-stays c =
-    put _ _ c.loop-i.invariant c.loop-i-test.true c.stays.ensures c.if-stays.true c.requires
-
 pub loop-i-preserved : goal.loop-i-preserved
 loop-i-preserved c =
-    skip _ _ c.loop-i.invariant c.loop-i-test.true c.stays.ensures c.if-stays.false
+    elim c.if-stays.branch [
+      | then-stays w ↦ rw (w.k-is, w.room-is) (put _ _ c.loop-i.invariant c.loop-i-test.true c.stays.ensures w.if-stays.true c.requires)
+      | else-stays w ↦ rw (w.k-is, w.room-is) (skip _ _ c.loop-i.invariant c.loop-i-test.true c.stays.ensures w.if-stays.false)
+    ]
 
 pub returns : goal.returns
 returns c = done _ _ c.loop-i.invariant c.loop-i-test.false

@@ -8,19 +8,19 @@ use Rattle.slide_trace.proofs.put_book.Goals as goal
 
 pub put_rings-requires-clause-n_le_vertices_most : goal.put_rings-requires-clause-n_le_vertices_most
 put_rings-requires-clause-n_le_vertices_most c =
-    let p = pair_read c.args.book.now (λ i. omega (arith, c.type_inv.book i)) _ _ _ c.read_book.result c.read_book.ensures c.in-Is.field-0 c.in-Is.is in
+    let p = pair_read c.args.book.now (λ i. omega (arith, c.type_inv.book i)) _ _ _ c.read_book.result c.read_book.ensures c.in-Ok.field-0 c.in-Ok.is in
     (p.first_most, p.second_most, p.both_inside)
 
-pub returns-in-Is : goal.returns-in-Is
+pub returns-in-Ok : goal.returns-in-Ok
 unfolding traced_book_text
-returns-in-Is c =
+returns-in-Ok c =
     let f = c.args.book.now in
-    let p = pair_read f (λ i. omega (arith, c.type_inv.book i)) _ _ _ c.read_book.result c.read_book.ensures c.in-Is.field-0 c.in-Is.is in
+    let p = pair_read f (λ i. omega (arith, c.type_inv.book i)) _ _ _ c.read_book.result c.read_book.ensures c.in-Ok.field-0 c.in-Ok.is in
     reads (pair_said (λ (st orb : List Float). trace_text st orb c.args.settings) refusal_line f p) c.put_rings.ensures
 
-pub returns-in-Refused : goal.returns-in-Refused
+pub returns-in-Err : goal.returns-in-Err
 unfolding traced_book_text
-returns-in-Refused c =
+returns-in-Err c =
     let f = c.args.book.now in
-    let q = fault_read f (λ i. omega (arith, c.type_inv.book i)) _ _ _ _ c.read_book.ensures c.in-Refused.no c.in-Refused.is in
+    let q = fault_read f (λ i. omega (arith, c.type_inv.book i)) _ _ _ _ c.read_book.ensures c.in-Err.no c.in-Err.is in
     reads (fault_said (λ (st orb : List Float). trace_text st orb c.args.settings) refusal_line f q) c.put_refusal.ensures

@@ -23,14 +23,14 @@ module _ (top : Bool) (r : List Float) (i : ℕ) {best : Point} (h : best ≡ ov
 
 pub loop-i-init : goal.loop-i-init
 unfolding over
-loop-i-init c = (omega arith, c.point_at-best.ensures)
+loop-i-init c = c.point_at-best.ensures
 
 pub loop-i-preserved : goal.loop-i-preserved
 loop-i-preserved c =
     let a = c.args in
-    (omega arith, turn a.top a.ring.now c.loop-i.i c.loop-i.invariant.1 c.point_at.ensures c.keep-best.ensures)
+    turn a.top a.ring.now c.loop-i.i c.loop-i.invariant c.point_at.ensures c.keep-best.ensures
 
 pub returns : goal.returns
 returns c =
     let a = c.args in
-    done a.top a.ring.now c.loop-i.i c.loop-i.invariant.1 (omega arith)
+    done a.top a.ring.now c.loop-i.i c.loop-i.invariant (omega arith)

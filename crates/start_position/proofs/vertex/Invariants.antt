@@ -1,4 +1,3 @@
-use Prim.Native.Nat.{◌-◌, ◌≤◌}
 use mathlib.Core.Path.{◌≡◌}
 use Rattle.ring.specs.Ring.{point_at}
 use Rattle.laws.specs.FirstBest.{over}
@@ -6,7 +5,4 @@ use Rattle.start_position.specs.Start.{order_of}
 use Rattle.start_position.proofs.vertex.Given as goal
 
 abbrev pub invariant-loop-i : goal.invariant-loop-i
-invariant-loop-i l = (l.i ≤ l.n) × (l.best ≡ over (order_of l.top) (point_at l.ring) (point_at l.ring 0) l.i)
-
-abbrev pub decreases-loop-i : goal.decreases-loop-i
-decreases-loop-i l = l.n - l.i
+invariant-loop-i l = l.best ≡ over (order_of l.top) (point_at l.ring) (point_at l.ring 0) l.i

@@ -25,20 +25,10 @@ small2 c =
 pub loop-i-init : goal.loop-i-init
 loop-i-init c = start _ _
 
-pub overflow_mul-left : goal.overflow_mul-left
-overflow_mul-left c =
-    let here = up-After-spot_at-q _ _ _ _ _ c.before.before.before in
-    omega (arith, term_most (small1 here).width (small2 here).height)
-
 pub overflow_add-left : goal.overflow_add-left
 overflow_add-left c =
     let here = up-After-spot_at-q _ _ _ _ _ c.before.before.before in
     omega (arith, c.requires.0, c.loop-i.invariant.left_most, c.loop-i.invariant.most, term_most (small1 here).width (small2 here).height)
-
-pub overflow_mul-right : goal.overflow_mul-right
-overflow_mul-right c =
-    let here = up-After-spot_at-q _ _ _ _ _ c.before.before.before.before.before in
-    omega (arith, term_most (small2 here).width (small1 here).height)
 
 pub overflow_add-right : goal.overflow_add-right
 overflow_add-right c =
@@ -50,11 +40,6 @@ loop-i-preserved c =
     let here = up-After-spot_at-q _ _ _ _ _ c.before.before.before.before.before in
     let list = c.args.list.now in
     turn (spot_at list) (length list / 2) c.loop-i-test.true c.spot_at-p.ensures (c.spot_at-q.ensures ∙ ap (spot_at list) c.next.ensures.0) (small1 here) (small2 here) c.loop-i.invariant
-
-pub difference-requires : goal.difference-requires
-difference-requires c =
-    let v = c.loop-i.invariant in
-    (omega (arith, c.requires.0, v.left_most, v.most), omega (arith, c.requires.0, v.right_most, v.most))
 
 pub returns : goal.returns
 returns c =

@@ -3,16 +3,7 @@ use mathlib.Core.Path.{sym, ◌∙◌}
 use Rattle.whole_engine.proofs.Meeting.{by_side}
 use Rattle.whole_engine.proofs.clear_pair.Goals as goal
 
-pub returns-then-shared : goal.returns-then-shared
-returns-then-shared c = rw c.if-shared.true
-
 pub returns-then-same_side : goal.returns-then-same_side
 returns-then-same_side c =
     let side = by_side c.args.a1 c.args.a2 c.args.b1 c.args.b2 _ _ c.requires.d3_value.0 c.requires.d3_value.1 (sym c.same_side.ensures ∙ c.if-same_side.true) in
     rw (c.if-shared.false, side)
-
-pub meet-requires : goal.meet-requires
-meet-requires c = record { small = c.requires.small; d3_value = c.requires.d3_value }
-
-pub returns : goal.returns
-returns c = rw (c.if-shared.false, c.meet.ensures)

@@ -7,11 +7,6 @@ use Rattle.whole_engine.proofs.clear_row.Goals as goal
 use Rattle.whole_engine.proofs.clear_row.Goals.{After-spot_at-a2, After-spot_at-b2}
 use Rattle.whole_engine.proofs.clear_row.Lts.View.{up-After-spot_at-a2, up-After-spot_at-b2}
 
--- the spots of the row are small
-small1 : (c : After-spot_at-a2) → Small c.spot_at-a1.result
-small1 c =
-    small_at c.args.list.now c.requires.1 _ c.requires.0 c.spot_at-a1.ensures
-
 small2 : (c : After-spot_at-a2) → Small c.spot_at-a2.result
 small2 c =
     small_at c.args.list.now c.requires.1 _ c.next.ensures.1 c.spot_at-a2.ensures
@@ -20,39 +15,23 @@ small3 : (c : After-spot_at-b2) → Small c.spot_at-b2.result
 small3 c =
     small_at c.args.list.now c.requires.1 _ c.next-in-loop-j.ensures.1 c.spot_at-b2.ensures
 
-pub turn-d3-requires : goal.turn-d3-requires
-turn-d3-requires c = (small1 c, small2 c, small2 c)
-
 pub loop-j-init : goal.loop-j-init
 loop-j-init c =
     let at = spot_at c.args.list.now in
     first_edge _ _ _ c.requires.0 (small2 (up-After-spot_at-a2 _ _ _ _ _ _ c.before.before)) (c.spot_at-a2.ensures ∙ ap at c.next.ensures.0) c.turn-d3.ensures
 
-pub turn-d4-requires : goal.turn-d4-requires
-turn-d4-requires c =
-    let here = up-After-spot_at-a2 _ _ _ _ _ _ c.before.before.before.before.before.before in
-    (small1 here, small2 here, small3 c)
-
-pub adjacent-requires : goal.adjacent-requires
-adjacent-requires c = (c.loop-j.invariant.past, c.loop-j-test.true)
-
-pub clear_pair-requires : goal.clear_pair-requires
-clear_pair-requires c =
-    let here = up-After-spot_at-a2 _ _ _ _ _ _ c.before.before.before.before.before.before.before.before in
-    record { small = (small1 here, small2 here, c.loop-j.invariant.small, small3 (up-After-spot_at-b2 _ _ _ _ _ _ c.before.before.before)); d3_value = (c.loop-j.invariant.side, c.turn-d4.ensures) }
-
 pub loop-j-preserved : goal.loop-j-preserved
 loop-j-preserved c =
     let at = spot_at c.args.list.now in
     next_edge _ _ _ c.loop-j.invariant c.loop-j-test.true c.spot_at-a1.ensures (c.spot_at-a2.ensures ∙ ap at c.next.ensures.0) (c.spot_at-b2.ensures ∙ ap at c.next-in-loop-j.ensures.0) c.adjacent.ensures
-    c.clear_pair.ensures (small3 (up-After-spot_at-b2 _ _ _ _ _ _ c.before.before.before.before.before)) c.turn-d4.ensures c.if-clear_pair.true
+    c.clear_pair.ensures (small3 (up-After-spot_at-b2 _ _ _ _ _ _ c.before.before.before.before.before)) c.turn-d4.ensures c.if-not-clear_pair.false
 
-pub returns-else-clear_pair : goal.returns-else-clear_pair
-returns-else-clear_pair c =
+pub returns-then-not-clear_pair : goal.returns-then-not-clear_pair
+returns-then-not-clear_pair c =
     let at = spot_at c.args.list.now in
     sym
     (edge_off _ _ _ c.loop-j.invariant c.loop-j-test.true c.spot_at-a1.ensures (c.spot_at-a2.ensures ∙ ap at c.next.ensures.0) (c.spot_at-b2.ensures ∙ ap at c.next-in-loop-j.ensures.0) c.adjacent.ensures
-    c.clear_pair.ensures c.if-clear_pair.false)
+    c.clear_pair.ensures c.if-not-clear_pair.true)
 
 pub returns : goal.returns
 returns c = sym (no_more _ _ _ c.loop-j.invariant c.loop-j-test.false)

@@ -1,12 +1,6 @@
 -- `whole_engine::is_simple_polygon` meets its contract: the front of the array has the points of the ring. Assumes nothing.
-use native.Mathlib.Omega.{arith}
-use mathlib.Core.Path.{sym}
-use lib.Seq.{length-take-le}
 use Rattle.whole_engine.proofs.Lifting.{small_front, simple_front}
 use Rattle.whole_engine.proofs.is_simple_polygon.Goals as goal
-
-pub slice_bounds-is_simple-end : goal.slice_bounds-is_simple-end
-slice_bounds-is_simple-end c = sym (length-take-le _ _ (omega (arith, c.lift.auto.room)))
 
 pub is_simple-requires : goal.is_simple-requires
 is_simple-requires c =

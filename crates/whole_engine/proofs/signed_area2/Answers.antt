@@ -3,13 +3,9 @@ use native.Mathlib.Omega.{arith}
 use borrow.Author.Rules.{sfits_of}
 use mir.Syntax.{w64}
 use mir.ValLaws.{to_z-of_z}
-use mathlib.Core.Path.{sym, ◌∙◌}
-use lib.Seq.{length-take-le}
+use mathlib.Core.Path.{◌∙◌}
 use Rattle.whole_engine.proofs.Lifting.{length_front, small_front, area_front}
 use Rattle.whole_engine.proofs.signed_area2.Goals as goal
-
-pub slice_bounds-area2-end : goal.slice_bounds-area2-end
-slice_bounds-area2-end c = sym (length-take-le _ _ (omega (arith, c.lift.auto.room)))
 
 pub area2-requires : goal.area2-requires
 area2-requires c =

@@ -1,10 +1,7 @@
-use Rattle.std.proofs.Common.{◌≡◌, ◌-◌, ◌≤◌, length, drop}
+use Rattle.std.proofs.Common.{◌≡◌, drop}
 use Rattle.refusals.specs.Bounds.{every}
 use Rattle.whole_input.specs.Whole.{is_whole}
 use Rattle.whole_input.proofs.are_whole.Given as goal
 
-abbrev pub invariant-loop-i : goal.invariant-loop-i
-invariant-loop-i l = (l.i ≤ length l.list) × (every is_whole l.list ≡ every is_whole (drop l.i l.list))
-
-abbrev pub decreases-loop-i : goal.decreases-loop-i
-decreases-loop-i l = length l.list - l.i
+abbrev pub invariant-loop-x : goal.invariant-loop-x
+invariant-loop-x l = every is_whole l.list ≡ every is_whole (drop l.x-index l.list)

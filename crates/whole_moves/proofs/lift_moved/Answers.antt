@@ -1,25 +1,20 @@
 -- `whole_moves::lift_moved` meets its contract. The invariant: what is written, and then what is left of the list, moved by d
 -- first, is the whole list moved; the rest of the room is as it came. Assumes nothing.
-use mathlib.Core.Path.{ap, ◌∙◌}
 use lib.ListN.{get_or}
 use mir.Syntax.{w32}
 use mir.Val.{to_z}
 use mir.ValLaws.{to_z-of_z}
-use lib.IntN.{ℤ, pos, ◌+ℤ◌}
+use lib.IntN.{pos, ◌+ℤ◌}
+use Rattle.std.proofs.Common.{◌≡◌, rules}
 use Rattle.shifted.specs.Shifted.{up_of}
-use Rattle.whole_moves.proofs.Turns.{lift_start, lift_turn, lift_end}
+use Rattle.whole_moves.proofs.Turns.{lift_turn, lift_end}
 use Rattle.whole_moves.proofs.lift_moved.Goals as goal
-
-pub loop-i-init : goal.loop-i-init
-loop-i-init c = lift_start _ _ _ _
 
 pub loop-i-preserved : goal.loop-i-preserved
 loop-i-preserved c =
     let z = get_or c.args.list.now c.loop-i.i (pos 0) in
-    lift_turn _ _ _ _ c.requires c.loop-i-test.true
-    (c.up_moved.ensures
-    ∙ ap (λ (y : ℤ). up_of (y +ℤ to_z w32 c.loop-i.d-bits)) (to_z-of_z w32 z (record { sfits = c.up_moved-arg-1.given })))
-    c.loop-i.invariant
+    let is : c.up_moved.result ≡ up_of (z +ℤ to_z w32 c.loop-i.d-bits) = search rules in
+    lift_turn _ _ _ _ c.requires c.loop-i-test.true is c.loop-i.invariant
 
 pub returns : goal.returns
 returns c =

@@ -7,12 +7,12 @@ use Rattle.winding.proofs.ordered.Goals as goal
 
 pub loop-i-init : goal.loop-i-init
 unfolding points
-loop-i-init c = (omega arith, refl, refl)
+loop-i-init c = (refl, refl)
 
 pub loop-i-preserved : goal.loop-i-preserved
 loop-i-preserved c =
     let v = c.loop-i.invariant in
-    (omega arith, omega (arith, c.put.auto.room), put_next _ _ _ (omega arith) v.2 c.vertex.ensures c.put.ensures)
+    (omega (arith, c.put.auto.room), put_next _ _ _ (omega arith) v.1 c.vertex.ensures c.put.ensures)
 
 pub returns : goal.returns
-returns c = put_all _ _ _ _ c.loop-i.invariant.0 c.loop-i-test.false c.loop-i.invariant.2
+returns c = put_all _ _ _ _ c.loop-i.auto.i-end c.loop-i-test.false c.loop-i.invariant.1

@@ -1,4 +1,4 @@
-use Prim.Native.Nat.{◌*◌, ◌-◌, ◌≤◌}
+use Prim.Native.Nat.{◌*◌}
 use mathlib.Core.Path.{◌≡◌}
 use mathlib.Core.List.{◌++◌}
 use lib.ListN.{length, drop}
@@ -7,7 +7,6 @@ use Rattle.winding.specs.Winding.{ordered_vertex}
 use Rattle.winding.proofs.ordered.Given as goal
 
 abbrev pub invariant-loop-i : goal.invariant-loop-i
-invariant-loop-i l = (l.i ≤ l.n) × (length l.room ≡ length l.initial.room) × (l.room ≡ points (ordered_vertex l.polygon l.reverse) l.i ++ drop (2 * l.i) l.initial.room)
-
-abbrev pub decreases-loop-i : goal.decreases-loop-i
-decreases-loop-i l = l.n - l.i
+invariant-loop-i l =
+    (length l.room ≡ length l.initial.room)
+    × (l.room ≡ points (ordered_vertex l.polygon l.reverse) l.i ++ drop (2 * l.i) l.initial.room)

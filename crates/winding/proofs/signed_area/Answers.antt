@@ -22,11 +22,11 @@ end r i lo hi h = let e : i ≡ count r = omega arith in rw (h, e)
 
 pub loop-i-init : goal.loop-i-init
 unfolding area_sum
-loop-i-init c = (omega arith, refl)
+loop-i-init c = refl
 
 pub loop-i-preserved : goal.loop-i-preserved
 loop-i-preserved c =
-    (omega arith, step _ _ c.loop-i.invariant.1 c.point_at.ensures c.next.ensures.0 c.point_at-in-loop-i.ensures c.added-area.ensures)
+    step _ _ c.loop-i.invariant c.point_at.ensures c.next.ensures.0 c.point_at-in-loop-i.ensures c.added-area.ensures
 
 pub returns : goal.returns
-returns c = end _ _ c.loop-i.invariant.0 c.loop-i-test.false c.loop-i.invariant.1
+returns c = end _ _ c.loop-i.auto.i-end c.loop-i-test.false c.loop-i.invariant

@@ -24,21 +24,21 @@ asked c =
     ∙ ap coordinate_bits (c.number8.ensures ∙ ap (λ (p : ℕ). number_of (take coordinate_bytes (drop p c.args.f.now))) (place c.loop-j.j))
 
 pub loop-j-init : goal.loop-j-init
-loop-j-init c = ((omega arith), coords_start c.args.f.now 0 c.args.m)
+loop-j-init c = (coords_start c.args.f.now 0 c.args.m)
 
 pub returns-then-not-are_coordinate_bits : goal.returns-then-not-are_coordinate_bits
 returns-then-not-are_coordinate_bits c =
     let a = c.args in
     c.fault.ensures
     ∙ ap fault_at (place c.loop-j.j)
-    ∙ sym (c.loop-j.invariant.1 ∙ coord_bad a.f.now 0 a.m c.loop-j.j c.loop-j-test.true (sym (asked (up-After-are_coordinate_bits _ _ _ _ _ c.before.before.before)) ∙ not-true c.are_coordinate_bits.result (ap not c.if-not-are_coordinate_bits.true)))
+    ∙ sym (c.loop-j.invariant ∙ coord_bad a.f.now 0 a.m c.loop-j.j c.loop-j-test.true (sym (asked (up-After-are_coordinate_bits _ _ _ _ _ c.before.before.before)) ∙ not-true c.are_coordinate_bits.result (ap not c.if-not-are_coordinate_bits.true)))
 
 pub loop-j-preserved : goal.loop-j-preserved
 loop-j-preserved c =
     let a = c.args in
-    ((omega arith), c.loop-j.invariant.1 ∙ coord_good a.f.now 0 a.m c.loop-j.j c.loop-j-test.true (sym (asked (up-After-are_coordinate_bits _ _ _ _ _ c.before.before)) ∙ not-false c.are_coordinate_bits.result (ap not c.if-not-are_coordinate_bits.false)))
+    (c.loop-j.invariant ∙ coord_good a.f.now 0 a.m c.loop-j.j c.loop-j-test.true (sym (asked (up-After-are_coordinate_bits _ _ _ _ _ c.before.before)) ∙ not-false c.are_coordinate_bits.result (ap not c.if-not-are_coordinate_bits.false)))
 
 pub returns : goal.returns
 returns c =
     let a = c.args in
-    c.none.ensures ∙ sym (c.loop-j.invariant.1 ∙ coords_end a.f.now 0 a.m c.loop-j.j c.loop-j-test.false)
+    sym (c.loop-j.invariant ∙ coords_end a.f.now 0 a.m c.loop-j.j c.loop-j-test.false)

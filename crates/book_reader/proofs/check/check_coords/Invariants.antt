@@ -1,4 +1,4 @@
-use Prim.Native.Nat.{◌+◌, ◌*◌, ◌-◌, ◌≤◌}
+use Prim.Native.Nat.{◌+◌, ◌*◌, ◌-◌}
 use mathlib.Core.Path.{◌≡◌}
 use lib.ListN.{drop}
 use Rattle.book_layout.specs.Layout.{coordinate_bytes}
@@ -6,7 +6,4 @@ use Rattle.book_layout.specs.Faults.{coords_check}
 use Rattle.book_reader.proofs.check.check_coords.Given as goal
 
 abbrev pub invariant-loop-j : goal.invariant-loop-j
-invariant-loop-j l = (l.j ≤ l.m) × (coords_check l.m 0 l.f ≡ coords_check (l.m - l.j) (0 + coordinate_bytes * l.j) (drop (0 + coordinate_bytes * l.j) l.f))
-
-abbrev pub decreases-loop-j : goal.decreases-loop-j
-decreases-loop-j l = l.m - l.j
+invariant-loop-j l = coords_check l.m 0 l.f ≡ coords_check (l.m - l.j) (0 + coordinate_bytes * l.j) (drop (0 + coordinate_bytes * l.j) l.f)

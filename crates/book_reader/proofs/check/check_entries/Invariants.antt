@@ -8,10 +8,6 @@ use Rattle.book_reader.proofs.check.check_entries.Given as goal
 
 abbrev pub invariant-loop-i : goal.invariant-loop-i
 invariant-loop-i l =
-    (l.i ≤ l.k)
-    × (l.before ≤ vertices_most * vertex_bytes * l.i)
+    (l.before ≤ vertices_most * vertex_bytes * l.i)
     × (entries_check l.k l.from 0 (drop l.from l.f) ≡ entries_check (l.k - l.i) (l.from + entry_bytes * l.i) l.before (drop (l.from + entry_bytes * l.i) l.f))
     × (vertex_bytes * total (counts_in l.k (drop l.from l.f)) ≡ l.before + vertex_bytes * total (counts_in (l.k - l.i) (drop (l.from + entry_bytes * l.i) l.f)))
-
-abbrev pub decreases-loop-i : goal.decreases-loop-i
-decreases-loop-i l = l.k - l.i

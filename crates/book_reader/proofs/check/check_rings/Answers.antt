@@ -52,13 +52,13 @@ module _ (c : After-number4-n) where
   is_n = c.number4-n.ensures.0
 
   entry : (vertices_least ≤ n) × (n ≤ vertices_most) × (entries_check (k - (i + 1)) (from + entry_bytes * (i + 1)) (at + vertex_bytes * n) (drop (from + entry_bytes * (i + 1)) f) passes)
-  entry = entry_held f from k i at turn l.loop-i.invariant.3
+  entry = entry_held f from k i at turn l.loop-i.invariant.2
 
   left : at + vertex_bytes * n + vertex_bytes * total rest ≡ from
-  left = omega (arith, total_left f from k i at turn, l.loop-i.invariant.2)
+  left = omega (arith, total_left f from k i at turn, l.loop-i.invariant.1)
 
   coords : (coords_check (2 * n) at (drop at f) passes) × (coords_check (2 * total rest) (at + vertex_bytes * n) (drop (at + vertex_bytes * n) f) passes)
-  coords = coords_next f from k i at turn l.loop-i.invariant.4
+  coords = coords_next f from k i at turn l.loop-i.invariant.3
 
 -- what was asked of it
 asked : (c : After-is_least_at) → c.is_least_at.result ≡ is_least (vertices (coords_in (2 * n (up-After-number4-n _ _ _ _ _ _ c.before.before)) (drop (at (up-After-number4-n _ _ _ _ _ _ c.before.before)) (f (up-After-number4-n _ _ _ _ _ _ c.before.before)))))
@@ -74,7 +74,6 @@ loop-i-init c =
     let z = fields_start f field_bytes from k in
     let t : total (counts_in k (drop from f)) ≡ total (counts_in (k - 0) (drop (from + entry_bytes * 0) f)) = ap total z in
     let m : 2 * total (counts_in (k - 0) (drop (from + entry_bytes * 0) f)) ≡ from / coordinate_bytes = omega (arith, p.1) in (
-      (omega arith),
       ap (λ (ns : List ℕ). least_check ns 0 f) z,
       (omega (arith, p.1)),
       ap passed (sym (entries_start f from k)) ∙ p.0,
@@ -89,7 +88,7 @@ pub returns-then-not-is_least_at : goal.returns-then-not-is_least_at
 returns-then-not-is_least_at c =
     let here = up-After-number4-n _ _ _ _ _ _ c.before.before.before.before in
     c.fault.ensures
-    ∙ sym ((l here).loop-i.invariant.1 ∙ least_bad (f here) (from here) (k here) (i here) (at here) (turn here) (sym (asked (up-After-is_least_at _ _ _ _ _ _ c.before.before.before)) ∙ not-true c.is_least_at.result (ap not c.if-not-is_least_at.true)))
+    ∙ sym ((l here).loop-i.invariant.0 ∙ least_bad (f here) (from here) (k here) (i here) (at here) (turn here) (sym (asked (up-After-is_least_at _ _ _ _ _ _ c.before.before.before)) ∙ not-true c.is_least_at.result (ap not c.if-not-is_least_at.true)))
 
 pub overflow_mul-at : goal.overflow_mul-at
 overflow_mul-at c =
@@ -104,8 +103,7 @@ overflow_add-at c =
 pub loop-i-preserved : goal.loop-i-preserved
 loop-i-preserved c =
     let here = up-After-number4-n _ _ _ _ _ _ c.before.before.before in (
-      (omega arith),
-      (l here).loop-i.invariant.1
+      (l here).loop-i.invariant.0
           ∙ least_good (f here) (from here) (k here) (i here) (at here) (turn here) (sym (asked (up-After-is_least_at _ _ _ _ _ _ c.before.before)) ∙ not-false c.is_least_at.result (ap not c.if-not-is_least_at.false))
           ∙ ap (λ (j : ℕ). least_check (rest here) (at here + vertex_bytes * j) (drop (at here + vertex_bytes * j) (f here))) (sym (is_n here)),
       (omega (arith, is_n here, left here)),
@@ -118,5 +116,4 @@ returns c =
     let s = c.args in
     let f = s.f.now in
     let i = c.loop-i.i in
-    c.none.ensures
-    ∙ sym (c.loop-i.invariant.1 ∙ least_end f (counts_in (s.k - i) (drop (s.from + entry_bytes * i) f)) c.loop-i.at (fields_end f field_bytes s.from s.k i c.loop-i-test.false))
+    sym (c.loop-i.invariant.0 ∙ least_end f (counts_in (s.k - i) (drop (s.from + entry_bytes * i) f)) c.loop-i.at (fields_end f field_bytes s.from s.k i c.loop-i-test.false))

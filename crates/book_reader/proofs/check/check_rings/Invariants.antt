@@ -1,4 +1,4 @@
-use Prim.Native.Nat.{◌+◌, ◌*◌, ◌-◌, ◌≤◌}
+use Prim.Native.Nat.{◌+◌, ◌*◌, ◌-◌}
 use mathlib.Core.Path.{◌≡◌}
 use lib.ListN.{drop}
 use Rattle.refusals.specs.Rings.{total}
@@ -8,11 +8,7 @@ use Rattle.book_reader.proofs.check.check_rings.Given as goal
 
 abbrev pub invariant-loop-i : goal.invariant-loop-i
 invariant-loop-i l =
-    (l.i ≤ l.k)
-    × (least_check (counts_in l.k (drop l.from l.f)) 0 l.f ≡ least_check (counts_in (l.k - l.i) (drop (l.from + entry_bytes * l.i) l.f)) l.at (drop l.at l.f))
+    (least_check (counts_in l.k (drop l.from l.f)) 0 l.f ≡ least_check (counts_in (l.k - l.i) (drop (l.from + entry_bytes * l.i) l.f)) l.at (drop l.at l.f))
     × (l.at + vertex_bytes * total (counts_in (l.k - l.i) (drop (l.from + entry_bytes * l.i) l.f)) ≡ l.from)
     × (entries_check (l.k - l.i) (l.from + entry_bytes * l.i) l.at (drop (l.from + entry_bytes * l.i) l.f) passes)
     × (coords_check (2 * total (counts_in (l.k - l.i) (drop (l.from + entry_bytes * l.i) l.f))) l.at (drop l.at l.f) passes)
-
-abbrev pub decreases-loop-i : goal.decreases-loop-i
-decreases-loop-i l = l.k - l.i

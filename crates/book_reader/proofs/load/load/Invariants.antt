@@ -1,4 +1,4 @@
-use Prim.Native.Nat.{◌+◌, ◌*◌, ◌-◌, ◌≤◌}
+use Prim.Native.Nat.{◌+◌, ◌*◌, ◌-◌}
 use mathlib.Core.Path.{◌≡◌}
 use mathlib.Core.List.{map}
 use lib.ListN.{length, drop}
@@ -10,10 +10,6 @@ use Rattle.book_reader.proofs.load.load.Given as goal
 
 abbrev pub invariant-loop-j : goal.invariant-loop-j
 invariant-loop-j l =
-    (l.j ≤ l.m)
-    × (length l.room ≡ length l.initial.room)
+    (length l.room ≡ length l.initial.room)
     × (coords_check (l.m - l.j) (l.at + coordinate_bytes * l.j) (drop (l.at + coordinate_bytes * l.j) l.f) passes)
     × (sets l.initial.room 0 (map (of_bits binary64) (coords_in l.m (drop l.at l.f))) ≡ sets l.room l.j (map (of_bits binary64) (coords_in (l.m - l.j) (drop (l.at + coordinate_bytes * l.j) l.f))))
-
-abbrev pub decreases-loop-j : goal.decreases-loop-j
-decreases-loop-j l = l.m - l.j

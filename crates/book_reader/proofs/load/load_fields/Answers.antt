@@ -2,7 +2,6 @@
 -- for. Assumes nothing.
 use Prim.Native.Nat.{ℕ, ◌+◌, ◌*◌, ◌-◌}
 use mathlib.Core.Path.{refl, sym, ap, ◌∙◌}
-use native.Mathlib.Omega.{arith}
 use lib.ListN.{drop, set, length-set}
 use lib.Seq.{sets}
 use Rattle.book_layout.specs.Layout.{entry_bytes, fields_in}
@@ -12,7 +11,7 @@ use Rattle.book_reader.proofs.load.load_fields.Goals as goal
 pub loop-i-init : goal.loop-i-init
 loop-i-init c =
     let a = c.args in
-    ((omega arith), refl, ap (sets a.room.now 0) (fields_start a.f.now a.p a.from a.k))
+    (refl, ap (sets a.room.now 0) (fields_start a.f.now a.p a.from a.k))
 
 pub loop-i-preserved : goal.loop-i-preserved
 loop-i-preserved c =
@@ -20,9 +19,8 @@ loop-i-preserved c =
     let f = a.f.now in
     let i = c.loop-i.i in
     let room = c.loop-i.room in (
-      (omega arith),
-      length-set room i c.number4.result ∙ c.loop-i.invariant.1,
-      c.loop-i.invariant.2
+      length-set room i c.number4.result ∙ c.loop-i.invariant.0,
+      c.loop-i.invariant.1
           ∙ fields_on f a.p a.from a.k i c.loop-i-test.true room
           ∙ ap (λ (b : ℕ). sets (set room i b) (i + 1) (fields_in a.p (a.k - (i + 1)) (drop (a.from + entry_bytes * (i + 1)) f))) (sym c.number4.ensures.0),
     )
@@ -30,4 +28,4 @@ loop-i-preserved c =
 pub returns : goal.returns
 returns c =
     let a = c.args in
-    sym (c.loop-i.invariant.2 ∙ ap (sets c.loop-i.room c.loop-i.i) (fields_end a.f.now a.p a.from a.k c.loop-i.i c.loop-i-test.false))
+    sym (c.loop-i.invariant.1 ∙ ap (sets c.loop-i.room c.loop-i.i) (fields_end a.f.now a.p a.from a.k c.loop-i.i c.loop-i-test.false))

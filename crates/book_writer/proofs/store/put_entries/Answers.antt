@@ -24,13 +24,7 @@ share c = total_on c.args.counts.now c.loop-i.i c.loop-i-test.true
 pub loop-i-init : goal.loop-i-init
 loop-i-init c =
     let a = c.args in
-    ((omega arith), refl, (omega arith), entries_start a.room.now a.counts.now a.parts.now a.from)
-
-pub overflow_cast-n : goal.overflow_cast-n
-overflow_cast-n c = omega (arith, c.shared_slice_known-in-loop-i-1.given c.loop-i.i)
-
-pub overflow_cast-parts : goal.overflow_cast-parts
-overflow_cast-parts c = omega (arith, c.shared_slice_known-in-loop-i-2-1.given c.loop-i.i)
+    (refl, (omega arith), entries_start a.room.now a.counts.now a.parts.now a.from)
 
 pub overflow_mul-before : goal.overflow_mul-before
 overflow_mul-before c = omega (arith, share (up-In-loop-i _ _ _ _ _ _ c.before.before.before.before.before.before.before.before.before.before.before.before.before.before.before))
@@ -54,14 +48,13 @@ loop-i-preserved c =
     let f : c.put-in-loop-i.new.room ≡ r2 = c.put-in-loop-i.ensures ∙ ap (λ (r : List ℕ). sets r (a + field_bytes) (bytes_of field_bytes n)) e in
     let g : c.put-in-loop-i-2.new.room ≡ sets r2 (a + 2 * field_bytes) (bytes_of field_bytes p) =
     c.put-in-loop-i-2.ensures ∙ ap (λ (r : List ℕ). sets r (a + 2 * field_bytes) (bytes_of field_bytes p)) f in (
-      (omega arith),
       ap length g
           ∙ length-sets r2 (a + 2 * field_bytes) (bytes_of field_bytes p)
           ∙ length-sets r1 (a + field_bytes) (bytes_of field_bytes n)
           ∙ length-sets room a (bytes_of field_bytes b)
-          ∙ c.loop-i.invariant.1,
+          ∙ c.loop-i.invariant.0,
       (omega (arith, share (up-In-loop-i _ _ _ _ _ _ c.before.before.before.before.before.before.before.before.before.before.before.before.before.before.before))),
-      c.loop-i.invariant.3
+      c.loop-i.invariant.2
           ∙ entries_on room ns ps c.args.from b i c.requires.counts_bound.1 c.loop-i-test.true
           ∙ ap (λ (r : List ℕ). sets r (c.args.from + entry_bytes * (i + 1)) (entries (b + vertex_bytes * n) (drop (i + 1) ns) (drop (i + 1) ps))) (sym g),
     )
@@ -69,5 +62,5 @@ loop-i-preserved c =
 pub returns : goal.returns
 returns c =
     sym
-    (c.loop-i.invariant.3
+    (c.loop-i.invariant.2
     ∙ entries_end c.loop-i.room c.args.counts.now c.args.parts.now c.args.from c.loop-i.before c.loop-i.i c.requires.counts_bound.1 c.loop-i-test.false)

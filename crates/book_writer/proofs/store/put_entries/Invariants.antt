@@ -1,4 +1,4 @@
-use Prim.Native.Nat.{◌+◌, ◌*◌, ◌-◌, ◌≤◌}
+use Prim.Native.Nat.{◌+◌, ◌*◌}
 use mathlib.Core.Path.{◌≡◌}
 use lib.ListN.{length, drop}
 use lib.Seq.{sets}
@@ -8,10 +8,5 @@ use Rattle.book_writer.proofs.store.put_entries.Given as goal
 
 abbrev pub invariant-loop-i : goal.invariant-loop-i
 invariant-loop-i l =
-    (l.i ≤ length l.counts)
-    × (length l.room ≡ length l.initial.room)
-    × (l.before + vertex_bytes * total (drop l.i l.counts) ≡ vertex_bytes * total l.counts)
+    (length l.room ≡ length l.initial.room) × (l.before + vertex_bytes * total (drop l.i l.counts) ≡ vertex_bytes * total l.counts)
     × (sets l.initial.room l.from (entries 0 l.counts l.parts) ≡ sets l.room (l.from + entry_bytes * l.i) (entries l.before (drop l.i l.counts) (drop l.i l.parts)))
-
-abbrev pub decreases-loop-i : goal.decreases-loop-i
-decreases-loop-i l = length l.counts - l.i

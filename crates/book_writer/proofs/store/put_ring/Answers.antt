@@ -17,7 +17,7 @@ use Rattle.book_writer.proofs.store.put_ring.Goals as goal
 pub loop-j-init : goal.loop-j-init
 loop-j-init c =
     let a = c.args in
-    ((omega arith), refl, ring_start a.room.now (flat (choice (ring_of a.ring.now) a.c)) a.at)
+    (refl, ring_start a.room.now (flat (choice (ring_of a.ring.now) a.c)) a.at)
 
 pub loop-j-preserved : goal.loop-j-preserved
 loop-j-preserved c =
@@ -28,9 +28,8 @@ loop-j-preserved c =
     let n = length_choice xs c.requires.lent.even c.args.c in
     let e : c.put.new.room ≡ sets c.loop-j.room p (bytes_of coordinate_bytes (get_or f j 0)) =
     c.put.ensures ∙ ap (λ (v : ℕ). sets c.loop-j.room p (bytes_of coordinate_bytes v)) c.coordinate-b.ensures in (
-      (omega arith),
-      ap length e ∙ length-sets c.loop-j.room p (bytes_of coordinate_bytes (get_or f j 0)) ∙ c.loop-j.invariant.1,
-      c.loop-j.invariant.2
+      ap length e ∙ length-sets c.loop-j.room p (bytes_of coordinate_bytes (get_or f j 0)) ∙ c.loop-j.invariant.0,
+      c.loop-j.invariant.1
           ∙ ring_on c.loop-j.room f c.args.at j (omega arith)
           ∙ ap (λ (r : List ℕ). sets r (c.args.at + coordinate_bytes * (j + 1)) (coord_bytes (drop (j + 1) f))) (sym e),
     )
@@ -39,4 +38,4 @@ pub returns : goal.returns
 returns c =
     let xs = c.args.ring.now in
     let n = length_choice xs c.requires.lent.even c.args.c in
-    sym (c.loop-j.invariant.2 ∙ ring_end c.loop-j.room (flat (choice (ring_of xs) c.args.c)) c.args.at c.loop-j.j (omega arith))
+    sym (c.loop-j.invariant.1 ∙ ring_end c.loop-j.room (flat (choice (ring_of xs) c.args.c)) c.args.at c.loop-j.j (omega arith))

@@ -1,4 +1,4 @@
-use Prim.Native.Nat.{◌+◌, ◌*◌, ◌-◌, ◌≤◌}
+use Prim.Native.Nat.{◌+◌, ◌*◌}
 use mathlib.Core.Path.{◌≡◌}
 use lib.ListN.{length, drop}
 use lib.Seq.{sets}
@@ -9,9 +9,5 @@ use Rattle.book_writer.proofs.store.put_ring.Given as goal
 
 abbrev pub invariant-loop-j : goal.invariant-loop-j
 invariant-loop-j l =
-    (l.j ≤ length l.ring)
-    × (length l.room ≡ length l.initial.room)
+    (length l.room ≡ length l.initial.room)
     × (sets l.initial.room l.at (coord_bytes (flat (choice (ring_of l.ring) l.c))) ≡ sets l.room (l.at + coordinate_bytes * l.j) (coord_bytes (drop l.j (flat (choice (ring_of l.ring) l.c)))))
-
-abbrev pub decreases-loop-j : goal.decreases-loop-j
-decreases-loop-j l = length l.ring - l.j

@@ -12,5 +12,5 @@ returns c =
     let orb = c.args.orbiting.now in
     let ls = c.args.reason.now in
     let e = c.check_reason.ensures ∙ as_lent (λ (x y : ℤ). check_reason_call st orb x y ls) c.ranges.dx c.ranges.dy in
-    let h = c.hand_judged-no.ensures in
+    let h = c.hand_judged.ensures in
     record { value = number_told e h.0 c.hand_refusal.ensures.value; ground_after = rw (← e) h.1; edge_after = rw (← e) h.2; place_after = place_told e h.0 _ c.hand_refusal.ensures.place_after }

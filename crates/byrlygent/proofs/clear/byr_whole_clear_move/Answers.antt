@@ -14,5 +14,5 @@ returns c =
     let room = c.args.reason.now in
     let e = c.clear_move.ensures.0 ∙ as_lent (λ (x y : ℤ). clear_move_call st orb x y (length room)) c.ranges.dx c.ranges.dy in
     let w = c.clear_move.ensures.1 ∙ as_lent (λ (x y : ℤ). clear_move_room st orb x y room) c.ranges.dx c.ranges.dy in
-    let h = c.hand_judged-no.ensures in
+    let h = c.hand_judged.ensures in
     record { value = number_told e h.0 c.hand_refusal.ensures.value; ground_after = rw (← e) h.1; edge_after = rw (← e) h.2; place_after = place_told e h.0 _ c.hand_refusal.ensures.place_after; reason_after = w }

@@ -4,7 +4,7 @@ use Rattle.byrlygent.proofs.drawing.byr_clear_move.Goals as goal
 
 pub returns : goal.returns
 returns c =
-    let h = c.hand_judged-no.ensures in
+    let h = c.hand_judged.ensures in
     record {
       fact = (
         number_told c.clear_move.ensures.result_value h.0 c.hand_refusal.ensures.value,

@@ -5,7 +5,7 @@ use Rattle.byrlygent.proofs.drawing.byr_clear_path.Goals as goal
 pub returns : goal.returns
 returns c =
     let e = c.clear_path.ensures in
-    let h = c.hand_path_judged-no.ensures in (
+    let h = c.hand_path_judged.ensures in (
       number_told e h.0 c.hand_refusal.ensures.value,
       rw (← e) h.1,
       rw (← e) h.2,

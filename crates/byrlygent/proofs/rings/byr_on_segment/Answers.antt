@@ -1,10 +1,9 @@
 -- `byrlygent::rings::byr_on_segment` meets its contract: the call's answer, handed over. Assumes nothing.
-use mathlib.Core.Path.{refl}
 use Rattle.handed.proofs.Told.{number_told}
 use Rattle.byrlygent.proofs.rings.byr_on_segment.Goals as goal
 
 pub returns : goal.returns
 returns c =
     let e = c.on_segment.ensures in
-    let h = c.hand_truth-no.ensures in
-    record { value = number_told e h.0 refl; on_after = rw (← e) h.1 }
+    let h = c.hand_truth.ensures in
+    record { value = number_told e h.0 c.refusal_number.ensures; on_after = rw (← e) h.1 }

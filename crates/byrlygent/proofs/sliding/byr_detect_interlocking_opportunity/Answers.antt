@@ -5,5 +5,5 @@ use Rattle.byrlygent.proofs.sliding.byr_detect_interlocking_opportunity.Goals as
 pub returns : goal.returns
 returns c =
     let e = c.detect_interlocking_opportunity-answer.ensures in
-    let h = c.hand_position-no.ensures in
+    let h = c.hand_position.ensures in
     record { value = number_told e h.0 c.hand_refusal.ensures.value; found_after = rw (← e) h.1; tox_after = rw (← e) h.2; toy_after = rw (← e) h.3; place_after = place_told e h.0 _ c.hand_refusal.ensures.place_after }

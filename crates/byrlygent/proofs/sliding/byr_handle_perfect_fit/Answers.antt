@@ -5,5 +5,5 @@ use Rattle.byrlygent.proofs.sliding.byr_handle_perfect_fit.Goals as goal
 pub returns : goal.returns
 returns c =
     let e = c.handle_perfect_fit.ensures in
-    let h = c.hand_count-no.ensures in
+    let h = c.hand_count.ensures in
     record { value = number_told e.0 h.0 c.hand_refusal.ensures.value; count_after = rw (← e.0) h.1; place_after = place_told e.0 h.0 _ c.hand_refusal.ensures.place_after; vectors_after = e.1; sources_after = e.2 }

@@ -6,5 +6,5 @@ pub returns : goal.returns
 returns c =
     let b = c.previous-before.ensures in
     let e = rw b at c.select_translation_vector.ensures in
-    let h = c.hand_selected-no.ensures in
+    let h = c.hand_selected.ensures in
     record { value = number_told e h.0 c.hand_refusal.ensures.value; found_after = rw (← e) h.1; index_after = rw (← e) h.2; place_after = place_told e h.0 _ c.hand_refusal.ensures.place_after }

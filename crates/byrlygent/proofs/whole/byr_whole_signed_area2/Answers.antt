@@ -5,5 +5,5 @@ use Rattle.byrlygent.proofs.whole.byr_whole_signed_area2.Goals as goal
 pub returns : goal.returns
 returns c =
     let e = c.signed_area2.ensures in
-    let h = c.hand_integer-no.ensures in
+    let h = c.hand_integer.ensures in
     record { value = number_told e h.0 c.hand_refusal.ensures.value; area2_after = rw (← e) h.1; place_after = place_told e h.0 _ c.hand_refusal.ensures.place_after }

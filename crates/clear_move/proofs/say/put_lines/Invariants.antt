@@ -8,8 +8,5 @@ use Rattle.clear_move.proofs.say.put_lines.Given as goal
 
 abbrev pub invariant-loop-j : goal.invariant-loop-j
 invariant-loop-j l =
-    (l.j ≤ l.m) × (length l.out ≡ length l.initial.out) × (l.next ≤ l.at + 96 * l.j + 22 * told (first l.owners) l.j l.m)
+    (length l.out ≡ length l.initial.out) × (l.next ≤ l.at + 96 * l.j + 22 * told (first l.owners) l.j l.m)
     × Put l.initial.out l.at (shared_lines (first l.owners) l.ls l.m l.j) l.out l.next
-
-abbrev pub decreases-loop-j : goal.decreases-loop-j
-decreases-loop-j l = l.m - l.j

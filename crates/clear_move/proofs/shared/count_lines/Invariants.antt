@@ -5,7 +5,4 @@ use Rattle.clear_move.specs.Owned.{first}
 use Rattle.clear_move.proofs.shared.count_lines.Given as goal
 
 abbrev pub invariant-loop-k : goal.invariant-loop-k
-invariant-loop-k l = (l.k ≤ l.m) × (l.count ≡ line_count (first l.owners) l.k)
-
-abbrev pub decreases-loop-k : goal.decreases-loop-k
-decreases-loop-k l = l.m - l.k
+invariant-loop-k l = l.count ≡ line_count (first l.owners) l.k

@@ -6,6 +6,3 @@ use Rattle.clear_move.proofs.shared.first_with.Given as goal
 
 abbrev pub invariant-loop-i : goal.invariant-loop-i
 invariant-loop-i l = Rest (λ k. same_line l.ls k l.j) l.j l.i
-
-abbrev pub decreases-loop-i : goal.decreases-loop-i
-decreases-loop-i l = l.j - l.i

@@ -9,7 +9,7 @@ use Rattle.clear_move.proofs.shared.put_ranges.Goals as goal
 pub loop-k-init : goal.loop-k-init
 loop-k-init c =
     let a = c.args in
-    (omega arith, refl, omega arith, no_range (first a.owners.now) a.m a.j a.out.now a.at)
+    (refl, omega arith, no_range (first a.owners.now) a.m a.j a.out.now a.at)
 
 pub put_part-next-requires : goal.put_part-next-requires
 put_part-next-requires c =
@@ -19,7 +19,7 @@ put_part-next-requires c =
     let v = c.loop-k.invariant in (
       c.loop-k-test.true,
       c.requires.0,
-      omega (arith, v.1, v.2, c.requires.1, tally_more p k refl refl, tally_up p (k + 1) a.m (omega (arith, c.loop-k-test.true))),
+      omega (arith, v.0, v.1, c.requires.1, tally_more p k refl refl, tally_up p (k + 1) a.m (omega (arith, c.loop-k-test.true))),
     )
 
 pub loop-k-preserved : goal.loop-k-preserved
@@ -28,8 +28,7 @@ loop-k-preserved c =
     let o = first a.owners.now in
     let v = c.loop-k.invariant in
     let q = c.put_part-next in (
-      omega arith,
-      q.auto.out ∙ v.1,
-      omega (arith, v.2, q.ensures.upper_bound, tally_more (has o a.j) c.loop-k.k refl refl),
-      range_more o a.m a.j c.loop-k.k v.3 q.ensures.put,
+      q.auto.out ∙ v.0,
+      omega (arith, v.1, q.ensures.upper_bound, tally_more (has o a.j) c.loop-k.k refl refl),
+      range_more o a.m a.j c.loop-k.k v.2 q.ensures.put,
     )

@@ -8,8 +8,5 @@ use Rattle.clear_move.proofs.shared.put_ranges.Given as goal
 
 abbrev pub invariant-loop-k : goal.invariant-loop-k
 invariant-loop-k l =
-    (l.k ≤ l.m) × (length l.out ≡ length l.initial.out) × (l.next ≤ l.at + 22 * tally (has (first l.owners) l.j) l.k)
+    (length l.out ≡ length l.initial.out) × (l.next ≤ l.at + 22 * tally (has (first l.owners) l.j) l.k)
     × Put l.initial.out l.at (ranges_to (first l.owners) l.m l.j l.k) l.out l.next
-
-abbrev pub decreases-loop-k : goal.decreases-loop-k
-decreases-loop-k l = l.m - l.k

@@ -1,7 +1,6 @@
 -- `clear_path::row::are_placed` meets its contract. The invariant: the points from i on decide. Assumes nothing.
 use Prim.Native.Nat.{◌+◌, ◌*◌}
 use mathlib.Core.Path.{◌≡◌, sym, ◌∙◌}
-use native.Mathlib.Omega.{arith}
 use lib.ListN.{get_or}
 use lib.IntN.{ℤ, pos}
 use Rattle.ring.proofs.Each.{each_on, each_off, each_end}
@@ -24,15 +23,16 @@ is c =
     (record { sfits = c.are_moved_within-arg-1.given }) (record { sfits = c.are_moved_within-arg-in-loop-i-1.given })
 
 pub loop-i-init : goal.loop-i-init
-loop-i-init c = (omega arith, all_left _ _)
+loop-i-init c = all_left _ _
 
 pub loop-i-preserved : goal.loop-i-preserved
 loop-i-preserved c =
-    (omega arith, c.loop-i.invariant.1 ∙ each_on _ _ _ c.loop-i-test.true (sym (is c.before) ∙ c.if-are_moved_within.true))
+    let t = c.if-not-are_moved_within.false in
+    c.loop-i.invariant ∙ each_on _ _ _ c.loop-i-test.true (sym (is c.before) ∙ t)
 
-pub returns-else-are_moved_within : goal.returns-else-are_moved_within
-returns-else-are_moved_within c =
-    sym (c.loop-i.invariant.1 ∙ each_off _ _ _ c.loop-i-test.true (sym (is c.before) ∙ c.if-are_moved_within.false))
+pub returns-then-not-are_moved_within : goal.returns-then-not-are_moved_within
+returns-then-not-are_moved_within c =
+    sym (c.loop-i.invariant ∙ each_off _ _ _ c.loop-i-test.true (sym (is c.before) ∙ c.if-not-are_moved_within.true))
 
 pub returns : goal.returns
-returns c = sym (c.loop-i.invariant.1 ∙ each_end _ _ _ c.loop-i-test.false)
+returns c = sym (c.loop-i.invariant ∙ each_end _ _ _ c.loop-i-test.false)

@@ -4,11 +4,11 @@ use Rattle.pairs.proofs.Numbers.{most}
 use Rattle.contacts.proofs.Following.{FoundAt, next_at, next_none}
 use Rattle.contacts_call.proofs.Counting.{start, one_more, all}
 use Rattle.contacts_call.proofs.write.count_contacts.Goals as goal
-use Rattle.contacts_call.proofs.write.count_contacts.Goals.{In-At}
+use Rattle.contacts_call.proofs.write.count_contacts.Goals.{In-Some}
 
 -- the contact found
-at : (c : In-At) → FoundAt c.args.stationary.now c.args.orbiting.now c.args.tol c.loop-j.k c.in-At.j
-at c = next_at _ _ _ c.next_within.ensures c.in-At.is
+at : (c : In-Some) → FoundAt c.args.stationary.now c.args.orbiting.now c.args.tol c.loop-j.k c.in-Some.j
+at c = next_at _ _ _ c.next_within.ensures c.in-Some.is
 
 pub loop-j-init : goal.loop-j-init
 loop-j-init c = start _ _ _
@@ -18,10 +18,10 @@ next_within-requires c =
     let d = c.requires in
     record { sides = d; from_bound = c.loop-j.invariant.most; framed = c.frames_of-frames.ensures }
 
-pub returns-in-Nothing : goal.returns-in-Nothing
-returns-in-Nothing c =
+pub returns : goal.returns
+returns c =
     let i = c.loop-j.invariant in
-    (all _ _ _ i (next_none _ _ _ _ c.next_within.ensures c.in-Nothing.is), omega (arith, i.few, i.most, most _ _ c.requires))
+    (all _ _ _ i (next_none _ _ _ _ c.next_within.ensures c.in_default.is), omega (arith, i.few, i.most, most _ _ c.requires))
 
 pub overflow_add-n : goal.overflow_add-n
 overflow_add-n c =

@@ -3,8 +3,8 @@ use Rattle.print.proofs.Puts.{reads}
 use Rattle.explain_move.proofs.Answers.{clear_said, hit_said}
 use Rattle.explain_move.proofs.say.put_explanation.Goals as goal
 
-pub returns-in-Nothing : goal.returns-in-Nothing
-returns-in-Nothing c = reads (clear_said c.args.x c.in-Nothing.is c.number.ensures) c.put_clear.ensures
+pub returns-in-None : goal.returns-in-None
+returns-in-None c = reads (clear_said c.args.x c.in-None.is c.number.ensures) c.put_clear.ensures
 
-pub returns-in-Hit : goal.returns-in-Hit
-returns-in-Hit c = reads (hit_said c.args.x c.in-Hit.is) c.put_hit.ensures
+pub returns-in-Some : goal.returns-in-Some
+returns-in-Some c = reads (hit_said c.args.x c.in-Some.is) c.put_hit.ensures

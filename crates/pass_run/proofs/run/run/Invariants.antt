@@ -7,9 +7,7 @@ use Rattle.pass_run.proofs.run.run.Given as goal
 
 abbrev pub invariant-loop-passes : goal.invariant-loop-passes
 invariant-loop-passes l =
-    (l.passes ≤ l.limit) × (length l.room ≡ length l.initial.room) × (2 * l.state.stored ≤ length l.room)
+    (length l.room ≡ length l.initial.room)
+    × (2 * l.state.stored ≤ length l.room)
     × (run_of (scene l.stationary l.orbiting l.margins l.centroid l.start) l.limit 0 l.initial.state l.initial.room ≡ run_of (scene l.stationary l.orbiting l.margins l.centroid l.start) (l.limit - l.passes) l.passes l.state l.room)
     × (length l.moved ≡ length l.initial.moved)
-
-abbrev pub decreases-loop-passes : goal.decreases-loop-passes
-decreases-loop-passes l = l.limit - l.passes

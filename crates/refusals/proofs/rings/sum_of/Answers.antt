@@ -3,18 +3,9 @@ use native.Mathlib.Omega.{arith}
 use Rattle.refusals.proofs.Counts.{total_on, total_end}
 use Rattle.refusals.proofs.rings.sum_of.Goals as goal
 
-pub loop-i-init : goal.loop-i-init
-loop-i-init c = ((omega arith), (omega arith), (omega arith))
+pub loop-n-preserved : goal.loop-n-preserved
+loop-n-preserved c =
+    (omega (arith, c.type_inv.counts c.loop-n.n-index), omega (arith, total_on c.args.counts.now c.loop-n.n-index c.loop-n-test.true))
 
-pub overflow_cast-sum : goal.overflow_cast-sum
-overflow_cast-sum c = omega (arith, c.shared_slice_known-1.given c.loop-i.i)
-
-pub overflow_add-sum : goal.overflow_add-sum
-overflow_add-sum c = omega (arith, c.shared_slice_known-1.given c.loop-i.i)
-
-pub loop-i-preserved : goal.loop-i-preserved
-loop-i-preserved c =
-    ((omega arith), (omega (arith, c.shared_slice_known-1.given c.loop-i.i)), (omega (arith, total_on c.args.counts.now c.loop-i.i c.loop-i-test.true)))
-
-pub returns : goal.returns
-returns c = record { value = omega (arith, total_end c.args.counts.now c.loop-i.i c.loop-i-test.false); upper_bound = omega arith }
+pub returns-clause-value : goal.returns-clause-value
+returns-clause-value c = omega (arith, total_end c.args.counts.now c.loop-n.n-index c.loop-n-test.false)

@@ -1,19 +1,17 @@
 -- `refusals::test::are_coordinates` meets its contract. The invariant: what is left of the list decides. Assumes nothing.
-use native.Mathlib.Omega.{arith}
-use mathlib.Core.Path.{refl, sym, ◌∙◌}
+use mathlib.Core.Path.{sym, ap, ◌∙◌}
+use mathlib.Core.Bool.{not}
+use borrow.Author.Tests.{not-true, not-false}
 use Rattle.refusals.proofs.Every.{every_on, every_off, every_end}
 use Rattle.refusals.proofs.test.are_coordinates.Goals as goal
 
-pub loop-i-init : goal.loop-i-init
-loop-i-init c = (omega arith, refl)
+pub loop-x-preserved : goal.loop-x-preserved
+loop-x-preserved c =
+    c.loop-x.invariant ∙ every_on _ _ _ c.loop-x-test.true (sym c.is_coordinate.ensures ∙ not-false _ (ap not c.if-not-is_coordinate.false))
 
-pub loop-i-preserved : goal.loop-i-preserved
-loop-i-preserved c =
-    (omega arith, c.loop-i.invariant.1 ∙ every_on _ _ _ c.loop-i-test.true (sym c.is_coordinate.ensures ∙ c.if-is_coordinate.true))
-
-pub returns-else-is_coordinate : goal.returns-else-is_coordinate
-returns-else-is_coordinate c =
-    sym (c.loop-i.invariant.1 ∙ every_off _ _ _ c.loop-i-test.true (sym c.is_coordinate.ensures ∙ c.if-is_coordinate.false))
+pub returns-then-not-is_coordinate : goal.returns-then-not-is_coordinate
+returns-then-not-is_coordinate c =
+    sym (c.loop-x.invariant ∙ every_off _ _ _ c.loop-x-test.true (sym c.is_coordinate.ensures ∙ not-true _ (ap not c.if-not-is_coordinate.true)))
 
 pub returns : goal.returns
-returns c = sym (c.loop-i.invariant.1 ∙ every_end _ _ _ c.loop-i-test.false)
+returns c = sym (c.loop-x.invariant ∙ every_end _ _ _ c.loop-x-test.false)

@@ -1,4 +1,4 @@
-use Prim.Native.Nat.{◌-◌, ◌≤◌, ◌<◌}
+use Prim.Native.Nat.{◌<◌}
 use mathlib.Core.Path.{◌≡◌}
 use Rattle.scalar.specs.Float.{f0}
 use Rattle.plane.specs.Vector.{point}
@@ -9,7 +9,6 @@ use Rattle.ring_distance.proofs.far.bounds_of.Given as goal
 
 abbrev pub invariant-loop-e : goal.invariant-loop-e
 invariant-loop-e l =
-    (l.from ≤ l.e) × BoundsEdges (record { starts = l.starts; ways = l.ways }) l.ring l.from l.e × Inside l.ways (point f0 f0) × (l.e < l.to → l.a ≡ point_at l.ring l.e)
-
-abbrev pub decreases-loop-e : goal.decreases-loop-e
-decreases-loop-e l = l.to - l.e
+    BoundsEdges (record { starts = l.starts; ways = l.ways }) l.ring l.from l.e
+    × Inside l.ways (point f0 f0)
+    × (l.e < l.to → l.a ≡ point_at l.ring l.e)

@@ -1,11 +1,8 @@
-use Prim.Native.Nat.{◌-◌, ◌%◌, ◌≤◌, ◌<◌}
+use Prim.Native.Nat.{◌*◌, min}
 use mathlib.Core.Path.{◌≡◌}
 use lib.ListN.{length}
 use Rattle.ring_distance.specs.Far.{Tabled}
 use Rattle.ring_distance.proofs.far.fill_chains.Given as goal
 
-abbrev pub invariant-loop-e : goal.invariant-loop-e
-invariant-loop-e l = (l.e ≤ l.n) × (length l.table ≡ length l.initial.table) × (l.e < l.n → l.e % 8 ≡ 0) × Tabled l.table l.ring l.e
-
-abbrev pub decreases-loop-e : goal.decreases-loop-e
-decreases-loop-e l = l.n - l.e
+abbrev pub invariant-loop-c : goal.invariant-loop-c
+invariant-loop-c l = (length l.table ≡ length l.initial.table) × Tabled l.table l.ring (min (8 * l.c) l.n)

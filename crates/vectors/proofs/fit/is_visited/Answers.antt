@@ -28,19 +28,19 @@ module _ (p : Point) (v : List Float) (tol : Float) (i : ℕ) {q : Point} {b : B
   is_far t = rw (← at, ← e, t)
 
 pub loop-i-init : goal.loop-i-init
-loop-i-init c = (omega arith, start _ _ _)
+loop-i-init c = start _ _ _
 
 pub returns-then-is_near : goal.returns-then-is_near
 unfolding visited_of
 returns-then-is_near c =
     let t = c.loop-i-test.true in
-    rw (c.loop-i.invariant.1, each_off _ _ _ t (is_near _ _ _ _ c.point_at.ensures c.is_near.ensures c.if-is_near.true))
+    rw (c.loop-i.invariant, each_off _ _ _ t (is_near _ _ _ _ c.point_at.ensures c.is_near.ensures c.if-is_near.true))
 
 pub loop-i-preserved : goal.loop-i-preserved
 loop-i-preserved c =
     let t = c.loop-i-test.true in
-    (omega arith, c.loop-i.invariant.1 ∙ each_on _ _ _ t (is_far _ _ _ _ c.point_at.ensures c.is_near.ensures c.if-is_near.false))
+    c.loop-i.invariant ∙ each_on _ _ _ t (is_far _ _ _ _ c.point_at.ensures c.is_near.ensures c.if-is_near.false)
 
 pub returns : goal.returns
 unfolding visited_of
-returns c = rw (c.loop-i.invariant.1, each_end _ _ _ c.loop-i-test.false)
+returns c = rw (c.loop-i.invariant, each_end _ _ _ c.loop-i-test.false)

@@ -6,8 +6,8 @@ use Rattle.vectors.specs.Places.{far}
 use Rattle.vectors_call.proofs.Passing.{Writing}
 use Rattle.vectors_call.proofs.write.write_vectors.Given as goal
 
-abbrev pub invariant-loop-vector : goal.invariant-loop-vector
-invariant-loop-vector l = Writing l.stationary l.orbiting l.tol (keeps l.from l.visited l.tol) l.initial.vectors l.initial.sources l.vectors l.sources l.n l.at
+abbrev pub invariant-loop-step : goal.invariant-loop-step
+invariant-loop-step l = Writing l.stationary l.orbiting l.tol (keeps l.from l.visited l.tol) l.initial.vectors l.initial.sources l.vectors l.sources l.n l.at
 
-abbrev pub decreases-loop-vector : goal.decreases-loop-vector
-decreases-loop-vector l = 2 * pair_count (count l.stationary) (count l.orbiting) - far l.at
+abbrev pub decreases-loop-step : goal.decreases-loop-step
+decreases-loop-step l = 2 * pair_count (count l.stationary) (count l.orbiting) - far l.at

@@ -1,16 +1,6 @@
--- `whole_engine::calls::is_simple_polygon` meets its contract: the tests, then the answer. Assumes nothing.
-use Rattle.refusals.proofs.Calls.{goes, stops}
+-- `whole_engine::calls::is_simple_polygon` meets its contract: a ring that passes the tests is within its bounds. Assumes nothing.
 use Rattle.whole_engine.proofs.Passed.{ring_within}
 use Rattle.whole_engine.proofs.calls.is_simple_polygon.Goals as goal
 
 pub is_simple_polygon-requires : goal.is_simple_polygon-requires
-is_simple_polygon-requires c =
-    ring_within _ c.ring-no.ensures c.passed.ensures c.if-passed.true
-
-pub returns-then-passed : goal.returns-then-passed
-returns-then-passed c =
-    goes _ c.ring-no.ensures c.passed.ensures _ c.if-passed.true c.is_simple_polygon.ensures
-
-pub returns-else-passed : goal.returns-else-passed
-returns-else-passed c =
-    stops _ c.ring-no.ensures c.passed.ensures _ c.if-passed.false
+is_simple_polygon-requires c = ring_within _ (rw (← c.in_ok-ring.ensures))

@@ -1,7 +1,6 @@
 -- `wkb_reader::check::numbers` meets its contract. The loop's invariant: the check of the coordinates left, from j on, decides. Assumes nothing.
 use mathlib.Core.Bool.{not}
 use mathlib.Core.Path.{◌≡◌, sym, ap, ◌∙◌}
-use native.Mathlib.Omega.{arith}
 use borrow.Author.Tests.{not-true, not-false}
 use Rattle.refusals.specs.Bounds.{coordinate}
 use Rattle.wkb_layout.specs.Faults.{number_in}
@@ -16,20 +15,20 @@ asked : (c : After-is_coordinate)
 asked c = c.is_coordinate.ensures ∙ ap coordinate c.number.ensures
 
 pub loop-j-init : goal.loop-j-init
-loop-j-init c = (omega arith, check_start c.args.f.now c.args.m)
+loop-j-init c = (check_start c.args.f.now c.args.m)
 
 pub returns-then-not-is_coordinate : goal.returns-then-not-is_coordinate
 returns-then-not-is_coordinate c =
     let a = c.args in
-    c.new.ensures
-    ∙ sym (c.loop-j.invariant.1 ∙ number_bad a.f.now a.m c.loop-j.j c.loop-j-test.true (sym (asked (up-After-is_coordinate _ _ _ _ _ c.before.before.before)) ∙ not-true c.is_coordinate.result (ap not c.if-not-is_coordinate.true)))
+    c.fault.ensures
+    ∙ sym (c.loop-j.invariant ∙ number_bad a.f.now a.m c.loop-j.j c.loop-j-test.true (sym (asked (up-After-is_coordinate _ _ _ _ _ c.before.before.before)) ∙ not-true c.is_coordinate.result (ap not c.if-not-is_coordinate.true)))
 
 pub loop-j-preserved : goal.loop-j-preserved
 loop-j-preserved c =
     let a = c.args in
-    (omega arith, c.loop-j.invariant.1 ∙ number_good a.f.now a.m c.loop-j.j c.loop-j-test.true (sym (asked (up-After-is_coordinate _ _ _ _ _ c.before.before)) ∙ not-false c.is_coordinate.result (ap not c.if-not-is_coordinate.false)))
+    (c.loop-j.invariant ∙ number_good a.f.now a.m c.loop-j.j c.loop-j-test.true (sym (asked (up-After-is_coordinate _ _ _ _ _ c.before.before)) ∙ not-false c.is_coordinate.result (ap not c.if-not-is_coordinate.false)))
 
 pub returns : goal.returns
 returns c =
     let a = c.args in
-    c.none.ensures ∙ sym (c.loop-j.invariant.1 ∙ check_end a.f.now a.m c.loop-j.j c.loop-j-test.false)
+    sym (c.loop-j.invariant ∙ check_end a.f.now a.m c.loop-j.j c.loop-j-test.false)

@@ -1,10 +1,7 @@
-use Prim.Native.Nat.{◌-◌, ◌≤◌}
+use Prim.Native.Nat.{◌-◌}
 use mathlib.Core.Path.{◌≡◌}
 use Rattle.wkb_reader.proofs.Numbers.{check_from}
 use Rattle.wkb_reader.proofs.check.numbers.Given as goal
 
 abbrev pub invariant-loop-j : goal.invariant-loop-j
-invariant-loop-j l = (l.j ≤ l.m) × (check_from l.f l.m 0 ≡ check_from l.f (l.m - l.j) l.j)
-
-abbrev pub decreases-loop-j : goal.decreases-loop-j
-decreases-loop-j l = l.m - l.j
+invariant-loop-j l = check_from l.f l.m 0 ≡ check_from l.f (l.m - l.j) l.j

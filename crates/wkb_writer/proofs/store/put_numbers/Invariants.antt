@@ -1,4 +1,4 @@
-use Prim.Native.Nat.{◌+◌, ◌*◌, ◌-◌, ◌≤◌}
+use Prim.Native.Nat.{◌+◌, ◌*◌}
 use mathlib.Core.Path.{◌≡◌}
 use lib.ListN.{length, drop}
 use lib.Seq.{sets}
@@ -8,9 +8,5 @@ use Rattle.wkb_writer.proofs.store.put_numbers.Given as goal
 
 abbrev pub invariant-loop-j : goal.invariant-loop-j
 invariant-loop-j l =
-    (l.j ≤ length l.xs)
-    × (length l.room ≡ length l.initial.room)
+    (length l.room ≡ length l.initial.room)
     × (sets l.initial.room l.at (numbers l.xs) ≡ sets l.room (l.at + number_bytes * l.j) (numbers (drop l.j l.xs)))
-
-abbrev pub decreases-loop-j : goal.decreases-loop-j
-decreases-loop-j l = length l.xs - l.j

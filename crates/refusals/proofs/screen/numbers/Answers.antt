@@ -1,5 +1,0 @@
--- `refusals::screen::numbers` meets its contract: the refusal of its test. Assumes nothing.
-use Rattle.refusals.proofs.screen.numbers.Goals as goal
-
-pub returns : goal.returns
-returns c = rw (c.unless.ensures, c.are_coordinates.ensures)

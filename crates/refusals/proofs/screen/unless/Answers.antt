@@ -1,8 +1,0 @@
--- `refusals::screen::unless` meets its contract: the test picks. Assumes nothing.
-use Rattle.refusals.proofs.screen.unless.Goals as goal
-
-pub returns-then-ok : goal.returns-then-ok
-returns-then-ok c = rw c.if-ok.true
-
-pub returns-else-ok : goal.returns-else-ok
-returns-else-ok c = rw c.if-ok.false

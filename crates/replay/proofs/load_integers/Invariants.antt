@@ -1,9 +1,0 @@
--- The index is at most n, and the room keeps its length.
-use Rattle.std.proofs.Common.{◌-◌, ◌≤◌, length, ◌≡◌}
-use Rattle.replay.proofs.load_integers.Given as goal
-
-abbrev pub invariant-loop-i : goal.invariant-loop-i
-invariant-loop-i l = (l.i ≤ l.n) × (length l.room ≡ length l.initial.room)
-
-abbrev pub decreases-loop-i : goal.decreases-loop-i
-decreases-loop-i l = l.n - l.i

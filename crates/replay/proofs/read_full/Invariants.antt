@@ -1,9 +1,0 @@
--- No more bytes are read than the room holds, and the room keeps its length.
-use Rattle.std.proofs.Common.{◌-◌, ◌≤◌, length, ◌≡◌}
-use Rattle.replay.proofs.read_full.Given as goal
-
-abbrev pub invariant-loop-done : goal.invariant-loop-done
-invariant-loop-done g l = (l.done ≤ length l.initial.room) × (length l.room ≡ length l.initial.room)
-
-abbrev pub decreases-loop-done : goal.decreases-loop-done
-decreases-loop-done g l = length l.initial.room - l.done
