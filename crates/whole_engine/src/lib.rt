@@ -19,7 +19,6 @@ use ring::next;
 use segments::crosses;
 use shifted::{Spot, lift, spot_at};
 use simple_polygon::adjacent;
-use std::cmp::Ordering;
 
 // How far x is from a coordinate, and 4,194,304.
 fn away(x: u64, from: u64) -> u64
@@ -36,10 +35,13 @@ fn side(p: u64, q: u64, r: u64, s: u64) -> Orientation
 {
     let left = p * s + 4194304 * (q + r);
     let right = q * r + 4194304 * (p + s);
-    match left.cmp(&right) {
-        Ordering::Greater => Orientation::CounterClockwise,
-        Ordering::Less => Orientation::Clockwise,
-        Ordering::Equal => Orientation::Collinear,
+    // Two comparisons: by `cmp` the test of a ring took half as long again.
+    if right < left {
+        Orientation::CounterClockwise
+    } else if left < right {
+        Orientation::Clockwise
+    } else {
+        Orientation::Collinear
     }
 }
 
@@ -127,11 +129,19 @@ pub fn segments_intersect(p1: Spot, p2: Spot, p3: Spot, p4: Spot) -> bool
 fn same_side(d: Orientation, e: Orientation) -> bool
     ensures { result ≡ same_side (turn_number d) (turn_number e) }
 {
-    matches!(
-        (d, e),
-        (Orientation::CounterClockwise, Orientation::CounterClockwise)
-            | (Orientation::Clockwise, Orientation::Clockwise)
-    )
+    match d {
+        Orientation::CounterClockwise => match e {
+            Orientation::CounterClockwise => true,
+            Orientation::Clockwise => false,
+            Orientation::Collinear => false,
+        },
+        Orientation::Clockwise => match e {
+            Orientation::CounterClockwise => false,
+            Orientation::Clockwise => true,
+            Orientation::Collinear => false,
+        },
+        Orientation::Collinear => false,
+    }
 }
 
 // Whether two edges share a vertex, as is told, or do not meet: an edge that lies on one side of the other does not.

@@ -1,24 +1,31 @@
 -- `whole_engine::same_side` meets its contract: case by case. Assumes nothing.
-use Rattle.std.proofs.Common.{rules}
 use Rattle.whole_engine.specs.Sides.{same_side}
 use Rattle.whole_engine.proofs.same_side.Goals as goal
 
-pub returns-in_default : goal.returns-in_default
+pub returns-in-CounterClockwise-e : goal.returns-in-CounterClockwise-e
 unfolding same_side
-returns-in_default c = search rules
+returns-in-CounterClockwise-e c = cc
 
-pub returns-in_default-2 : goal.returns-in_default-2
+pub returns-in-Clockwise-e : goal.returns-in-Clockwise-e
 unfolding same_side
-returns-in_default-2 c = search rules
+returns-in-Clockwise-e c = cc
 
-pub returns-in_default-3 : goal.returns-in_default-3
+pub returns-in-Collinear-e : goal.returns-in-Collinear-e
 unfolding same_side
-returns-in_default-3 c = search rules
+returns-in-Collinear-e c = cc
 
-pub returns-in-CounterClockwise-CounterClockwise : goal.returns-in-CounterClockwise-CounterClockwise
+pub returns-in-CounterClockwise-e-2 : goal.returns-in-CounterClockwise-e-2
 unfolding same_side
-returns-in-CounterClockwise-CounterClockwise c = search rules
+returns-in-CounterClockwise-e-2 c = cc
 
-pub returns-in-CounterClockwise-CounterClockwise-2 : goal.returns-in-CounterClockwise-CounterClockwise-2
+pub returns-in-Clockwise-e-2 : goal.returns-in-Clockwise-e-2
 unfolding same_side
-returns-in-CounterClockwise-CounterClockwise-2 c = search rules
+returns-in-Clockwise-e-2 c = cc
+
+pub returns-in-Collinear-e-2 : goal.returns-in-Collinear-e-2
+unfolding same_side
+returns-in-Collinear-e-2 c = cc
+
+pub returns-in-Collinear : goal.returns-in-Collinear
+unfolding same_side
+returns-in-Collinear c = cc
