@@ -143,11 +143,7 @@ impl Tally {
     {
         Tally {
             seen: self.seen + 1,
-            agreed: if agrees {
-                self.agreed + 1
-            } else {
-                self.agreed
-            },
+            agreed: if agrees { self.agreed + 1 } else { self.agreed },
             left: self.left - 1,
         }
     }
