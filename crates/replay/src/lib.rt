@@ -13,6 +13,9 @@ use std::io::Read;
 // How many records are read at most.
 const MOST_RECORDS: u64 = 1_000_000;
 
+// How many words are read at a time.
+const MOST_WORDS: usize = 64;
+
 // The little-endian word at a byte of a list, 0 where the list ends before its end.
 pub fn word(bytes: &[u8], at: usize) -> u64 {
     if bytes.len() < 8 || bytes.len() - 8 < at {
@@ -92,12 +95,15 @@ impl Item for i32 {
     }
 }
 
-// Reads a word for each item of the list, as far as the input goes. The items past its end stay.
+// Reads a word for each item of the list, as far as the input goes. The items past its end are those of the word 0, or stay.
 pub fn load<T: Item, R: Read>(input: &mut R, list: &mut [T]) {
-    for item in list.iter_mut() {
-        let mut bytes = [0u8; 8];
-        let end = input.read_exact(&mut bytes).is_err();
-        *item = T::from_word(word(&bytes, 0));
+    for items in list.chunks_mut(MOST_WORDS) {
+        let mut bytes = [0u8; 8 * MOST_WORDS];
+        let front = 8 * items.len().min(MOST_WORDS);
+        let end = input.read_exact(&mut bytes[..front]).is_err();
+        for (i, item) in items.iter_mut().enumerate() {
+            *item = T::from_word(word(&bytes, 8 * i));
+        }
         if end {
             return;
         }
