@@ -6,7 +6,7 @@ ghost use Rattle.refusals.specs.Rings.{vertices_least, vertices_most, rings_most
 ghost use Rattle.book_layout.specs.Layout.{coordinate_bytes, vertex_bytes, entry_bytes, tail_bytes, book_most, coordinate_bits, coords_in, counts_in};
 ghost use Rattle.book_layout.specs.Faults.{fault_at, ◌passes, coords_check, least_check, book_check};
 ghost use Rattle.book_layout.specs.Reader.{read_refusal};
-ghost use Rattle.book_reader.specs.Parts.{tail_check, list_check};
+ghost use Rattle.book_reader.specs.Parts.{field_ok, tail_check, list_check};
 
 use crate::load::load;
 use crate::tail::{entry_offset, ring_count};
@@ -40,6 +40,26 @@ fn is_number_of_rings(k: usize) -> bool
     (1..=RINGS_MOST).contains(&k)
 }
 
+// A field of a book: a ring's offset, its vertices, the ring count, and the end of the entries.
+#[derive(Clone, Copy)]
+pub enum Field {
+    Offset,
+    Vertices,
+    Rings,
+    End,
+}
+
+// Whether a field is right. An offset and the end are told what they are to be.
+fn is_right(field: Field, value: usize, told: usize) -> bool
+    ensures { result ≡ field_ok field value told }
+{
+    match field {
+        Field::Offset | Field::End => value == told,
+        Field::Vertices => is_number_of_vertices(value),
+        Field::Rings => is_number_of_rings(value),
+    }
+}
+
 // Whether a bit pattern is one that a book stores: a coordinate's, and as it is kept.
 fn are_coordinate_bits(b: u64) -> bool
     ensures { result ≡ coordinate_bits b }
@@ -63,11 +83,11 @@ fn check_entries(f: &[u8], from: usize, k: usize) -> Result<(), Refusal>
     for i in 0..k {
         let at = from + ENTRY_BYTES * i;
         let offset = number4(f, at) as usize;
-        if offset != before {
+        if !is_right(Field::Offset, offset, before) {
             return Err(fault(at));
         }
         let n = number4(f, at + FIELD_BYTES) as usize;
-        if !is_number_of_vertices(n) {
+        if !is_right(Field::Vertices, n, 0) {
             return Err(fault(at + FIELD_BYTES));
         }
         before += VERTEX_BYTES * n;
@@ -134,11 +154,11 @@ fn check_tail(f: &[u8]) -> Result<(), Refusal>
         return Err(fault(0));
     }
     let k = ring_count(f);
-    if !is_number_of_rings(k) {
+    if !is_right(Field::Rings, k, 0) {
         return Err(fault(len - TAIL_BYTES));
     }
     let end = entry_offset(f) + ENTRY_BYTES * k + TAIL_BYTES;
-    if end != len {
+    if !is_right(Field::End, end, len) {
         return Err(fault(len - FIELD_BYTES));
     }
     Ok(())

@@ -12,10 +12,7 @@ use Rattle.refusals.specs.Screens.{wrong_fit}
 use Rattle.refusals.specs.Answers.{Outcome, answers, refuses, tells, outcome, left}
 use Rattle.refusals.specs.declared.Refusal.{Refusal}
 use Rattle.refusals.proofs.Tests.{refused}
-use Rattle.drawn_aside.specs.Found.{Least, clear_by}
-use Rattle.clear_aside.specs.Aside.{least}
-use Rattle.clear_aside.specs.declared.Found.{Found}
-use Rattle.clear_aside.specs.declared.Found.TheVariants.{Clear, Edge, Enclosed}
+use Rattle.drawn_aside.specs.Found.{Least, clear_by, edge_first, enclosed_by}
 use Rattle.drawn_rows.specs.Rows.{of_drawn_move, of_drawn_reason}
 use Rattle.drawn_rows.specs.Lent.{DrawnLent, LinesLent}
 use Rattle.drawn_rows.proofs.Passed.{move_passed, reason_passed}
@@ -36,11 +33,13 @@ module _ (xs ys path : List Float) (n : ℕ) where
         (o ≡ outcome no l) × (out ≡ left no (written_for xs ys path n l held) held)
 
     -- no lines are written where it is not clear
-    pub handed_other : (x : Found) → ((how : ℕ) → x ≡ Clear how → ⊥) → least x ≡ l → Handed (answers (least x)) held
+    pub handed_edge : {j : ℕ} → edge_first j ≡ l → Handed (answers (edge_first j)) held
     unfolding short_for written_for
-    handed_other (Clear how) f e = absurd (f how refl)
-    handed_other (Edge j) f e = rw (← e) (refl, refl)
-    handed_other (Enclosed how) f e = rw (← e) (refl, refl)
+    handed_edge e = rw (← e) (refl, refl)
+
+    pub handed_enclosed : {how : ℕ} → enclosed_by how ≡ l → Handed (answers (enclosed_by how)) held
+    unfolding short_for written_for
+    handed_enclosed e = rw (← e) (refl, refl)
 
     -- and where it is, as there is room for them
     module _ {how : ℕ} (c : clear_by how ≡ l) where

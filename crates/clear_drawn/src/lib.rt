@@ -134,7 +134,8 @@ fn judge(
             lower(&lines, needed, reason);
             Ok(Found::Clear(how))
         }
-        found => Ok(found),
+        Found::Edge(j) => Ok(Found::Edge(j)),
+        Found::Enclosed(how) => Ok(Found::Enclosed(how)),
     }
 }
 

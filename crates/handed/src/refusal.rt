@@ -17,7 +17,7 @@ pub fn refusal_number(handed: Result<(), Refusal>) -> u32
     }
 }
 
-// The refusal's number, 0 for none; and its place, where it tells one.
+// The refusal's number, 0 for none; and its place, where it tells one: the cell is not written otherwise.
 pub fn hand_refusal(handed: Result<(), Refusal>, place: &mut u64) -> u32
     ensures value { result ≡ (tested handed).number }
     ensures place_after { place.new ≡ place_of (tested handed) place.old }
@@ -25,7 +25,9 @@ pub fn hand_refusal(handed: Result<(), Refusal>, place: &mut u64) -> u32
     match handed {
         Ok(()) => 0,
         Err(refusal) => {
-            *place = refusal.place().unwrap_or(*place);
+            if let Some(at) = refusal.place() {
+                *place = at;
+            }
             refusal.number()
         }
     }

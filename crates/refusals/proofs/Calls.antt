@@ -1,6 +1,6 @@
--- No two answers say the same. Assumes nothing.
+-- A call's answer, where its tests pass and where one refuses; and that no two answers say the same. Assumes nothing.
 use mathlib.Core.Path.{◌≡◌, refl, sym, ap, ◌∙◌}
-use mathlib.Core.Bool.{cond}
+use mathlib.Core.Bool.{Bool, true, false, cond}
 use lib.Dec.{eqb}
 use Rattle.std.specs.Prelude.{Result, Ok, Err}
 use Rattle.plane.specs.Orientation.{turn_number}
@@ -8,8 +8,22 @@ use Rattle.plane.specs.declared.Orientation.{Orientation}
 use Rattle.plane.specs.declared.Orientation.TheVariants.{CounterClockwise, Clockwise, Collinear}
 use Rattle.refusals.specs.declared.Refusal.{Refusal}
 use Rattle.refusals.specs.declared.Refusal.TheVariants.{Length, Number, Setting, Room, Fit, ShortPath, Book, Few, Many, Wkb, Remaining, Quarter, Inspection, Grid}
-use Rattle.refusals.specs.Answers.{tells, answered, turn}
-use Rattle.refusals.specs.Refusals.{Told}
+use Rattle.refusals.specs.Answers.{answers, refuses, outcome, left, tells, answered, turn}
+use Rattle.refusals.specs.Refusals.{Told, passed}
+
+module _ {A : Type 0} {n : Told} {p : Bool} (w : Told) (e : n ≡ w) (h : p ≡ passed n) where
+  pub goes : {v : A} (d : A) → p ≡ true → v ≡ d → answers v ≡ outcome w d
+  goes d t q = rw (← e, ← h, t, q)
+
+  pub stops : (d : A) → p ≡ false → refuses n ≡ outcome w d
+  stops d t = rw (← e, ← h, t)
+
+  -- a lent list, written or kept
+  pub wrote : {out : A} (o held : A) → p ≡ true → out ≡ o → out ≡ left w o held
+  wrote o held t q = rw (← e, ← h, t, q)
+
+  pub kept : (o held : A) → p ≡ false → held ≡ left w o held
+  kept o held t = rw (← e, ← h, t)
 
 -- Two answers that meet one statement are equal: every promise says `f answer ≡ definition`, with an f that tells every two answers apart.
 pub unique : {A B : Type 0} (f : A → B) → ((a b : A) → f a ≡ f b → a ≡ b) → (o : B) (a b : A) → f a ≡ o → f b ≡ o → a ≡ b

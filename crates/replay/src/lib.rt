@@ -1,9 +1,10 @@
 // What the replay programs share: the words of a record of the oracle's answers, and the loop over all records.
 #![tactic(auto)]
 
-ghost use Rattle.std.specs.Prelude.{◌≡◌, ◌≤◌, ◌↔◌, IsTrue};
+ghost use Rattle.std.specs.Prelude.{◌≡◌, ◌+◌, ◌≤◌, ◌<◌, ◌↔◌, IsTrue};
 ghost use Rattle.std.specs.Float.{binary64};
 ghost use Rattle.std.specs.Float.Ieee.{to_bits};
+ghost use Rattle.replay.specs.Tally.{Counted};
 
 use number_bytes::{bits_of, float_of, number8};
 use std::io;
@@ -11,6 +12,9 @@ use std::io::Read;
 
 // How many records are read at most.
 const MOST_RECORDS: u64 = 1_000_000;
+
+// How many words are read at a time.
+const MOST_WORDS: usize = 64;
 
 // The little-endian word at a byte of a list, 0 where the list ends before its end.
 pub fn word(bytes: &[u8], at: usize) -> u64 {
@@ -91,12 +95,15 @@ impl Item for i32 {
     }
 }
 
-// Reads a word for each item of the list, as far as the input goes. The items past its end stay.
+// Reads a word for each item of the list, as far as the input goes. The items past its end are those of the word 0, or stay.
 pub fn load<T: Item, R: Read>(input: &mut R, list: &mut [T]) {
-    for item in list.iter_mut() {
-        let mut bytes = [0u8; 8];
-        let end = input.read_exact(&mut bytes).is_err();
-        *item = T::from_word(word(&bytes, 0));
+    for items in list.chunks_mut(MOST_WORDS) {
+        let mut bytes = [0u8; 8 * MOST_WORDS];
+        let front = 8 * items.len().min(MOST_WORDS);
+        let end = input.read_exact(&mut bytes[..front]).is_err();
+        for (i, item) in items.iter_mut().enumerate() {
+            *item = T::from_word(word(&bytes, 8 * i));
+        }
         if end {
             return;
         }
@@ -113,6 +120,41 @@ pub fn is_same<T: Item>(a: &[T], b: &[T]) -> bool {
     a.len() == b.len() && a.iter().zip(b).all(|(&x, &y)| x.is_same(y))
 }
 
+// How many records were seen and how many of them agreed, and how many more are read at most.
+#[derive(Clone, Copy)]
+pub struct Tally {
+    pub seen: u64,
+    pub agreed: u64,
+    pub left: u64,
+}
+
+impl Tally {
+    // Nothing seen.
+    pub fn begin() -> Tally
+        ensures counted { Counted result }
+        ensures all_left { result.left ≡ 1000000 }
+    {
+        Tally {
+            seen: 0,
+            agreed: 0,
+            left: MOST_RECORDS,
+        }
+    }
+
+    // The tally after one more record, which agrees or does not.
+    pub fn after(self, agrees: bool) -> Tally
+        requires { Counted self × (0 < self.left) }
+        ensures counted { Counted result × (result.left < self.left) }
+        ensures one { (result.seen ≡ self.seen + 1) × (result.left + 1 ≡ self.left) }
+    {
+        Tally {
+            seen: self.seen + 1,
+            agreed: if agrees { self.agreed + 1 } else { self.agreed },
+            left: self.left - 1,
+        }
+    }
+}
+
 // Reads records until the input ends, each a header and what `agrees` reads after it. Names the first that does not agree, and tells how many
 // were read and how many agreed.
 pub fn run<const N: usize, R: Read, F: FnMut(&mut R, &[u8]) -> bool>(
@@ -123,19 +165,17 @@ pub fn run<const N: usize, R: Read, F: FnMut(&mut R, &[u8]) -> bool>(
     requires callable { F.IsAlwaysCallable agrees }
     requires header_bound { N ≤ 1024 }
 {
-    let mut seen: u64 = 0;
-    let mut agreed: u64 = 0;
+    let mut tally = Tally::begin();
     for _ in 0..MOST_RECORDS {
         let mut header = [0u8; N];
         if input.read_exact(&mut header).is_err() {
             break;
         }
-        if agrees(input, &header) {
-            agreed += 1;
-        } else if seen == agreed {
-            println!(rt; "first that differs: record {seen}")?;
+        let told = agrees(input, &header);
+        if !told && tally.seen == tally.agreed {
+            println!(rt; "first that differs: record {}", tally.seen)?;
         }
-        seen += 1;
+        tally = tally.after(told);
     }
-    println!(rt; "{agreed} of {seen} agree")
+    println!(rt; "{} of {} agree", tally.agreed, tally.seen)
 }

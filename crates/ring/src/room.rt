@@ -18,5 +18,8 @@ pub fn copy(list: &[f64], len: usize, room: &mut [f64])
     requires { (len ≤ length list.now) × (len ≤ length room.old) }
     ensures { room.new ≡ laid (take len list.now) room.old }
 {
-    room[..len].copy_from_slice(&list[..len]);
+    // A loop, since `copy_from_slice` needs C's memmove, which the archive may not need.
+    for i in 0..len {
+        room[i] = list[i];
+    }
 }

@@ -4,7 +4,7 @@ use mathlib.Core.Path.{sym, ap, ◌∙◌}
 use Rattle.std.proofs.lemmas.Result.{err_from_is_err_and}
 use Rattle.clear_aside.specs.Aside.{least}
 use Rattle.clear_drawn.proofs.Drawn.{all_low, lowered}
-use Rattle.clear_drawn.proofs.Handed.{handed_other, handed_clear, handed_short}
+use Rattle.clear_drawn.proofs.Handed.{handed_edge, handed_enclosed, handed_clear, handed_short}
 use Rattle.clear_drawn.proofs.judge.Goals as goal
 
 pub lower-requires-clause-by_index : goal.lower-requires-clause-by_index
@@ -25,6 +25,10 @@ returns-in_err-fit-in-Clear c =
     let p = err_from_is_err_and c.from_residual.result c.from_residual.ensures.1 in
     rw (p.1, p.2) (handed_short _ _ _ _ _ _ is _ c.in_err-fit-in-Clear.ensures)
 
-pub returns-in_default : goal.returns-in_default
-returns-in_default c =
-    handed_other _ _ _ _ _ _ c.search_move.result c.in_default.not-Clear c.search_move.ensures.result_value
+pub returns-in-Edge : goal.returns-in-Edge
+returns-in-Edge c =
+    handed_edge _ _ _ _ _ _ (sym (ap least c.in-Edge.is) ∙ c.search_move.ensures.result_value)
+
+pub returns-in-Enclosed : goal.returns-in-Enclosed
+returns-in-Enclosed c =
+    handed_enclosed _ _ _ _ _ _ (sym (ap least c.in-Enclosed.is) ∙ c.search_move.ensures.result_value)
